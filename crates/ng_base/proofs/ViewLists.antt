@@ -1,7 +1,7 @@
 -- The lists that views hold.
-use Rattle.std.proofs.Common.{◌≡◌, ℕ, List, [], ◌∷◌, ◌++◌, map, refl, ap, length}
+use Rattle.std.proofs.Common.{◌≡◌, ℕ, List, [], ◌∷◌, map, refl, ap}
 use Rattle.std.proofs.lemmas.List.{length-map, map-append}
-use Rattle.ng_base.specs.Views.{ViewTree, ViewTrees, ViewFields, view_then, field_then, views_from, fields_from, views_list, fields_list}
+use Rattle.ng_base.specs.Views.{ViewTree, ViewTrees, ViewFields, views_from, fields_from, views_list, fields_list}
 use Rattle.ng_base.specs.ViewOf.{view_step, views_step, fields_step, view_of, views_of, fields_of, field_of}
 use Rattle.ng_base.specs.declared.view.Views.{Views}
 use Rattle.ng_base.specs.declared.view.Fields.{Fields}

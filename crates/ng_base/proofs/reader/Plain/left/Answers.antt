@@ -1,4 +1,4 @@
-use Rattle.std.proofs.Common.{rules, ◌≡◌, ap, sym, ◌∙◌, length}
+use Rattle.std.proofs.Common.{rules, ap, sym, length}
 use Rattle.std.proofs.lemmas.Str.{encodes-chars}
 use Rattle.ng_base.proofs.reader.Plain.left.Goals as goal
 
