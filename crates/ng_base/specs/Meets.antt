@@ -2,7 +2,6 @@
 use Rattle.std.specs.Prelude.{◌≡◌, Bool, false, Result, Ok, Err}
 
 infixl 10 ◌>>=◌
-
 -- one step after another: the first refusal ends them
 abbrev pub ◌>>=◌ : {A B E : Type 0} → Result A E → (A → Result B E) → Result B E
 Ok x >>= f = f x
