@@ -1,0 +1,2 @@
+pub mod PieceOf
+pub mod Seen

@@ -1,0 +1,4 @@
+//! The page: what a template and an application become, and what it shows.
+#![tactic(auto)]
+
+pub mod parts;

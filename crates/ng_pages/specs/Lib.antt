@@ -1,0 +1,5 @@
+pub mod Parts
+pub mod Paths
+pub mod Drawing
+pub mod Digest
+pub mod Laws

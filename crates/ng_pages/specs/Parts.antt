@@ -1,0 +1,27 @@
+-- The parts of a template: texts cut at their holes, comments and elements.
+use Rattle.std.specs.Prelude.{ℕ, List, [], ◌∷◌, Option}
+use Rattle.ng_markup.specs.Forest.{Attributes}
+
+-- a plain word of a text, or a hole: the names of its path, and the text that its watcher has kept
+pub data Piece : Type 0 where
+  word : List ℕ → Piece
+  hole : List (List ℕ) → Option (List ℕ) → Piece
+
+mutual
+  pub data Part : Type 0 where
+    text_part : List Piece → Part
+    comment_part : List ℕ → Part
+    element_part : List ℕ → Attributes → Parts → Part
+
+  pub data Parts : Type 0 where
+    no_parts : Parts
+    part_then : Part → Parts → Parts
+
+abbrev pub parts_from : List Part → Parts
+parts_from [] = no_parts
+parts_from (p ∷ ps) = part_then p (parts_from ps)
+
+-- the parts in order
+abbrev pub parts_list : Parts → List Part
+parts_list no_parts = []
+parts_list (part_then p ps) = p ∷ parts_list ps

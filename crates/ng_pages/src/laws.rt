@@ -1,0 +1,26 @@
+//! Laws of pages. Each function's contract is the law.
+ghost use Rattle.ng_pages.specs.Laws.{RoundSettles, SettledShowsRendering, RoundKeepsRendering, TwoRoundsSettle};
+
+/// After a round over unchanged data no watcher is dirty.
+pub fn round_settles()
+    ensures { RoundSettles }
+{
+}
+
+/// Where no watcher is dirty, the page shows its rendering.
+pub fn settled_shows_rendering()
+    ensures { SettledShowsRendering }
+{
+}
+
+/// A round changes nothing of the rendering.
+pub fn round_keeps_rendering()
+    ensures { RoundKeepsRendering }
+{
+}
+
+/// The plain digest of such a page never comes to its limit.
+pub fn two_rounds_settle()
+    ensures { TwoRoundsSettle }
+{
+}
