@@ -1,7 +1,7 @@
 -- The lists that forests hold.
 use Rattle.std.proofs.Common.{◌≡◌, List, [], ◌∷◌, ◌++◌, map, refl, ap}
 use Rattle.std.proofs.lemmas.List.{map-append}
-use Rattle.ng_markup.specs.Forest.{Node, Forest, node, no_nodes, forest_from, with_node}
+use Rattle.ng_markup.specs.Forest.{Node, Forest, node, forest_from, with_node}
 use Rattle.ng_html.specs.Seen.{node_step, forest_step, node_of, forest_of}
 use Rattle.ng_html.specs.declared.forest.Forest as code_forest
 use Rattle.ng_html.specs.declared.forest.Node.TheFolds.{fold_out-Forest}

@@ -1,7 +1,7 @@
 -- What is printed piece by piece is printed.
 use Rattle.std.proofs.Common.{◌≡◌, ℕ, List, [], ◌∷◌, ◌++◌, map, refl, ap, append_assoc, append-nil}
 use Rattle.std.proofs.lemmas.Str.{encodes-append, encodes-chars}
-use Rattle.std.specs.Prelude.{encode_utf8_all, Bool, true, false, if◌then◌else◌}
+use Rattle.std.specs.Prelude.{encode_utf8_all, false}
 use Rattle.std.proofs.Common.{sym, ◌∙◌}
 use Rattle.ng_base.proofs.Ascii.{chars-word}
 use Rattle.ng_base.proofs.Binds.{if_false}
@@ -21,6 +21,6 @@ printed_element name a kids bs ds es fs v h i j =
     ∙ (append_assoc (bs ++ encode_utf8_all (print_start name a)) (encode_utf8_all (print kids)) (encode_utf8_all (print_end name))
     ∙ (append_assoc bs (encode_utf8_all (print_start name a)) (encode_utf8_all (print kids) ++ encode_utf8_all (print_end name))
     ∙ ap (λ xs. bs ++ xs) (sym (ap encode_utf8_all (if_false (is_void name) (print_start name a) (print_start name a ++ print kids ++ print_end name) v)
-      ∙ (ap encode_utf8_all (append_assoc (print_start name a) (print kids) (print_end name))
-      ∙ (encodes-append (print_start name a) (print kids ++ print_end name)
-      ∙ ap (λ xs. encode_utf8_all (print_start name a) ++ xs) (encodes-append (print kids) (print_end name)))))))))
+    ∙ (ap encode_utf8_all (append_assoc (print_start name a) (print kids) (print_end name))
+    ∙ (encodes-append (print_start name a) (print kids ++ print_end name)
+    ∙ ap (λ xs. encode_utf8_all (print_start name a) ++ xs) (encodes-append (print kids) (print_end name)))))))))

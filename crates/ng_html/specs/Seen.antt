@@ -1,5 +1,4 @@
 -- What the code's types stand for.
-use Rattle.std.specs.Prelude.{ℕ, List, [], ◌∷◌, map}
 use Rattle.ng_markup.specs.Forest.{Node, Forest, element, text, comment, forest_from}
 use Rattle.ng_html.specs.declared.forest.Node.{fold-Node}
 use Rattle.ng_html.specs.declared.forest.Forest.{fold-Forest}

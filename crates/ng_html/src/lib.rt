@@ -13,5 +13,6 @@
 pub mod attrs;
 pub mod fault;
 pub mod forest;
+pub mod read;
 pub mod tables;
 pub mod write;

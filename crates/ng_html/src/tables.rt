@@ -5,6 +5,7 @@ ghost use Rattle.ng_markup.specs.Tables.{is_void};
 use ng_base::txt::Txt;
 
 /// Whether it is an element without content and without an end tag.
+#[tactic(auto, unfolding(ng_markup::specs::Tables::is_void))]
 pub fn void(name: &Txt) -> bool
     ensures { result ≡ is_void name.now }
 {

@@ -1,9 +1,10 @@
 //! Prints a forest.
-ghost use Rattle.std.specs.Prelude.{◌≡◌, ◌++◌, ◌∷◌, [], OnOk, encode_utf8_all, codes};
+ghost use Rattle.std.specs.Prelude.{◌≡◌, ◌++◌, ◌∷◌, [], OnOk, IfErr, encode_utf8_all, codes};
 ghost use Rattle.std.specs.Str.{chars};
 ghost use Rattle.std.specs.List.{flat_map};
 ghost use Rattle.ng_base.specs.Word.{IsWord};
-ghost use Rattle.ng_markup.specs.Forest.{comment, text_char, value_char, print_attribute, print_start, print_end, print_node, print};
+ghost use Rattle.ng_base.specs.declared.fault.Memory.TheVariants.{Refused};
+ghost use Rattle.ng_markup.specs.Forest.{element, comment, text_char, value_char, print_attribute, print_start, print_end, print_node, print};
 ghost use Rattle.ng_html.specs.Attrs.{attr_of};
 ghost use Rattle.ng_html.specs.Seen.{node_of, forest_of};
 
@@ -11,7 +12,7 @@ use crate::attrs::{Attr, Attrs};
 use crate::forest::{Forest, Node};
 use crate::tables::void;
 use ng_base::fault::Memory;
-use ng_base::reader::Reader;
+use ng_base::reader::Plain;
 use ng_base::txt::Txt;
 use std::alloc::AllocError;
 
@@ -74,7 +75,7 @@ fn push_value_char(into: &mut Vec<u8>, c: char) -> Result<(), AllocError>
 fn push_text(into: &mut Vec<u8>, t: &Txt) -> Result<(), AllocError>
     ensures { OnOk result (into.new.items ≡ into.old.items ++ encode_utf8_all (flat_map text_char t.now)) }
 {
-    let mut reader = Reader::new(t.as_str());
+    let mut reader = Plain::new(t.as_str());
     while let Some((c, rest)) = reader.first() {
         push_text_char(into, c)?;
         reader = rest;
@@ -86,7 +87,7 @@ fn push_text(into: &mut Vec<u8>, t: &Txt) -> Result<(), AllocError>
 fn push_value(into: &mut Vec<u8>, t: &Txt) -> Result<(), AllocError>
     ensures { OnOk result (into.new.items ≡ into.old.items ++ encode_utf8_all (flat_map value_char t.now)) }
 {
-    let mut reader = Reader::new(t.as_str());
+    let mut reader = Plain::new(t.as_str());
     while let Some((c, rest)) = reader.first() {
         push_value_char(into, c)?;
         reader = rest;
@@ -151,15 +152,25 @@ fn push_node(n: &Node, into: &mut Vec<u8>) -> Result<(), AllocError>
     match n {
         Node::Text(t) => push_text(into, t),
         Node::Comment(t) => push_comment(into, t),
-        Node::Element { name, attrs, kids } => {
-            push_start(into, name, attrs)?;
-            if void(name) {
-                return Ok(());
-            }
-            push_forest(kids, into)?;
-            push_end(into, name)
-        }
+        Node::Element { name, attrs, kids } => push_element(name, attrs, kids, into),
     }
+}
+
+#[cycle(write)]
+fn push_element(
+    name: &Txt,
+    attrs: &Attrs,
+    kids: &Forest,
+    into: &mut Vec<u8>,
+) -> Result<(), AllocError>
+    ensures { OnOk result (into.new.items ≡ into.old.items ++ encode_utf8_all (print_node (element name.now attrs.now (forest_of kids.now)))) }
+{
+    push_start(into, name, attrs)?;
+    if void(name) {
+        return Ok(());
+    }
+    push_forest(kids, into)?;
+    push_end(into, name)
 }
 
 #[tactic(auto, using(crate::proofs::Prints::print_steps))]
@@ -175,7 +186,8 @@ fn push_forest(f: &Forest, into: &mut Vec<u8>) -> Result<(), AllocError>
 
 /// Appends the print of a forest.
 pub fn write(f: &Forest, into: &mut Vec<u8>) -> Result<(), Memory>
-    ensures { OnOk result (into.new.items ≡ into.old.items ++ encode_utf8_all (print (forest_of f.now))) }
+    ensures refused { IfErr result (λ m. m ≡ Refused) }
+    ensures printed { OnOk result (into.new.items ≡ into.old.items ++ encode_utf8_all (print (forest_of f.now))) }
 {
     push_forest(f, into)?;
     Ok(())

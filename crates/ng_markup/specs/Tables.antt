@@ -3,7 +3,7 @@ use Rattle.std.specs.Prelude.{Bool, ℕ, List, ◌||◌, codes}
 use Rattle.std.specs.Str.{bytes_eq}
 
 -- elements without content and without an end tag, in the order of the HTML standard
-abbrev pub is_void : List ℕ → Bool
+unfoldable pub is_void : List ℕ → Bool
 is_void n =
     bytes_eq n (codes "area")
     || bytes_eq n (codes "base")
