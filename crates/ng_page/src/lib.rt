@@ -1,4 +1,5 @@
 //! The page: what a template and an application become, and what it shows.
 #![tactic(auto)]
 
+pub mod draw;
 pub mod parts;

@@ -83,7 +83,7 @@ pub enum Part {
 #[cycle(part)]
 #[derive(Drop)]
 pub struct Parts {
-    items: Vec<Part>,
+    pub items: Vec<Part>,
 }
 
 #[tactic(auto, using(crate::proofs::PartLists::part_steps))]

@@ -1,0 +1,78 @@
+//! The drawing of a page's parts as a document, over the texts that the watchers kept.
+ghost use Rattle.std.specs.Prelude.{◌≡◌, ◌++◌, [], IfOk, OnOk};
+ghost use Rattle.std.specs.List.{flat_map};
+ghost use Rattle.ng_html.specs.Seen.{node_of, forest_of};
+ghost use Rattle.ng_pages.specs.Drawing.{kept_look, draw_part, shown};
+ghost use Rattle.ng_page.specs.PieceOf.{piece_of};
+ghost use Rattle.ng_page.specs.Seen.{part_of, parts_of};
+
+use crate::parts::{Part, Parts, Piece, Pieces};
+use ng_base::fault::Memory;
+use ng_base::txt::Txt;
+use ng_html::attrs::Attrs;
+use ng_html::forest::{Forest, Node, comment_node, element_node, text_node};
+use std::alloc::Global;
+
+/// Adds what a piece shows.
+fn draw_piece(into: &mut Txt, piece: &Piece) -> Result<(), Memory>
+    ensures { OnOk result (into.new ≡ into.old ++ kept_look (piece_of piece.now)) }
+{
+    match piece {
+        Piece::Word(word) => into.push_txt(word)?,
+        Piece::Hole(hole) => match &hole.kept {
+            Some(kept) => into.push_txt(kept)?,
+            None => {}
+        },
+    }
+    Ok(())
+}
+
+/// The text that the pieces show.
+fn draw_text(alloc: Global, pieces: &Pieces) -> Result<Txt, Memory>
+    ensures { IfOk result (λ t. t ≡ flat_map kept_look pieces.now) }
+{
+    let mut text = Txt::new(alloc);
+    for piece in pieces.as_slice() {
+        draw_piece(&mut text, piece)?;
+    }
+    Ok(text)
+}
+
+/// A copy of an element's attributes.
+pub fn copied_attrs(alloc: Global, attrs: &Attrs) -> Result<Attrs, Memory>
+    ensures { IfOk result (λ a. a ≡ attrs.now) }
+{
+    let mut copy = Attrs::new(alloc);
+    for attr in attrs.as_slice() {
+        copy.push(attr.name.copied()?, attr.value.copied()?)?;
+    }
+    Ok(copy)
+}
+
+/// The node of a part.
+#[cycle(draw)]
+fn drawn_part(alloc: Global, part: &Part) -> Result<Node, Memory>
+    ensures { IfOk result (λ n. node_of n ≡ draw_part kept_look (part_of part.now)) }
+{
+    match part {
+        Part::Text(pieces) => Ok(text_node(draw_text(alloc, pieces)?)),
+        Part::Comment(text) => Ok(comment_node(text.copied()?)),
+        Part::Element { name, attrs, parts } => {
+            let kids = drawn(alloc, parts)?;
+            let attrs = copied_attrs(alloc, attrs)?;
+            Ok(element_node(name.copied()?, attrs, kids))
+        }
+    }
+}
+
+/// The document that the parts show.
+#[cycle(draw)]
+pub fn drawn(alloc: Global, parts: &Parts) -> Result<Forest, Memory>
+    ensures { IfOk result (λ f. forest_of f ≡ shown (parts_of parts.now)) }
+{
+    let mut forest = Forest::new(alloc);
+    for part in &parts.items {
+        forest.push(drawn_part(alloc, part)?)?;
+    }
+    Ok(forest)
+}
