@@ -1,0 +1,5 @@
+pub mod Properties
+pub mod Changes
+pub mod ObjectReads
+pub mod Looks
+pub mod Sound

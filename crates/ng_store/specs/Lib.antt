@@ -1,0 +1,2 @@
+pub mod ObjectOf
+pub mod Answers

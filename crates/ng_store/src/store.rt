@@ -1,0 +1,128 @@
+//! The store.
+ghost use Rattle.std.specs.Prelude.{◌≡◌, ◌<◌, ◌++◌, ◌∷◌, [], length, true, is_some, option_copied, option_map, OnOk, OnErr, IsOk, IfErr, IfSome};
+ghost use Rattle.ng_base.specs.Meets.{Meets};
+ghost use Rattle.ng_base.specs.Objects.{own, StandsAmong};
+ghost use Rattle.ng_base.specs.declared.fault.Memory.TheVariants.{Refused};
+ghost use Rattle.ng_language.specs.Objects.{AreObjects, look, set_name, new_object};
+ghost use Rattle.ng_store.specs.Answers.{is_refused, is_want, next_name};
+ghost use Rattle.ng_store.specs.declared.store.StoreFault.TheVariants.{Memory as OfMemory};
+
+use crate::objects;
+use crate::stored::Stored;
+use indexmap::IndexMap;
+use ng_base::fault::Memory;
+use ng_base::heap::ObjKind;
+use ng_base::name::Oid;
+use ng_base::txt::Txt;
+use ng_base::value::Value;
+use std::alloc::{AllocError, AllocFailed, Global};
+use std::marker::Model;
+use thiserror::Error;
+
+/// Why no object was made.
+#[derive(Clone, Copy, Debug, PartialEq, Eq, Error)]
+pub enum StoreFault {
+    #[error("the store holds no further object")]
+    Full,
+    #[error("{0}")]
+    Memory(Memory),
+}
+
+impl From<AllocError> for StoreFault {
+    ghost from_gives = { λ _ e. e ≡ OfMemory Refused };
+
+    fn from(_: AllocError) -> Self {
+        StoreFault::Memory(Memory::Refused)
+    }
+}
+
+impl<T: Drop> From<AllocFailed<T>> for StoreFault {
+    ghost from_gives = { λ _ e. e ≡ OfMemory Refused };
+
+    fn from(_: AllocFailed<T>) -> Self {
+        StoreFault::Memory(Memory::Refused)
+    }
+}
+
+/// So many objects stand at most.
+const OBJECT_LIMIT: usize = 1_000_000;
+
+/// Objects by their names. Contracts see a list of objects.
+#[derive(Drop)]
+pub struct Store {
+    alloc: Global,
+    objects: Vec<Stored>,
+}
+
+impl Model for Store {
+    ghost use Rattle.std.specs.Prelude.{List};
+    ghost use Rattle.ng_base.specs.Objects.{Object};
+    ghost use Rattle.ng_language.specs.Objects.{AreObjects};
+
+    ghost Value = { List Object };
+
+    ghost use Rattle.ng_store.specs.ObjectOf.{objects_of};
+
+    ghost view = { λ s. objects_of s.objects.items };
+
+    ghost invariant = { λ s. AreObjects (objects_of s.objects.items) };
+}
+
+impl Store {
+    /// No object.
+    pub fn new(alloc: Global) -> Store
+        ensures { result ≡ [] }
+    {
+        Store {
+            alloc,
+            objects: Vec::new(alloc),
+        }
+    }
+
+    /// What holds of the objects of every store: prototypes stand earlier, values name objects that stand.
+    pub fn sound(&self)
+        ensures { AreObjects self.now }
+    {
+        let _ = &self.objects;
+    }
+
+    /// A new object without names or items.
+    pub fn make(&mut self, kind: ObjKind, proto: Option<Oid>) -> Result<Oid, StoreFault>
+        requires { IfSome proto (λ p. p.0 < length self.old) }
+        ensures answer { Meets is_want (next_name self.old) result }
+        ensures made { OnOk result (self.new ≡ self.old ++ new_object kind (option_map (λ p. p.0) proto) ∷ []) }
+        ensures unchanged { OnErr result (self.new ≡ self.old) }
+    {
+        let count = self.objects.len();
+        if count >= OBJECT_LIMIT {
+            return Err(StoreFault::Full);
+        }
+        self.objects.push(Stored {
+            kind,
+            proto,
+            items: Vec::new(self.alloc),
+            properties: IndexMap::new(self.alloc),
+        })?;
+        Ok(Oid(count as u32))
+    }
+
+    /// The value under a name, of the object or of its prototypes.
+    pub fn look(&self, o: Oid, name: &Txt) -> Option<&Value>
+        requires { o.0 < length self.now }
+        ensures value { option_copied result ≡ look self.now o.0 name.now }
+    {
+        objects::look(self.objects.as_slice(), o, name)
+    }
+
+    /// Sets a name of an object. A name that is there takes no memory.
+    pub fn set(&mut self, o: Oid, name: &Txt, v: Value) -> Result<(), Memory>
+        requires object { o.0 < length self.old }
+        requires stands { StandsAmong (length self.old) v }
+        ensures set { OnOk result (self.new ≡ set_name self.old o.0 name.now v) }
+        ensures unchanged { OnErr result (self.new ≡ self.old) }
+        ensures refused { IfErr result (λ e. e ≡ Refused) }
+    {
+        objects::set(&mut self.objects, o, name, v)?;
+        Ok(())
+    }
+}
