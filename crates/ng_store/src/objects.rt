@@ -1,17 +1,21 @@
 //! What reads and changes stored objects.
-ghost use Rattle.std.specs.Prelude.{◌≡◌, ◌<◌, length, vec_len, option_copied, option_and_then, slice_get, OnOk, OnErr, IsOk, IfErr, is_some, true};
-ghost use Rattle.ng_base.specs.Objects.{own_of, object_at, own};
+ghost use Rattle.std.specs.Prelude.{◌≡◌, ◌<◌, ◌^◌, length, vec_len, IfOk, option_copied, option_and_then, slice_get, OnOk, OnErr, IsOk, IfErr, is_some, true, bytes_eq};
+ghost use Rattle.std.specs.Map.{lookup};
+ghost use Rattle.ng_base.specs.Objects.{own_of, object_at, own, names_of};
 ghost use Rattle.ng_base.specs.declared.fault.Memory.TheVariants.{Refused};
 ghost use Rattle.ng_language.specs.Objects.{AreObjects, look, set_name};
 ghost use Rattle.ng_store.specs.ObjectOf.{object_of, objects_of};
 
 use crate::index::index_of;
+use crate::names::names_of;
 use crate::stored::{put_property, Stored};
 use ng_base::fault::Memory;
 use ng_base::heap::ObjKind;
+use ng_base::lists::Names;
 use ng_base::name::Oid;
 use ng_base::txt::Txt;
 use ng_base::value::Value;
+use std::alloc::Global;
 
 /// The value that an object itself has under a name.
 pub(crate) fn own_of<'a>(x: &'a Stored, name: &Txt) -> Option<&'a Value>
@@ -24,6 +28,52 @@ pub(crate) fn own_of<'a>(x: &'a Stored, name: &Txt) -> Option<&'a Value>
         },
         _ => x.properties.get(name),
     }
+}
+
+/// The kind of an object.
+pub(crate) fn kind(objects: &[Stored], o: Oid) -> ObjKind
+    requires { o.0 < length objects.now }
+    ensures { result ≡ (object_at (objects_of objects.now) o.0).kind }
+{
+    objects[o.0 as usize].kind
+}
+
+/// The number of an array's items.
+pub(crate) fn len(objects: &[Stored], o: Oid) -> u32
+    requires object { o.0 < length objects.now }
+    requires few { length (object_at (objects_of objects.now) o.0).items < 2 ^ 32 }
+    ensures { result ≡ length (object_at (objects_of objects.now) o.0).items }
+{
+    objects[o.0 as usize].items.len() as u32
+}
+
+/// An item of an array.
+pub(crate) fn item(objects: &[Stored], o: Oid, i: u32) -> &Value
+    requires object { o.0 < length objects.now }
+    requires below { i < length (object_at (objects_of objects.now) o.0).items }
+    ensures { slice_get (object_at (objects_of objects.now) o.0).items i ≡ Some result.now }
+{
+    &objects[o.0 as usize].items[i as usize]
+}
+
+/// An object's own names in the order of keys.
+pub(crate) fn names(alloc: Global, objects: &[Stored], o: Oid) -> Result<Names, Memory>
+    requires object { o.0 < length objects.now }
+    requires few { length (object_at (objects_of objects.now) o.0).items < 2 ^ 32 }
+    ensures names { IfOk result (λ names. names ≡ names_of (object_at (objects_of objects.now) o.0)) }
+    ensures refused { IfErr result (λ e. e ≡ Refused) }
+{
+    let stored = &objects[o.0 as usize];
+    names_of(alloc, stored)
+}
+
+/// The value that the object itself has under a name.
+pub(crate) fn own<'a>(objects: &'a [Stored], o: Oid, name: &Txt) -> Option<&'a Value>
+    requires { o.0 < length objects.now }
+    ensures { option_copied result ≡ own (objects_of objects.now) o.0 name.now }
+{
+    let stored = &objects[o.0 as usize];
+    own_of(stored, name)
 }
 
 /// The value under a name, of the object or of its prototypes.
@@ -50,6 +100,7 @@ pub(crate) fn set(objects: &mut Vec<Stored>, o: Oid, name: &Txt, v: Value) -> Re
     requires { o.0 < vec_len objects.old }
     ensures ok { OnOk result (objects_of objects.new.items ≡ set_name (objects_of objects.old.items) o.0 name.now v) }
     ensures err { OnErr result (objects_of objects.new.items ≡ objects_of objects.old.items) }
+    ensures there { is_some (lookup (bytes_eq name.now) (object_at (objects_of objects.old.items) o.0).properties) ≡ true → IsOk result }
     ensures refused { IfErr result (λ e. e ≡ Refused) }
 {
     let stored = &mut objects[o.0 as usize];

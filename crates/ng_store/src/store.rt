@@ -1,7 +1,8 @@
 //! The store.
-ghost use Rattle.std.specs.Prelude.{◌≡◌, ◌<◌, ◌++◌, ◌∷◌, [], length, true, is_some, option_copied, option_map, OnOk, OnErr, IsOk, IfErr, IfSome};
+ghost use Rattle.std.specs.Prelude.{◌≡◌, ◌<◌, ◌++◌, ◌∷◌, [], length, slice_get, Some, true, is_some, option_copied, IfOk, option_map, OnOk, OnErr, IsOk, IfErr, IfSome, bytes_eq};
+ghost use Rattle.std.specs.Map.{lookup};
 ghost use Rattle.ng_base.specs.Meets.{Meets};
-ghost use Rattle.ng_base.specs.Objects.{own, StandsAmong};
+ghost use Rattle.ng_base.specs.Objects.{own, object_at, names_of, StandsAmong};
 ghost use Rattle.ng_base.specs.declared.fault.Memory.TheVariants.{Refused};
 ghost use Rattle.ng_language.specs.Objects.{AreObjects, look, set_name, new_object};
 ghost use Rattle.ng_store.specs.Answers.{is_refused, is_want, next_name};
@@ -12,6 +13,7 @@ use crate::stored::Stored;
 use indexmap::IndexMap;
 use ng_base::fault::Memory;
 use ng_base::heap::ObjKind;
+use ng_base::lists::Names;
 use ng_base::name::Oid;
 use ng_base::txt::Txt;
 use ng_base::value::Value;
@@ -106,10 +108,64 @@ impl Store {
         Ok(Oid(count as u32))
     }
 
+    /// The kind of an object.
+    pub(crate) fn kind_of(&self, o: Oid) -> ObjKind
+        requires { o.0 < length self.now }
+        ensures { result ≡ (object_at self.now o.0).kind }
+    {
+        objects::kind(self.objects.as_slice(), o)
+    }
+
+    /// The number of an array's items.
+    pub(crate) fn length(&self, o: Oid) -> u32
+        requires { o.0 < length self.now }
+        ensures { result ≡ length (object_at self.now o.0).items }
+    {
+        objects::len(self.objects.as_slice(), o)
+    }
+
+    /// An item of an array.
+    pub(crate) fn item_at(&self, o: Oid, i: u32) -> &Value
+        requires object { o.0 < length self.now }
+        requires below { i < length (object_at self.now o.0).items }
+        ensures item { slice_get (object_at self.now o.0).items i ≡ Some result.now }
+        ensures stands { StandsAmong (length self.now) result.now }
+    {
+        objects::item(self.objects.as_slice(), o, i)
+    }
+
+    /// An object's own names in the order of keys.
+    pub(crate) fn names_in(&self, alloc: Global, o: Oid) -> Result<Names, Memory>
+        requires { o.0 < length self.now }
+        ensures names { IfOk result (λ names. names ≡ names_of (object_at self.now o.0)) }
+        ensures refused { IfErr result (λ e. e ≡ Refused) }
+    {
+        objects::names(alloc, self.objects.as_slice(), o)
+    }
+
+    /// The value that the object itself has under a name.
+    pub(crate) fn own_value(&self, o: Oid, name: &Txt) -> Option<&Value>
+        requires { o.0 < length self.now }
+        ensures own { option_copied result ≡ own self.now o.0 name.now }
+        ensures stands { IfSome result (λ v. StandsAmong (length self.now) v.now) }
+    {
+        objects::own(self.objects.as_slice(), o, name)
+    }
+
+    /// The object's own names: array indices ascending, then the others in order of insertion.
+    pub fn keys(&self, o: Oid) -> Result<Names, Memory>
+        requires { o.0 < length self.now }
+        ensures names { IfOk result (λ names. names ≡ names_of (object_at self.now o.0)) }
+        ensures refused { IfErr result (λ e. e ≡ Refused) }
+    {
+        self.names_in(self.alloc, o)
+    }
+
     /// The value under a name, of the object or of its prototypes.
     pub fn look(&self, o: Oid, name: &Txt) -> Option<&Value>
         requires { o.0 < length self.now }
         ensures value { option_copied result ≡ look self.now o.0 name.now }
+        ensures stands { IfSome result (λ v. StandsAmong (length self.now) v.now) }
     {
         objects::look(self.objects.as_slice(), o, name)
     }
@@ -120,6 +176,7 @@ impl Store {
         requires stands { StandsAmong (length self.old) v }
         ensures set { OnOk result (self.new ≡ set_name self.old o.0 name.now v) }
         ensures unchanged { OnErr result (self.new ≡ self.old) }
+        ensures there { is_some (lookup (bytes_eq name.now) (object_at self.old o.0).properties) ≡ true → IsOk result }
         ensures refused { IfErr result (λ e. e ≡ Refused) }
     {
         objects::set(&mut self.objects, o, name, v)?;
