@@ -2,4 +2,5 @@
 #![tactic(auto)]
 
 pub mod draw;
+pub mod follow;
 pub mod parts;

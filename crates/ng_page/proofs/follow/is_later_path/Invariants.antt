@@ -1,0 +1,11 @@
+use Rattle.std.proofs.Common.{◌≡◌, drop, length}
+use Rattle.ng_base.specs.Objects.{StandsAmong}
+use Rattle.ng_base.specs.declared.value.Value.TheVariants.{Obj}
+use Rattle.ng_pages.specs.Paths.{is_later}
+use Rattle.ng_page.proofs.follow.is_later_path.Given as goal
+
+abbrev pub invariant-loop-name : goal.invariant-loop-name
+invariant-loop-name l = record {
+  led : is_later l.store l.at (drop l.name-index l.name-items) ≡ is_later l.store (Obj l.root) l.path;
+  stands : StandsAmong (length l.store) l.at;
+}
