@@ -1,2 +1,4 @@
 pub mod PartLists
 pub mod Draws
+pub mod Turns
+pub mod Rounds

@@ -4,3 +4,4 @@
 pub mod draw;
 pub mod follow;
 pub mod parts;
+pub mod round;

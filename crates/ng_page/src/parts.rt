@@ -27,7 +27,7 @@ pub enum Piece {
 /// The pieces of a text, in order.
 #[derive(Drop)]
 pub struct Pieces {
-    items: Vec<Piece>,
+    pub items: Vec<Piece>,
 }
 
 impl Model for Pieces {

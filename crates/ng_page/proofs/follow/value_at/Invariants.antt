@@ -5,6 +5,6 @@ use Rattle.ng_page.proofs.follow.value_at.Given as goal
 
 abbrev pub invariant-loop-name : goal.invariant-loop-name
 invariant-loop-name l = record {
-  led : value_at l.store l.at (drop l.name-index l.name-items) ≡ value_at l.store l.from l.path;
+  led : value_at l.store l.at (drop l.name-index l.path) ≡ value_at l.store l.from l.path;
   stands : StandsAmong (length l.store) l.at;
 }
