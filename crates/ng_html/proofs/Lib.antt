@@ -1,2 +1,3 @@
 pub mod Forests
 pub mod Prints
+pub mod HoleSteps

@@ -1,3 +1,6 @@
 pub mod Free
 pub mod Attrs
+pub mod Pieces
 pub mod Seen
+pub mod Reading
+pub mod TreeSeen
