@@ -1,3 +1,7 @@
 pub mod Forests
 pub mod Prints
 pub mod HoleSteps
+pub mod Bytes
+pub mod Spelled
+pub mod Sound
+pub mod Complete

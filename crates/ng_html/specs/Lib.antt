@@ -4,3 +4,4 @@ pub mod Pieces
 pub mod Seen
 pub mod Reading
 pub mod TreeSeen
+pub mod Reached
