@@ -5,3 +5,6 @@ pub mod Bytes
 pub mod Spelled
 pub mod Sound
 pub mod Complete
+pub mod Whole
+pub mod Late
+pub mod Printed

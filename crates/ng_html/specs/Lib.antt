@@ -5,3 +5,4 @@ pub mod Seen
 pub mod Reading
 pub mod TreeSeen
 pub mod Reached
+pub mod Laws

@@ -106,3 +106,17 @@ FirstSpells cs f ps = (cs ≡ spelling f) × IsFirst f × (height f ≤ open_lim
 -- the bytes of a document of the first path, its forest, and the place of each node
 abbrev pub FirstHtml : List ℕ → Forest → List ℕ → Type 0
 FirstHtml bytes f ps = IsUtf8 bytes × FirstSpells (chars bytes) f ps
+
+-- every text prints as itself: it has no line feed and no `>`
+abbrev pub is_bare : ℕ → Bool
+is_bare c = not (c == 10 || c == 62)
+
+abbrev mutual
+  pub HasBareNode : Node → Type 0
+  HasBareNode (element n a f) = HasBareTexts f
+  HasBareNode (text t) = list_all is_bare t ≡ true
+  HasBareNode (comment t) = ⊤
+
+  pub HasBareTexts : Forest → Type 0
+  HasBareTexts no_nodes = ⊤
+  HasBareTexts (node n f) = HasBareNode n × HasBareTexts f
