@@ -1,6 +1,6 @@
 -- The lists that forests hold.
 use Rattle.std.proofs.Common.{◌≡◌, List, [], ◌∷◌, ◌++◌, map, refl, ap}
-use Rattle.std.proofs.lemmas.List.{map-append}
+use Rattle.std.proofs.lemmas.List.{map-append, reverse-append, length-map, length-reverse}
 use Rattle.ng_markup.specs.Forest.{Node, Forest, node, forest_from, with_node}
 use Rattle.ng_html.specs.Seen.{node_step, forest_step, node_of, forest_of}
 use Rattle.ng_html.specs.declared.forest.Forest as code_forest
@@ -14,3 +14,5 @@ forest_from-push [] m = refl
 forest_from-push (n ∷ ns) m = ap (node n) (forest_from-push ns m)
 
 pub ruleset list_steps = (forest_of-items, forest_from-push, map-append)
+
+pub ruleset stack_steps = (map-append, reverse-append, length-map, length-reverse)

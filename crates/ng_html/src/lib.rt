@@ -11,8 +11,13 @@
 #![tactic(auto)]
 
 pub mod attrs;
+pub mod build;
 pub mod fault;
 pub mod forest;
+pub mod form;
+pub mod holes;
 pub mod read;
+pub mod source;
+pub mod step;
 pub mod tables;
 pub mod write;
