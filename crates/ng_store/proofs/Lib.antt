@@ -3,3 +3,4 @@ pub mod Changes
 pub mod ObjectReads
 pub mod Looks
 pub mod Sound
+pub mod JsonLists
