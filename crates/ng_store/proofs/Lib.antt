@@ -4,3 +4,4 @@ pub mod ObjectReads
 pub mod Looks
 pub mod Sound
 pub mod JsonLists
+pub mod PlacedSound

@@ -29,6 +29,14 @@ pub enum JsonFault {
     Memory(Memory),
 }
 
+impl From<Memory> for JsonFault {
+    ghost from_gives = { λ m e. e ≡ OfMemory m };
+
+    fn from(memory: Memory) -> Self {
+        JsonFault::Memory(memory)
+    }
+}
+
 impl From<AllocError> for JsonFault {
     ghost from_gives = { λ _ e. e ≡ OfMemory Refused };
 

@@ -1,8 +1,8 @@
 //! JSON made into objects, which stand behind those that were there.
-ghost use Rattle.std.specs.Prelude.{◌≡◌, ◌+◌, ◌≤◌, ◌<◌, [], length, vec_len, IfOk, OnOk, IfErr};
+ghost use Rattle.std.specs.Prelude.{◌≡◌, ◌+◌, ◌≤◌, ◌<◌, [], length, vec_len, nat_lt, IfOk, OnOk, OnErr, IfErr};
 ghost use Rattle.serde_json.specs.View.{view, items_view, members_view};
 ghost use Rattle.ng_base.specs.declared.fault.Memory.TheVariants.{Refused};
-ghost use Rattle.ng_store.specs.Json.{objects_in, objects_in_items, objects_in_members, placed, placed_items, placed_members, last_made, array_of, plain_of, int_of, whole};
+ghost use Rattle.ng_store.specs.Json.{objects_in, objects_in_items, objects_in_members, placed, placed_items, placed_members, last_made, array_of, plain_of, int_of, whole, with_json};
 ghost use Rattle.ng_store.specs.ObjectOf.{objects_of};
 
 use crate::json::whole;
@@ -112,4 +112,26 @@ fn place_members(alloc: Global, base: usize, made: &mut Vec<Stored>, members: &M
         done.insert(name, value)?;
     }
     Ok(done)
+}
+
+/// Whether JSON wants more objects than there is room for.
+pub(crate) fn overfills(count: usize, v: &Json) -> bool
+    requires { count < 9223372036854775808 }
+    ensures { result ≡ nat_lt 1000000 (count + objects_in (view v.now)) }
+{
+    count + crate::json::count(v) as usize > 1_000_000
+}
+
+/// Puts the objects of JSON behind those that stand.
+pub(crate) fn add(alloc: Global, objects: &mut Vec<Stored>, v: &Json) -> Result<Value, Memory>
+    requires { vec_len objects.old + objects_in (view v.now) ≤ 1000000 }
+    ensures value { IfOk result (λ w. w ≡ (placed (length (objects_of objects.old.items)) (view v.now) []).0) }
+    ensures made { OnOk result (objects_of objects.new.items ≡ with_json (objects_of objects.old.items) (view v.now)) }
+    ensures unchanged { OnErr result (objects.new.items ≡ objects.old.items) }
+    ensures refused { IfErr result (λ e. e ≡ Refused) }
+{
+    let mut made = Vec::new(alloc);
+    let value = place(alloc, objects.len(), &mut made, v)?;
+    objects.append(&mut made)?;
+    Ok(value)
 }
