@@ -3,3 +3,5 @@ pub mod Changes
 pub mod ObjectReads
 pub mod Looks
 pub mod Sound
+pub mod JsonLists
+pub mod PlacedSound

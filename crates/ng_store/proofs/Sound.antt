@@ -59,6 +59,29 @@ are_behind n o (y ∷ ys) x a b =
     let e : o + length (y ∷ ys) ≡ suc o + length ys = omega arith in
     (a.0, are_behind n (suc o) ys x a.1 (subst (λ k. IsObjectAt n k x) e b))
 
+pub from_behind : (base : ℕ) (objects : List Object) (x : Object) → AreObjectsFrom (base + length objects) base objects → IsObjectAt (base + length objects) (base + length objects) x → AreObjectsFrom (base + length (objects ++ x ∷ [])) base (objects ++ x ∷ [])
+from_behind base objects x a b =
+    let n = base + length objects in
+    let m = base + length (objects ++ x ∷ []) in
+    let more : n ≤ m = omega (arith, length-append objects (x ∷ [])) in
+    are_behind m base objects x (are_more n m base objects more a) (is_object_more n m n x more b)
+
+are_append : (n o : ℕ) (xs ys : List Object) → AreObjectsFrom n o xs → AreObjectsFrom n (o + length xs) ys → AreObjectsFrom n o (xs ++ ys)
+are_append n o [] ys a b = let e : o + 0 ≡ o = omega arith in subst (λ k. AreObjectsFrom n k ys) e b
+are_append n o (x ∷ xs) ys a b =
+    let e : o + length (x ∷ xs) ≡ suc o + length xs = omega arith in
+    (a.0, are_append n (suc o) xs ys a.1 (subst (λ k. AreObjectsFrom n k ys) e b))
+
+-- more objects behind the others
+pub sound_append : (objects made : List Object) → AreObjects objects → AreObjectsFrom (length objects + length made) (length objects) made → AreObjects (objects ++ made)
+sound_append objects made a b =
+    let n = length objects in
+    let m = length objects + length made in
+    let e : m ≡ length (objects ++ made) = omega (arith, length-append objects made) in
+    let z : n ≡ 0 + n = omega arith in
+    subst (λ k. AreObjectsFrom k 0 (objects ++ made)) e
+    (are_append m 0 objects made (are_more n m 0 objects (omega arith) a) (subst (λ k. AreObjectsFrom m k made) z b))
+
 -- a new object behind the others
 pub sound_behind : (objects : List Object) (x : Object) → AreObjects objects → IsObjectAt (length objects) (length objects) x → AreObjects (objects ++ x ∷ [])
 sound_behind objects x a b =
@@ -92,7 +115,7 @@ chosen_all : {X : Type 0} (P : X → Type 0) (b : Bool) (xs ys : List X) → All
 chosen_all P true xs ys a c = a
 chosen_all P false xs ys a c = c
 
-all_inserted : (n : ℕ) (es : List Property) (name : List ℕ) (v : Value) → AllByRecursion (λ (p : Property). StandsAmong n p.1) es → StandsAmong n v → AllByRecursion (λ (p : Property). StandsAmong n p.1) (insert_entry bytes_eq es name v)
+pub all_inserted : (n : ℕ) (es : List Property) (name : List ℕ) (v : Value) → AllByRecursion (λ (p : Property). StandsAmong n p.1) es → StandsAmong n v → AllByRecursion (λ (p : Property). StandsAmong n p.1) (insert_entry bytes_eq es name v)
 all_inserted n [] name v a s = (s, tt)
 all_inserted n (e ∷ es) name v a s =
     chosen_all (λ (p : Property). StandsAmong n p.1) (bytes_eq name e.0) ((e.0, v) ∷ es) (e ∷ insert_entry bytes_eq es name v) (s, a.1) (a.0, all_inserted n es name v a.1 s)

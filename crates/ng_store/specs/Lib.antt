@@ -1,2 +1,3 @@
 pub mod ObjectOf
 pub mod Answers
+pub mod Json

@@ -4,6 +4,8 @@
 mod heap;
 mod index;
 mod objects;
+pub mod json;
 mod names;
+mod placing;
 pub mod store;
 mod stored;

@@ -5,10 +5,14 @@ ghost use Rattle.ng_base.specs.Meets.{Meets};
 ghost use Rattle.ng_base.specs.Objects.{own, object_at, names_of, StandsAmong};
 ghost use Rattle.ng_base.specs.declared.fault.Memory.TheVariants.{Refused};
 ghost use Rattle.ng_language.specs.Objects.{AreObjects, look, set_name, new_object};
+ghost use Rattle.serde_json.specs.View.{view};
+ghost use Rattle.ng_store.specs.Json.{is_json_want, json_value, with_json};
 ghost use Rattle.ng_store.specs.Answers.{is_refused, is_want, next_name};
 ghost use Rattle.ng_store.specs.declared.store.StoreFault.TheVariants.{Memory as OfMemory};
 
+use crate::json::{is_long, is_whole, JsonFault};
 use crate::objects;
+use crate::placing::{add, overfills};
 use crate::stored::Stored;
 use indexmap::IndexMap;
 use ng_base::fault::Memory;
@@ -181,5 +185,25 @@ impl Store {
     {
         objects::set(&mut self.objects, o, name, v)?;
         Ok(())
+    }
+
+    /// Puts JSON into the store: the objects in it behind those that stand, names in the order of their bytes.
+    pub fn of_json(&mut self, v: &serde_json::Value) -> Result<Value, JsonFault>
+        ensures value { Meets is_json_want (json_value self.old (view v.now)) result }
+        ensures made { OnOk result (self.new ≡ with_json self.old (view v.now)) }
+        ensures stands { IfOk result (λ w. StandsAmong (length self.new) w) }
+        ensures unchanged { OnErr result (self.new ≡ self.old) }
+    {
+        if !is_whole(v) {
+            return Err(JsonFault::Number);
+        }
+        if overfills(self.objects.len(), v) {
+            return Err(JsonFault::Full);
+        }
+        if is_long(v) {
+            return Err(JsonFault::Memory(Memory::Worn));
+        }
+        let value = add(self.alloc, &mut self.objects, v)?;
+        Ok(value)
     }
 }

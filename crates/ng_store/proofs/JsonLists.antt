@@ -1,0 +1,11 @@
+-- The items of a JSON array.
+use Rattle.std.proofs.Common.{◌≡◌, ℕ, suc, List, [], ◌∷◌, length, refl, ap}
+use Rattle.serde_json.specs.Events.{items_len}
+use Rattle.serde_json.specs.View.{items_view}
+use Rattle.serde_json.specs.declared.value.Value.{Value}
+
+pub items_len-items_view : (vs : List Value) → items_len (items_view vs) ≡ length vs
+items_len-items_view [] = refl
+items_len-items_view (v ∷ vs) = ap suc (items_len-items_view vs)
+
+pub ruleset json_lists = items_len-items_view

@@ -1,0 +1,137 @@
+//! JSON made into objects, which stand behind those that were there.
+ghost use Rattle.std.specs.Prelude.{◌≡◌, ◌+◌, ◌≤◌, ◌<◌, [], length, vec_len, nat_lt, IfOk, OnOk, OnErr, IfErr};
+ghost use Rattle.serde_json.specs.View.{view, items_view, members_view};
+ghost use Rattle.ng_base.specs.declared.fault.Memory.TheVariants.{Refused};
+ghost use Rattle.ng_store.specs.Json.{objects_in, objects_in_items, objects_in_members, placed, placed_items, placed_members, last_made, array_of, plain_of, int_of, whole, with_json};
+ghost use Rattle.ng_store.specs.ObjectOf.{objects_of};
+
+use crate::json::whole;
+use crate::stored::{put_property, Stored};
+use indexmap::IndexMap;
+use ng_base::fault::Memory;
+use ng_base::heap::ObjKind;
+use ng_base::name::Oid;
+use ng_base::txt::Txt;
+use ng_base::value::Value;
+use serde_json::{Map, Number, Value as Json};
+use std::alloc::Global;
+
+/// A number that is whole.
+fn number(n: &Number) -> Value
+    ensures { result ≡ int_of (whole (Rattle.serde_json.specs.View.number_view n.now)) }
+{
+    match whole(n) {
+        Some(n) => Value::Int(n),
+        None => Value::Undefined,
+    }
+}
+
+/// An array behind the objects that were made.
+fn put_array(alloc: Global, base: usize, made: &mut Vec<Stored>, items: Vec<Value>) -> Result<Value, Memory>
+    requires { base + vec_len made.old < 1000000 }
+    ensures placed { IfOk result (λ w. (w, objects_of made.new.items) ≡ last_made base (objects_of made.old.items) (array_of items.items)) }
+    ensures count { OnOk result (vec_len made.new ≡ vec_len made.old + 1) }
+    ensures refused { IfErr result (λ e. e ≡ Refused) }
+{
+    let o = Oid((base + made.len()) as u32);
+    made.push(Stored {
+        kind: ObjKind::Array,
+        proto: None,
+        items,
+        properties: IndexMap::new(alloc),
+    })?;
+    Ok(Value::Obj(o))
+}
+
+/// An object behind those that were made.
+fn put_object(alloc: Global, base: usize, made: &mut Vec<Stored>, properties: IndexMap<Txt, Value>) -> Result<Value, Memory>
+    requires { base + vec_len made.old < 1000000 }
+    ensures placed { IfOk result (λ w. (w, objects_of made.new.items) ≡ last_made base (objects_of made.old.items) (plain_of properties.entries)) }
+    ensures count { OnOk result (vec_len made.new ≡ vec_len made.old + 1) }
+    ensures refused { IfErr result (λ e. e ≡ Refused) }
+{
+    let o = Oid((base + made.len()) as u32);
+    made.push(Stored {
+        kind: ObjKind::Plain,
+        proto: None,
+        items: Vec::new(alloc),
+        properties,
+    })?;
+    Ok(Value::Obj(o))
+}
+
+/// JSON as a value, with the objects that it wants.
+#[cycle(place)]
+pub(crate) fn place(alloc: Global, base: usize, made: &mut Vec<Stored>, v: &Json) -> Result<Value, Memory>
+    requires { base + vec_len made.old + objects_in (view v.now) ≤ 1000000 }
+    ensures placed { IfOk result (λ w. (w, objects_of made.new.items) ≡ placed base (view v.now) (objects_of made.old.items)) }
+    ensures count { OnOk result (vec_len made.new ≡ vec_len made.old + objects_in (view v.now)) }
+    ensures refused { IfErr result (λ e. e ≡ Refused) }
+{
+    match v {
+        Json::Null => Ok(Value::Null),
+        Json::Bool(b) => Ok(Value::Bool(*b)),
+        Json::Number(n) => Ok(number(n)),
+        Json::String(s) => Ok(Value::Text(Txt::from_str(alloc, s.as_str())?)),
+        Json::Array(items) => {
+            let items = place_items(alloc, base, made, items.as_slice())?;
+            put_array(alloc, base, made, items)
+        }
+        Json::Object(members) => {
+            let properties = place_members(alloc, base, made, members)?;
+            put_object(alloc, base, made, properties)
+        }
+    }
+}
+
+#[cycle(place)]
+fn place_items(alloc: Global, base: usize, made: &mut Vec<Stored>, items: &[Json]) -> Result<Vec<Value>, Memory>
+    requires { base + vec_len made.old + objects_in_items (items_view items.now) ≤ 1000000 }
+    ensures placed { IfOk result (λ w. (w.items, objects_of made.new.items) ≡ placed_items base (items_view items.now) (objects_of made.old.items) []) }
+    ensures count { OnOk result (vec_len made.new ≡ vec_len made.old + objects_in_items (items_view items.now)) }
+    ensures refused { IfErr result (λ e. e ≡ Refused) }
+{
+    let mut done = Vec::new(alloc);
+    for item in items {
+        done.push(place(alloc, base, made, item)?)?;
+    }
+    Ok(done)
+}
+
+#[cycle(place)]
+fn place_members(alloc: Global, base: usize, made: &mut Vec<Stored>, members: &Map<String, Json>) -> Result<IndexMap<Txt, Value>, Memory>
+    requires { base + vec_len made.old + objects_in_members (members_view members.now.entries) ≤ 1000000 }
+    ensures placed { IfOk result (λ w. (w.entries, objects_of made.new.items) ≡ placed_members base (members_view members.now.entries) (objects_of made.old.items) []) }
+    ensures count { OnOk result (vec_len made.new ≡ vec_len made.old + objects_in_members (members_view members.now.entries)) }
+    ensures refused { IfErr result (λ e. e ≡ Refused) }
+{
+    let mut done = IndexMap::new(alloc);
+    for (key, v) in members {
+        let value = place(alloc, base, made, v)?;
+        let name = Txt::from_str(alloc, key.as_str())?;
+        done.insert(name, value)?;
+    }
+    Ok(done)
+}
+
+/// Whether JSON wants more objects than there is room for.
+pub(crate) fn overfills(count: usize, v: &Json) -> bool
+    requires { count < 9223372036854775808 }
+    ensures { result ≡ nat_lt 1000000 (count + objects_in (view v.now)) }
+{
+    count + crate::json::count(v) as usize > 1_000_000
+}
+
+/// Puts the objects of JSON behind those that stand.
+pub(crate) fn add(alloc: Global, objects: &mut Vec<Stored>, v: &Json) -> Result<Value, Memory>
+    requires { vec_len objects.old + objects_in (view v.now) ≤ 1000000 }
+    ensures value { IfOk result (λ w. w ≡ (placed (length (objects_of objects.old.items)) (view v.now) []).0) }
+    ensures made { OnOk result (objects_of objects.new.items ≡ with_json (objects_of objects.old.items) (view v.now)) }
+    ensures unchanged { OnErr result (objects.new.items ≡ objects.old.items) }
+    ensures refused { IfErr result (λ e. e ≡ Refused) }
+{
+    let mut made = Vec::new(alloc);
+    let value = place(alloc, objects.len(), &mut made, v)?;
+    objects.append(&mut made)?;
+    Ok(value)
+}
