@@ -183,7 +183,7 @@ value-stranger n (Some v) es t h = elim (eqb_tells (serial_of t) n) [
   | inr q ↦ rw q.0 refl
 ]
 
-value-slot : {T : Type 0} (xs : List (Slot T)) (t : Token) → t.slot ≡ 0 → value_of (standing xs) t ≡ found (standing xs) (serial_of t)
+pub value-slot : {T : Type 0} (xs : List (Slot T)) (t : Token) → t.slot ≡ 0 → value_of (standing xs) t ≡ found (standing xs) (serial_of t)
 value-slot [] t h = refl
 value-slot (x ∷ xs) t h = value-entry x.serial x.value (standing xs) t h (value-slot xs t h)
 
@@ -209,3 +209,5 @@ standing-rising (x ∷ xs) j k n h a e = rising-entry x.serial x.value (standing
 pub ruleset searches = (passed-bound, passed-reached, passed-short)
 
 pub ruleset reads = (found-unpassed, found-other, found-slot, found-passed, found-place, value-found, passed-bound)
+
+pub ruleset strangers = (value-slot)

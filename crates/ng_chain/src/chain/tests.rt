@@ -6,12 +6,15 @@ use super::super::slots::passed_in;
 use super::*;
 
 /// Whether the entry of a token stands.
-#[tactic(auto, using(crate::proofs::Places::reads))]
+#[tactic(auto, using(crate::proofs::Places::strangers))]
 fn stands(chain: &Chain<u64>, t: &Token) -> bool
     ensures { IsTrue result → IsSome (value_of chain.now.entries t.now) }
 {
     let slots = chain.slots.as_slice();
-    t.slot == 0 && value_at(slots, t.serial.0, passed_in(slots, t.serial.0)).is_some()
+    match value_at(slots, t.serial.0, passed_in(slots, t.serial.0)) {
+        Some(_) => t.slot == 0,
+        None => false,
+    }
 }
 
 fn is_open(chain: &Chain<u64>, w: &Walk) -> bool
