@@ -3,7 +3,9 @@ ghost use Rattle.std.specs.Prelude.{◌≡◌, ◌+◌, ◌<◌, ◌++◌, ◌�
 ghost use Rattle.ng_chain.specs.WalkLaw.{WalkLaw};
 ghost use Rattle.ng_chain.specs.Walked.{found, value_of, serial_of, walk_at, with_walk, with_entries, without, Steps, open_walks, IsRising};
 
-use super::slots::{Slot, close_holes, free_place, hollow, is_idle, next_in, take_from, value_at, value_in};
+use super::slots::{
+    Slot, close_holes, free_place, hollow, is_idle, next_in, take_from, value_at, value_in,
+};
 use ng_base::fault::Memory;
 use ng_base::name::Serial;
 use std::alloc::Global;
@@ -201,8 +203,7 @@ impl<T: Drop> Chain<T> {
 /// What a walk meets, whatever changes the list between its steps.
 pub fn walks_meet_what_stands<T>(_chain: &Chain<T>)
     ensures { WalkLaw T }
-{
-}
+{}
 
 #[cfg(test)]
 mod tests;
