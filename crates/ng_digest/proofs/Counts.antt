@@ -30,18 +30,18 @@ log_next p (Some k) = refl
 
 module _ {S K : Type 0} (m : Machine S K) where
   pub same_skipped : {p q : Place S K} {f : Found} → Skips m p f q → SameCounts q.log p.log
-  same_skipped {p = p} (none_above e) = let h = log_next p (next_key m p.state p.cursor) in record { rounds = ap (λ l. l.rounds) h; dirty_rounds = ap (λ l. l.dirty_rounds) h; fires = ap (λ l. l.fires) h; round_fires = ap (λ l. l.round_fires) h; tasks = ap (λ l. l.tasks) h }
-  same_skipped {p = p} (at_remembered e s n) = let h = log_next p (next_key m p.state p.cursor) in record { rounds = ap (λ l. l.rounds) h; dirty_rounds = ap (λ l. l.dirty_rounds) h; fires = ap (λ l. l.fires) h; round_fires = ap (λ l. l.round_fires) h; tasks = ap (λ l. l.tasks) h }
-  same_skipped {p = p} (at_dirty e d) = let h = log_next p (next_key m p.state p.cursor) in record { rounds = ap (λ l. l.rounds) h; dirty_rounds = ap (λ l. l.dirty_rounds) h; fires = ap (λ l. l.fires) h; round_fires = ap (λ l. l.round_fires) h; tasks = ap (λ l. l.tasks) h }
-  same_skipped {p = p} (passed_by e s n d) =
+  same_skipped {p = p} (none_above e o) = let h = log_next p (next_key m p.state p.cursor) in record { rounds = ap (λ l. l.rounds) h; dirty_rounds = ap (λ l. l.dirty_rounds) h; fires = ap (λ l. l.fires) h; round_fires = ap (λ l. l.round_fires) h; tasks = ap (λ l. l.tasks) h }
+  same_skipped {p = p} (at_remembered e o s n) = let h = log_next p (next_key m p.state p.cursor) in record { rounds = ap (λ l. l.rounds) h; dirty_rounds = ap (λ l. l.dirty_rounds) h; fires = ap (λ l. l.fires) h; round_fires = ap (λ l. l.round_fires) h; tasks = ap (λ l. l.tasks) h }
+  same_skipped {p = p} (at_dirty e o d) = let h = log_next p (next_key m p.state p.cursor) in record { rounds = ap (λ l. l.rounds) h; dirty_rounds = ap (λ l. l.dirty_rounds) h; fires = ap (λ l. l.fires) h; round_fires = ap (λ l. l.round_fires) h; tasks = ap (λ l. l.tasks) h }
+  same_skipped {p = p} (passed_by e o s n d) =
       let h = log_next p (next_key m p.state p.cursor) in
       let r = same_skipped d in
       record { rounds = r.rounds ∙ ap (λ l. l.rounds) h; dirty_rounds = r.dirty_rounds ∙ ap (λ l. l.dirty_rounds) h; fires = r.fires ∙ ap (λ l. l.fires) h; round_fires = r.round_fires ∙ ap (λ l. l.round_fires) h; tasks = r.tasks ∙ ap (λ l. l.tasks) h }
 
   -- a dirty key is to be fired
   pub pending : {p q : Place S K} → Skips m p Fireable q → q.stage ≡ Pending
-  pending {p = p} (at_dirty e d) = ap (stage_tested (is_remembered m (advanced m p))) d
-  pending (passed_by e s n d) = pending d
+  pending {p = p} (at_dirty e o d) = ap (stage_tested (is_remembered m (advanced m p))) d
+  pending (passed_by e o s n d) = pending d
 
   pub record Drained (p q : Place S K) (ended : Bool) : Type 0 where
     pub dirty_rounds : q.log.dirty_rounds ≡ p.log.dirty_rounds

@@ -16,12 +16,12 @@ is_less Equal e = cc
 is_less Greater e = cc
 
 -- the first key that passes a test is the first of the list, or one of the rest
-first_passes : {K : Type 0} (test : K → Bool) (x k : K) (ks : List K) → test x ≡ true → find test (x ∷ ks) ≡ Some k → x ≡ k
+pub first_passes : {K : Type 0} (test : K → Bool) (x k : K) (ks : List K) → test x ≡ true → find test (x ∷ ks) ≡ Some k → x ≡ k
 first_passes test x k ks t e =
     let here : Some x ≡ Some k = sym (ap (λ b. cond b (Some x) (find test ks)) t) ∙ e in
     cc
 
-first_fails : {K : Type 0} (test : K → Bool) (x k : K) (ks : List K) → test x ≡ false → find test (x ∷ ks) ≡ Some k → find test ks ≡ Some k
+pub first_fails : {K : Type 0} (test : K → Bool) (x k : K) (ks : List K) → test x ≡ false → find test (x ∷ ks) ≡ Some k → find test ks ≡ Some k
 first_fails test x k ks t e = sym (ap (λ b. cond b (Some x) (find test ks)) t) ∙ e
 
 filter_passes : {K : Type 0} (test : K → Bool) (x : K) (ks : List K) → test x ≡ true → filter test (x ∷ ks) ≡ x ∷ filter test ks

@@ -4,3 +4,6 @@ pub mod Steps
 pub mod Finishes
 pub mod Counts
 pub mod Why
+pub mod Carried
+pub mod Stop
+pub mod Fresh

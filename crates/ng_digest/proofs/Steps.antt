@@ -7,7 +7,7 @@ use Rattle.ng_digest.specs.declared.rounds.Found.TheVariants.{Nothing, Stopped, 
 use Rattle.ng_digest.specs.declared.world.Tested.{Tested}
 use Rattle.ng_digest.specs.declared.world.Tested.TheVariants.{Clean, Faulted}
 use Rattle.ng_digest.specs.declared.world.Stage.TheVariants.{Passed, Through, Pending}
-use Rattle.ng_digest.specs.Short.{has_more, Skips, none_above, at_remembered, at_dirty, passed_by}
+use Rattle.ng_digest.specs.Short.{has_more, InOrder, Skips, none_above, at_remembered, at_dirty, passed_by}
 use Rattle.ng_digest.proofs.Stages.{passed_after, through_after}
 
 pub was_tested : (t : Tested) (P : Type 0) → (t ≡ Clean) ⊎ (t ≡ Faulted) → OnTested t P → P
@@ -15,20 +15,20 @@ was_tested t P (inl e) h = subst (λ u. OnTested u P) e h
 was_tested t P (inr e) h = subst (λ u. OnTested u P) e h
 
 module _ {S K : Type 0} (m : Machine S K) where
-  pub none_found : (p q : Place S K) → false ≡ has_more m p → q ≡ advanced m p → Skips m p Nothing q
-  none_found p q e a = subst (Skips m p Nothing) (sym a) (none_above (sym e))
+  pub none_found : (p q : Place S K) → false ≡ has_more m p → InOrder m p.state → q ≡ advanced m p → Skips m p Nothing q
+  none_found p q e o a = subst (Skips m p Nothing) (sym a) (none_above (sym e) o)
 
-  pub dirty_found : (p q r : Place S K) → true ≡ has_more m p → q ≡ advanced m p → found m q ≡ found_dirty → r ≡ after_test m q → Skips m p Fireable r
-  dirty_found p q r e a d t =
-      subst (Skips m p Fireable) (sym (t ∙ ap (after_test m) a)) (at_dirty (sym e) (subst (λ x. found m x ≡ found_dirty) a d))
+  pub dirty_found : (p q r : Place S K) → true ≡ has_more m p → InOrder m p.state → q ≡ advanced m p → found m q ≡ found_dirty → r ≡ after_test m q → Skips m p Fireable r
+  dirty_found p q r e o a d t =
+      subst (Skips m p Fireable) (sym (t ∙ ap (after_test m) a)) (at_dirty (sym e) o (subst (λ x. found m x ≡ found_dirty) a d))
 
-  pub stop_found : (p q r : Place S K) → true ≡ has_more m p → q ≡ advanced m p → is_remembered m q ≡ true → found m q ≢ found_dirty → r ≡ after_test m q → Skips m p Stopped r
-  stop_found p q r e a s n t =
-      subst (Skips m p Stopped) (sym (t ∙ ap (after_test m) a)) (at_remembered (sym e) (subst (λ x. is_remembered m x ≡ true) a s) (subst (λ x. found m x ≢ found_dirty) a n))
+  pub stop_found : (p q r : Place S K) → true ≡ has_more m p → InOrder m p.state → q ≡ advanced m p → is_remembered m q ≡ true → found m q ≢ found_dirty → r ≡ after_test m q → Skips m p Stopped r
+  stop_found p q r e o a s n t =
+      subst (Skips m p Stopped) (sym (t ∙ ap (after_test m) a)) (at_remembered (sym e) o (subst (λ x. is_remembered m x ≡ true) a s) (subst (λ x. found m x ≢ found_dirty) a n))
 
-  pub passed_found : (p q r x : Place S K) (f : Found) → true ≡ has_more m p → q ≡ advanced m p → is_remembered m q ≡ false → found m q ≢ found_dirty → r ≡ after_test m q → Skips m r f x → Skips m p f x
-  passed_found p q r x f e a s n t d =
-      passed_by (sym e) (subst (λ y. is_remembered m y ≡ false) a s) (subst (λ y. found m y ≢ found_dirty) a n) (subst (λ y. Skips m y f x) (t ∙ ap (after_test m) a) d)
+  pub passed_found : (p q r x : Place S K) (f : Found) → true ≡ has_more m p → InOrder m p.state → q ≡ advanced m p → is_remembered m q ≡ false → found m q ≢ found_dirty → r ≡ after_test m q → Skips m r f x → Skips m p f x
+  passed_found p q r x f e o a s n t d =
+      passed_by (sym e) o (subst (λ y. is_remembered m y ≡ false) a s) (subst (λ y. found m y ≢ found_dirty) a n) (subst (λ y. Skips m y f x) (t ∙ ap (after_test m) a) d)
 
   -- where the world stands after the test
   pub stage_dirty : (q r : Place S K) → found m q ≡ found_dirty → r ≡ after_test m q → r.stage ≡ Pending

@@ -5,3 +5,5 @@ pub mod Laws
 pub mod Short
 pub mod Ends
 pub mod Causes
+pub mod Plain
+pub mod Early

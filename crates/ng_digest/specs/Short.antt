@@ -1,5 +1,6 @@
 -- The short digest: the calls in their order, each chosen by the answers before it.
 use Rattle.std.specs.Prelude.{ℕ, ◌≡◌, ◌≢◌, ◌<◌, ◌≤◌, Bool, true, false, Option, Some, None, Result, Ok, Err, is_some}
+use Rattle.std.specs.List.Sorted.{IsStrictlySortedBy}
 use Rattle.ng_base.specs.declared.fault.Fault.{Fault}
 use Rattle.ng_base.specs.declared.fault.Memory.{Memory}
 use Rattle.ng_digest.specs.declared.log.Report.{Report}
@@ -30,12 +31,16 @@ pub data Drains {S K : Type 0} (m : Machine S K) : Place S K → Bool → Place 
   too_many : {p : Place S K} → waiting m p ≡ true → 10000 ≤ p.log.tasks → Drains m p true p
   ran_one : {p q : Place S K} {over : Bool} → waiting m p ≡ true → p.log.tasks < 10000 → Drains m (after_task true m p) over q → Drains m p over q
 
+-- the live keys are listed in their order
+abbrev pub InOrder : {S K : Type 0} → Machine S K → S → Type 0
+InOrder m s = IsStrictlySortedBy m.order (m.keys s)
+
 -- from the cursor upwards keys are tested, up to one that is dirty, to the remembered key, or to the last
 pub data Skips {S K : Type 0} (m : Machine S K) : Place S K → Found → Place S K → Type 0 where
-  none_above : {p : Place S K} → has_more m p ≡ false → Skips m p Nothing (advanced m p)
-  at_remembered : {p : Place S K} → has_more m p ≡ true → is_remembered m (advanced m p) ≡ true → found m (advanced m p) ≢ found_dirty → Skips m p Stopped (after_test m (advanced m p))
-  at_dirty : {p : Place S K} → has_more m p ≡ true → found m (advanced m p) ≡ found_dirty → Skips m p Fireable (after_test m (advanced m p))
-  passed_by : {p q : Place S K} {f : Found} → has_more m p ≡ true → is_remembered m (advanced m p) ≡ false → found m (advanced m p) ≢ found_dirty → Skips m (after_test m (advanced m p)) f q → Skips m p f q
+  none_above : {p : Place S K} → has_more m p ≡ false → InOrder m p.state → Skips m p Nothing (advanced m p)
+  at_remembered : {p : Place S K} → has_more m p ≡ true → InOrder m p.state → is_remembered m (advanced m p) ≡ true → found m (advanced m p) ≢ found_dirty → Skips m p Stopped (after_test m (advanced m p))
+  at_dirty : {p : Place S K} → has_more m p ≡ true → InOrder m p.state → found m (advanced m p) ≡ found_dirty → Skips m p Fireable (after_test m (advanced m p))
+  passed_by : {p q : Place S K} {f : Found} → has_more m p ≡ true → InOrder m p.state → is_remembered m (advanced m p) ≡ false → found m (advanced m p) ≢ found_dirty → Skips m (after_test m (advanced m p)) f q → Skips m p f q
 
 -- each dirty key is fired, up to the limit
 pub data Walks {S K : Type 0} (m : Machine S K) : Place S K → Walked → Place S K → Type 0 where

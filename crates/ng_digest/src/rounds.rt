@@ -7,6 +7,8 @@ ghost use Rattle.ng_digest.specs.Short.{Drains, Skips, Walks, Round, Rounds, Dig
 ghost use Rattle.ng_base.specs.declared.fault.Fault.{Fault};
 ghost use Rattle.ng_digest.specs.declared.rounds.DigestFault.TheVariants.{Infdig, FireLimit, AsyncLimit, Faulted};
 ghost use Rattle.ng_digest.specs.Causes.{Unless, IsOverFires, IsOverTasks, HasSettled, IsReport};
+ghost use Rattle.ng_digest.specs.Plain.{PlainDigests};
+ghost use Rattle.ng_digest.specs.Early.{plain_of, plain_answer, IsFresh, OnSettled};
 ghost use Rattle.ng_digest.specs.Ends.{StageFound, StageWalked, StageRound, StageEnd, CountsRound, Finishes};
 
 use crate::log::{Log, Report};
@@ -243,6 +245,8 @@ pub fn digest<W: World>(w: &mut W) -> Result<Report, DigestFault>
     requires log { (W.moves.at w.old).log ≡ zero_log }
     requires forgotten { (W.moves.at w.old).remembered ≡ None }
     ensures short { Digests W.moves.machine (W.moves.at w.old) result (W.moves.at w.new) }
+    ensures plain { Unless result (PlainDigests W.moves.machine (W.moves.at w.old).state (plain_answer result) (plain_of (W.moves.at w.new))) }
+    ensures fresh { OnSettled result (IsFresh W.moves.machine (W.moves.at w.new).state) }
     ensures infdig { Unless result (result ≡ Err Infdig ↔ (W.moves.at w.new).log.dirty_rounds ≡ 11) }
     ensures fire_limit { Unless result (result ≡ Err FireLimit ↔ IsOverFires (W.moves.at w.new)) }
     ensures async_limit { Unless result (result ≡ Err AsyncLimit ↔ IsOverTasks W.moves.machine (W.moves.at w.new)) }

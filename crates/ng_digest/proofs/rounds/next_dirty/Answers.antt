@@ -8,7 +8,7 @@ use Rattle.ng_digest.proofs.rounds.next_dirty.Goals as goal
 pub returns-in-Dirty-clause-run : goal.returns-in-Dirty-clause-run
 returns-in-Dirty-clause-run g c =
     let m = g.W.World.moves in
-    c.loop-w.invariant.run _ _ (dirty_found m.machine _ (m.at c.next_after.new.self) _ (sym c.if-branch.true ∙ c.in_ok-next_after.ensures.answer) c.in_ok-next_after.ensures.step c.in-Dirty.ensures.answer c.in-Dirty.ensures.step)
+    c.loop-w.invariant.run _ _ (dirty_found m.machine _ (m.at c.next_after.new.self) _ (sym c.if-branch.true ∙ c.in_ok-next_after.ensures.answer) c.in_ok-next_after.ensures.sorted c.in_ok-next_after.ensures.step c.in-Dirty.ensures.answer c.in-Dirty.ensures.step)
 
 pub returns-in-Dirty-clause-stage : goal.returns-in-Dirty-clause-stage
 returns-in-Dirty-clause-stage g c = let m = g.W.World.moves in stage_dirty m.machine (m.at c.next_after.new.self) (m.at c.test-tested.new.self) c.in-Dirty.ensures.answer c.in-Dirty.ensures.step
@@ -18,7 +18,7 @@ returns-then-remembered-clause-run g c =
     let m = g.W.World.moves in
     let clean = not_dirty _ _ c.in-Clean.is c.test-tested.ensures.answer in
     let tested = was_tested _ _ c.in-Clean.is c.test-tested.ensures.step in
-    c.loop-w.invariant.run _ _ (stop_found m.machine _ (m.at c.next_after.new.self) _ (sym c.if-branch.true ∙ c.in_ok-next_after.ensures.answer) c.in_ok-next_after.ensures.step (sym c.last_dirty-remembered.ensures ∙ c.if-remembered.true) clean tested)
+    c.loop-w.invariant.run _ _ (stop_found m.machine _ (m.at c.next_after.new.self) _ (sym c.if-branch.true ∙ c.in_ok-next_after.ensures.answer) c.in_ok-next_after.ensures.sorted c.in_ok-next_after.ensures.step (sym c.last_dirty-remembered.ensures ∙ c.if-remembered.true) clean tested)
 
 pub returns-then-remembered-clause-stage : goal.returns-then-remembered-clause-stage
 returns-then-remembered-clause-stage g c =
@@ -45,12 +45,12 @@ loop-w-preserved g c =
       log = grind (arith, ap (λ p. p.log) tested, ap (λ p. p.log) c.in_ok-next_after.ensures.step);
       rounds = grind arith;
       fires = grind arith;
-      run = λ found end d. c.loop-w.invariant.run found end (passed_found m.machine _ (m.at c.next_after.new.self) _ _ _ (sym c.if-branch.true ∙ c.in_ok-next_after.ensures.answer) c.in_ok-next_after.ensures.step other clean tested d);
+      run = λ found end d. c.loop-w.invariant.run found end (passed_found m.machine _ (m.at c.next_after.new.self) _ _ _ (sym c.if-branch.true ∙ c.in_ok-next_after.ensures.answer) c.in_ok-next_after.ensures.sorted c.in_ok-next_after.ensures.step other clean tested d);
     }
 
 pub returns-clause-run : goal.returns-clause-run
 returns-clause-run g c =
-    c.loop-w.invariant.run _ _ (none_found g.W.World.moves.machine _ _ (sym c.if-branch.false ∙ c.in_ok-next_after.ensures.answer) c.in_ok-next_after.ensures.step)
+    c.loop-w.invariant.run _ _ (none_found g.W.World.moves.machine _ _ (sym c.if-branch.false ∙ c.in_ok-next_after.ensures.answer) c.in_ok-next_after.ensures.sorted c.in_ok-next_after.ensures.step)
 
 pub returns-clause-stage : goal.returns-clause-stage
 returns-clause-stage g c =
