@@ -1,0 +1,9 @@
+pub mod Stages
+pub mod Keys
+pub mod Steps
+pub mod Finishes
+pub mod Counts
+pub mod Why
+pub mod Carried
+pub mod Stop
+pub mod Fresh

@@ -1,0 +1,19 @@
+use Rattle.std.proofs.Common.{◌≡◌, ◌≤◌, ◌<◌, ◌-◌, ◌+◌, ℕ, Bool, true, false}
+use Rattle.ng_digest.specs.Place.{Moves, MayAdvance}
+use Rattle.ng_digest.specs.Machine.{ahead}
+use Rattle.ng_digest.specs.declared.world.Stage.TheVariants.{Draining, Between}
+use Rattle.ng_digest.specs.Short.{Drains, Skips, Walks, Rounds}
+use Rattle.ng_digest.proofs.rounds.drain.Given as goal
+
+abbrev pub invariant-loop-w : goal.invariant-loop-w
+invariant-loop-w g l =
+    let m = g.W.World.moves in
+    record {
+      stage : (m.at l.w).stage ≡ Draining;
+      log : l.log ≡ (m.at l.w).log;
+      rounds : l.log.dirty_rounds ≡ l.initial.log.dirty_rounds;
+      run : (over : Bool) (end : _) → Drains m.machine (m.at l.w) over end → Drains m.machine (m.at l.initial.w) over end;
+    }
+
+abbrev pub decreases-loop-w : goal.decreases-loop-w
+decreases-loop-w g l = 10000 - l.log.tasks

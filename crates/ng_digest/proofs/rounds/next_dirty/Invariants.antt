@@ -1,0 +1,22 @@
+use Rattle.std.proofs.Common.{◌≡◌, ◌≤◌, ◌<◌, ◌-◌, ◌+◌, ℕ, Bool, true, false}
+use Rattle.ng_digest.specs.Place.{Moves, MayAdvance}
+use Rattle.ng_digest.specs.Machine.{ahead}
+use Rattle.ng_digest.specs.declared.world.Stage.TheVariants.{Draining, Between}
+use Rattle.ng_digest.specs.Short.{Drains, Skips, Walks, Rounds}
+use Rattle.ng_digest.proofs.rounds.next_dirty.Given as goal
+
+abbrev pub invariant-loop-w : goal.invariant-loop-w
+invariant-loop-w g l =
+    let m = g.W.World.moves in
+    record {
+      stage : MayAdvance (m.at l.w).stage (m.machine.waits (m.at l.w).state);
+      log : l.log ≡ (m.at l.w).log;
+      rounds : l.log.dirty_rounds ≡ l.initial.log.dirty_rounds;
+      fires : l.log.fires ≡ l.initial.log.fires;
+      run : (found : _) (end : _) → Skips m.machine (m.at l.w) found end → Skips m.machine (m.at l.initial.w) found end;
+    }
+
+abbrev pub decreases-loop-w : goal.decreases-loop-w
+decreases-loop-w g l =
+    let m = g.W.World.moves in
+    ahead m.machine (m.at l.w).state (m.at l.w).cursor

@@ -1,0 +1,9 @@
+pub mod Log
+pub mod Machine
+pub mod Place
+pub mod Laws
+pub mod Short
+pub mod Ends
+pub mod Causes
+pub mod Plain
+pub mod Early

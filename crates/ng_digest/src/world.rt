@@ -1,0 +1,105 @@
+//! What a digest runs over.
+ghost use Rattle.std.specs.Prelude.{◌≡◌, ◌<◌, Option, Bool, IfOk, OnOk, is_some};
+ghost use Rattle.std.specs.List.Sorted.{IsStrictlySortedBy};
+ghost use Rattle.ng_digest.specs.Machine.{next_key};
+ghost use Rattle.ng_digest.specs.Place.{Moves, MayAdvance, begun, after_task, advanced, found, after_test, after_fire, is_remembered, is_dirty, closed, posted, given_up, Answers, OnTested};
+ghost use Rattle.ng_digest.specs.Laws.{HasLaws};
+
+use ng_base::fault::{Fault, Memory};
+
+/// What a test of a watcher found.
+#[derive(Clone, Copy, Debug, PartialEq, Eq)]
+pub enum Tested {
+    Clean,
+    Dirty,
+    Faulted,
+    Memory(Memory),
+}
+
+/// Which of a world's calls may come next.
+#[derive(Clone, Copy, Debug, PartialEq, Eq)]
+pub enum Stage {
+    /// A round may begin.
+    Between,
+    /// Tasks may run.
+    Draining,
+    /// The cursor came to a key, which is to be tested.
+    AtKey,
+    /// The key was tested and found dirty, and is to be fired.
+    Pending,
+    /// The cursor may go on.
+    Passed,
+    /// The round may be closed.
+    Through,
+    /// The rounds have settled.
+    Calm,
+    /// What comes after the rounds was done.
+    Over,
+}
+
+/// Watchers under keys, a cursor that goes up over the live keys, and tasks.
+pub trait World {
+    /// Its states and keys, what its calls do to a state, and where it stands.
+    ghost moves: { Moves Self };
+
+    /// Begins a round, and puts the cursor before the least key.
+    fn start_round(&mut self)
+        requires { (moves.at self.old).stage ≡ Stage.Between }
+        ensures { moves.at self.new ≡ begun (moves.at self.old) };
+
+    /// Whether a task waits.
+    fn waits(&self) -> bool
+        ensures { result ≡ moves.machine.waits (moves.at self.now).state };
+
+    /// Runs the first task that waits, which clears what is remembered. False where none waits.
+    fn task(&mut self) -> Result<bool, Memory>
+        requires stage { (moves.at self.old).stage ≡ Stage.Draining }
+        requires few { (moves.at self.old).log.tasks < 10000 }
+        ensures answer { IfOk result (λ ran. ran ≡ moves.machine.waits (moves.at self.old).state) }
+        ensures step { IfOk result (λ ran. moves.at self.new ≡ after_task ran moves.machine (moves.at self.old)) };
+
+    /// Moves the cursor to the least live key above it. False where there is none.
+    fn next_after(&mut self) -> Result<bool, Memory>
+        requires { MayAdvance (moves.at self.old).stage (moves.machine.waits (moves.at self.old).state) }
+        ensures answer { IfOk result (λ more. more ≡ is_some (next_key moves.machine (moves.at self.old).state (moves.at self.old).cursor)) }
+        ensures step { OnOk result (moves.at self.new ≡ advanced moves.machine (moves.at self.old)) }
+        ensures sorted { OnOk result (IsStrictlySortedBy moves.machine.order (moves.machine.keys (moves.at self.old).state)) };
+
+    /// Whether the cursor stands at the remembered key.
+    fn last_dirty(&self) -> bool
+        ensures { result ≡ is_remembered moves.machine (moves.at self.now) };
+
+    /// Tests the watcher at the cursor.
+    fn test(&mut self) -> Tested
+        requires { (moves.at self.old).stage ≡ Stage.AtKey }
+        ensures answer { Answers (found moves.machine (moves.at self.old)) result }
+        ensures step { OnTested result (moves.at self.new ≡ after_test moves.machine (moves.at self.old)) };
+
+    /// Fires the watcher at the cursor, which was dirty.
+    fn fire(&mut self) -> Result<(), Memory>
+        requires stage { (moves.at self.old).stage ≡ Stage.Pending }
+        requires few { (moves.at self.old).log.fires < 1000000 }
+        ensures { OnOk result (moves.at self.new ≡ after_fire moves.machine (moves.at self.old)) };
+
+    /// Ends the round, and tells whether it was dirty.
+    fn close_round(&mut self) -> bool
+        requires { (moves.at self.old).stage ≡ Stage.Through }
+        ensures answer { result ≡ is_dirty moves.machine (moves.at self.old) }
+        ensures step { moves.at self.new ≡ closed moves.machine (moves.at self.old) };
+
+    /// Does what comes once the rounds have settled.
+    fn post(&mut self) -> Result<(), Memory>
+        requires { (moves.at self.old).stage ≡ Stage.Calm }
+        ensures { OnOk result (moves.at self.new ≡ posted moves.machine (moves.at self.old)) };
+
+    /// Does what comes once the rounds were given up.
+    fn fail(&mut self)
+        ensures { moves.at self.new ≡ given_up moves.machine (moves.at self.old) };
+
+    /// The first fault that was handed over in this digest, and their count.
+    fn handed(&self) -> Option<(Fault, u32)>
+        ensures { result ≡ moves.machine.handed (moves.at self.now).state };
+
+    /// What the early stop rests on.
+    ghost laws: { HasLaws moves.machine };
+}
