@@ -2,3 +2,4 @@ pub mod PartLists
 pub mod Draws
 pub mod Turns
 pub mod Rounds
+pub mod Json

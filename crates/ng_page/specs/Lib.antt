@@ -1,2 +1,5 @@
+pub mod Free
 pub mod PieceOf
 pub mod Seen
+pub mod App
+pub mod Facts

@@ -1,7 +1,10 @@
 //! The page: what a template and an application become, and what it shows.
 #![tactic(auto)]
 
+pub mod app;
 pub mod draw;
+pub mod fault;
 pub mod follow;
 pub mod parts;
+pub mod read_app;
 pub mod round;

@@ -1,0 +1,100 @@
+-- What an application file is: its data in a store, or the first refusal.
+use Rattle.std.specs.Prelude.{ℕ, Bool, true, false, ◌&&◌, List, [], ◌∷◌, codes, Option, None, Some, is_some, option_map, Result, Ok, Err, if◌then◌else◌}
+use Rattle.std.specs.Str.{bytes_eq, is_utf8}
+use Rattle.serde_json.specs.Data.{Data, object, Members, no_members, member}
+use Rattle.serde_json.specs.Read.{read}
+use Rattle.serde_json.specs.Find.{as_object, get_member}
+use Rattle.ng_base.specs.Objects.{Object}
+use Rattle.ng_base.specs.declared.value.Value.{Value}
+use Rattle.ng_store.specs.Json.{json_value, with_json}
+use Rattle.ng_store.specs.declared.json.JsonFault.{JsonFault}
+use Rattle.ng_store.specs.declared.json.JsonFault.TheVariants as json
+use Rattle.ng_page.specs.declared.fault.Member.{Member}
+use Rattle.ng_page.specs.declared.fault.Member.TheVariants as the
+use Rattle.ng_page.specs.declared.fault.AppKind.{AppKind}
+use Rattle.ng_page.specs.declared.fault.AppKind.TheVariants as kind
+use Rattle.ng_page.specs.declared.fault.AppFault.{AppFault}
+
+-- the data of an application: the objects, and the value that names the root's
+abbrev pub Facts : Type 0
+Facts = Value × List Object
+
+abbrev pub fault : Member → AppKind → AppFault
+fault m k = record { member = m; item = 0; kind = k }
+
+-- the members that an application may have
+abbrev pub member_named : List ℕ → Option Member
+member_named n =
+    if bytes_eq n (codes "format") then Some the.Format
+    else if bytes_eq n (codes "data") then Some the.Facts
+    else if bytes_eq n (codes "templates") then Some the.Templates
+    else if bytes_eq n (codes "directives") then Some the.Directives
+    else if bytes_eq n (codes "functions") then Some the.Functions
+    else if bytes_eq n (codes "run") then Some the.Run
+    else if bytes_eq n (codes "watch") then Some the.Watch
+    else if bytes_eq n (codes "on") then Some the.On
+    else None
+
+abbrev pub are_known : Members → Bool
+are_known no_members = true
+are_known (member k d ms) = is_some (member_named k) && are_known ms
+
+abbrev pub has : List ℕ → Members → Bool
+has n ms = is_some (get_member n ms)
+
+-- the first member, in the order of the table, that is there and not built yet
+abbrev pub first_later : Members → Option Member
+first_later ms =
+    if has (codes "format") ms then Some the.Format
+    else if has (codes "templates") ms then Some the.Templates
+    else if has (codes "directives") ms then Some the.Directives
+    else if has (codes "functions") ms then Some the.Functions
+    else if has (codes "run") ms then Some the.Run
+    else if has (codes "watch") ms then Some the.Watch
+    else if has (codes "on") ms then Some the.On
+    else None
+
+-- the members without one
+abbrev pub without : List ℕ → Members → Members
+without n no_members = no_members
+without n (member k d ms) = if bytes_eq n k then ms else member k d (without n ms)
+
+-- the names that every scope has of its own are left out unread
+abbrev pub read_members : Members → Members
+read_members ms = without (codes "$root") (without (codes "$parent") (without (codes "$id") ms))
+
+-- why JSON is not read as data
+abbrev pub data_fault : JsonFault → AppKind
+data_fault json.Number = kind.Number
+data_fault json.Full = kind.Full
+data_fault (json.Memory m) = kind.Memory m
+
+abbrev pub put_data : Data → Result Value JsonFault → Result Facts AppFault
+put_data d (Ok v) = Ok (v, with_json [] d)
+put_data d (Err e) = Err (fault the.Facts (data_fault e))
+
+-- the root's object has the members of the data
+abbrev pub facts_of_members : Option Members → Result Facts AppFault
+facts_of_members None = Err (fault the.Facts kind.Shape)
+facts_of_members (Some ms) = put_data (object (read_members ms)) (json_value [] (object (read_members ms)))
+
+-- without data the root's object has no members
+abbrev pub facts_of_data : Option Data → Result Facts AppFault
+facts_of_data None = facts_of_members (Some no_members)
+facts_of_data (Some d) = facts_of_members (as_object d)
+
+abbrev pub facts_unless_later : Members → Option Member → Result Facts AppFault
+facts_unless_later ms (Some m) = Err (fault m kind.Later)
+facts_unless_later ms None = facts_of_data (get_member (codes "data") ms)
+
+abbrev pub facts_of_object : Option Members → Result Facts AppFault
+facts_of_object None = Err (fault the.File kind.Shape)
+facts_of_object (Some ms) = if are_known ms then facts_unless_later ms (first_later ms) else Err (fault the.File kind.Shape)
+
+abbrev pub facts_of_json : Option Data → Result Facts AppFault
+facts_of_json None = Err (fault the.File kind.Json)
+facts_of_json (Some d) = facts_of_object (as_object d)
+
+-- the data of an application file
+abbrev pub facts_of : List ℕ → Result Facts AppFault
+facts_of bytes = if is_utf8 bytes then facts_of_json (read bytes) else Err (fault the.File kind.Json)

@@ -1,0 +1,135 @@
+//! Why an application or a template is refused.
+ghost use Rattle.std.specs.Prelude.{◌≡◌, true};
+ghost use Rattle.ng_page.specs.Free.{is_app_want, is_tpl_want};
+
+use ng_base::fault::Memory;
+use std::alloc::{AllocError, AllocFailed};
+use thiserror::Error;
+
+/// A member of the application file, or the file itself. `Facts` is the member `data`.
+#[derive(Clone, Copy, Debug, PartialEq, Eq, Error)]
+pub enum Member {
+    #[error("file")]
+    File,
+    #[error("format")]
+    Format,
+    #[error("data")]
+    Facts,
+    #[error("templates")]
+    Templates,
+    #[error("directives")]
+    Directives,
+    #[error("functions")]
+    Functions,
+    #[error("run")]
+    Run,
+    #[error("watch")]
+    Watch,
+    #[error("on")]
+    On,
+}
+
+/// Why an application is refused. `Later` is a member that is not built yet.
+#[derive(Clone, Copy, Debug, PartialEq, Eq, Error)]
+pub enum AppKind {
+    #[error("Json")]
+    Json,
+    #[error("Shape")]
+    Shape,
+    #[error("Number")]
+    Number,
+    #[error("Full")]
+    Full,
+    #[error("BadName")]
+    BadName,
+    #[error("BadRestrict")]
+    BadRestrict,
+    #[error("BadBinding")]
+    BadBinding,
+    #[error("Markup")]
+    Markup,
+    #[error("Template")]
+    Template,
+    #[error("Expression")]
+    Expression,
+    #[error("Impure")]
+    Impure,
+    #[error("Later")]
+    Later,
+    #[error("{0}")]
+    Memory(Memory),
+}
+
+/// A refusal of an application: the member, the number of its entry from 0, and why.
+#[derive(Clone, Copy, Debug, PartialEq, Eq, Error)]
+#[error("{member} {item} {kind}")]
+pub struct AppFault {
+    pub member: Member,
+    pub item: u64,
+    pub kind: AppKind,
+}
+
+impl From<AllocError> for AppFault {
+    ghost from_gives = { λ _ e. is_app_want e ≡ true };
+
+    fn from(_: AllocError) -> Self {
+        AppFault {
+            member: Member::File,
+            item: 0,
+            kind: AppKind::Memory(Memory::Refused),
+        }
+    }
+}
+
+/// Why a template is refused. `Later` is a form that is not built yet.
+#[derive(Clone, Copy, Debug, PartialEq, Eq, Error)]
+pub enum TplKind {
+    #[error("Expression")]
+    Expression,
+    #[error("Impure")]
+    Impure,
+    #[error("MultiDir")]
+    MultiDir,
+    #[error("BadRepeat")]
+    BadRepeat,
+    #[error("CaseWithoutSwitch")]
+    CaseWithoutSwitch,
+    #[error("UnknownFilter")]
+    UnknownFilter,
+    #[error("LeftOut")]
+    LeftOut,
+    #[error("Orphan")]
+    Orphan,
+    #[error("Later")]
+    Later,
+    #[error("{0}")]
+    Memory(Memory),
+}
+
+/// A refusal of a template: the byte where the element or text begins, and why.
+#[derive(Clone, Copy, Debug, PartialEq, Eq, Error)]
+#[error("{kind} at byte {place}")]
+pub struct TplFault {
+    pub place: u64,
+    pub kind: TplKind,
+}
+
+impl From<AllocError> for TplFault {
+    ghost from_gives = { λ _ e. is_tpl_want e ≡ true };
+
+    fn from(_: AllocError) -> Self {
+        TplFault {
+            place: 0,
+            kind: TplKind::Memory(Memory::Refused),
+        }
+    }
+}
+
+impl From<Memory> for TplFault {
+    fn from(memory: Memory) -> Self {
+        TplFault {
+            place: 0,
+            kind: TplKind::Memory(memory),
+        }
+    }
+}

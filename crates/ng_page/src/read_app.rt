@@ -1,0 +1,190 @@
+//! The application file: JSON whose member `data` becomes the properties of the root scope.
+ghost use Rattle.std.specs.Prelude.{◌≡◌, ◌<◌, [], codes, length, Some, None, option_map, is_some, Ok, Err, IfSome, MatchResult, MatchOption};
+ghost use Rattle.serde_json.specs.Data.{object, no_members};
+ghost use Rattle.serde_json.specs.Find.{as_object, get_member};
+ghost use Rattle.serde_json.specs.View.{view, members_view};
+ghost use Rattle.ng_base.specs.Meets.{Gives};
+ghost use Rattle.ng_page.specs.App.{fault as app_fault, member_named, are_known, has, first_later, without, read_members, put_data, facts_of_members, facts_of_data, facts_unless_later, facts_of_object, facts_of};
+ghost use Rattle.ng_store.specs.Json.{json_value};
+ghost use Rattle.ng_page.specs.Free.{is_app_want};
+ghost use Rattle.ng_page.specs.Facts.{facts};
+
+use crate::app::App;
+use crate::fault::{AppFault, AppKind, Member};
+use ng_base::fault::Memory;
+use ng_base::value::Value;
+use ng_store::json::JsonFault;
+use ng_store::store::Store;
+use serde_json::{Map, Value as Json};
+use std::alloc::Global;
+
+fn fault(member: Member, kind: AppKind) -> AppFault
+    ensures { result ≡ app_fault member kind }
+{
+    AppFault {
+        member,
+        item: 0,
+        kind,
+    }
+}
+
+/// The member of a name.
+fn member_of(name: &str) -> Option<Member>
+    ensures { result ≡ member_named name.now }
+{
+    match name {
+        "format" => Some(Member::Format),
+        "data" => Some(Member::Facts),
+        "templates" => Some(Member::Templates),
+        "directives" => Some(Member::Directives),
+        "functions" => Some(Member::Functions),
+        "run" => Some(Member::Run),
+        "watch" => Some(Member::Watch),
+        "on" => Some(Member::On),
+        _ => None,
+    }
+}
+
+/// Whether each member is one that an application may have.
+fn all_known(members: &Map<String, Json>) -> bool
+    ensures { result ≡ are_known (members_view members.now.entries) }
+{
+    for (name, _) in members {
+        if member_of(name.as_str()).is_none() {
+            return false;
+        }
+    }
+    true
+}
+
+/// Whether a member is there.
+fn is_there(members: &Map<String, Json>, name: &str) -> bool
+    ensures { result ≡ has name.now (members_view members.now.entries) }
+{
+    members.get(name).is_some()
+}
+
+/// The first member, in the order of the table, that is there and not built yet.
+fn later_member(members: &Map<String, Json>) -> Option<Member>
+    ensures { result ≡ first_later (members_view members.now.entries) }
+{
+    if is_there(members, "format") {
+        Some(Member::Format)
+    } else if is_there(members, "templates") {
+        Some(Member::Templates)
+    } else if is_there(members, "directives") {
+        Some(Member::Directives)
+    } else if is_there(members, "functions") {
+        Some(Member::Functions)
+    } else if is_there(members, "run") {
+        Some(Member::Run)
+    } else if is_there(members, "watch") {
+        Some(Member::Watch)
+    } else if is_there(members, "on") {
+        Some(Member::On)
+    } else {
+        None
+    }
+}
+
+/// Takes a member out.
+fn take_out(members: &mut Map<String, Json>, name: &str) -> Option<Json>
+    ensures found { option_map view result ≡ get_member name.now (members_view members.old.entries) }
+    ensures left { members_view members.new.entries ≡ without name.now (members_view members.old.entries) }
+{
+    members.remove(name)
+}
+
+/// Puts the data of the root into a new store.
+fn put_members(alloc: Global, members: Map<String, Json>) -> Result<App, AppFault>
+    ensures { Gives is_app_want facts (put_data (object (members_view members.entries)) (json_value [] (object (members_view members.entries)))) result }
+{
+    let mut store = Store::new(alloc);
+    match store.of_json(&Json::Object(members)) {
+        Ok(Value::Obj(root)) => Ok(App { store, root }),
+        Ok(_) => Err(fault(Member::Facts, AppKind::Shape)),
+        Err(JsonFault::Number) => Err(fault(Member::Facts, AppKind::Number)),
+        Err(JsonFault::Full) => Err(fault(Member::Facts, AppKind::Full)),
+        Err(JsonFault::Memory(memory)) => Err(fault(Member::Facts, AppKind::Memory(memory))),
+    }
+}
+
+/// The data of the root, without the names that every scope has of its own.
+fn read_root(alloc: Global, members: Map<String, Json>) -> Result<App, AppFault>
+    ensures { Gives is_app_want facts (facts_of_members (Some (members_view members.entries))) result }
+{
+    let mut read = members;
+    let _ = take_out(&mut read, "$id");
+    let _ = take_out(&mut read, "$parent");
+    let _ = take_out(&mut read, "$root");
+    put_members(alloc, read)
+}
+
+/// The data of an application whose `data` is this.
+fn read_data(alloc: Global, data_member: Option<Json>) -> Result<App, AppFault>
+    ensures { Gives is_app_want facts (facts_of_data (option_map view data_member)) result }
+{
+    match data_member {
+        None => read_root(alloc, Map::new(alloc)),
+        Some(Json::Object(members)) => read_root(alloc, members),
+        Some(_) => Err(fault(Member::Facts, AppKind::Shape)),
+    }
+}
+
+/// The data of an application with these members.
+fn read_members_of(alloc: Global, members: Map<String, Json>) -> Result<App, AppFault>
+    ensures { Gives is_app_want facts (facts_of_object (Some (members_view members.entries))) result }
+{
+    if !all_known(&members) {
+        return Err(fault(Member::File, AppKind::Shape));
+    }
+    if let Some(later) = later_member(&members) {
+        return Err(fault(later, AppKind::Later));
+    }
+    let mut read = members;
+    let found = take_out(&mut read, "data");
+    read_data(alloc, found)
+}
+
+/// The data of an application that is this JSON.
+fn read_json(alloc: Global, value: Json) -> Result<App, AppFault>
+    ensures { Gives is_app_want facts (facts_of_object (as_object (view value))) result }
+{
+    match value {
+        Json::Object(members) => read_members_of(alloc, members),
+        _ => Err(fault(Member::File, AppKind::Shape)),
+    }
+}
+
+/// The JSON of an application.
+fn parsed(alloc: Global, bytes: &[u8]) -> Result<Json, AppFault>
+    ensures { MatchResult result
+        (λ v. facts_of bytes.now ≡ facts_of_object (as_object (view v)))
+        (λ e. Gives is_app_want facts (facts_of bytes.now) (Err e)) }
+{
+    match Json::from_slice(alloc, bytes) {
+        Ok(value) => Ok(value),
+        Err(error) => {
+            if error.is_memory() {
+                Err(fault(Member::File, AppKind::Memory(Memory::Refused)))
+            } else {
+                Err(fault(Member::File, AppKind::Json))
+            }
+        }
+    }
+}
+
+impl App {
+    /// Reads an application file: a JSON object whose member `data`, if it is there, is an object of the root
+    /// scope's properties. The refusals come in this order: JSON that is broken; no object, or a member of
+    /// another name; a member that is not built yet; `data` that is no object; a number that is not whole or out
+    /// of range; more than 1,000,000 objects and arrays.
+    pub fn read(alloc: Global, bytes: &[u8]) -> Result<App, AppFault>
+        ensures { Gives is_app_want facts (facts_of bytes.now) result }
+    {
+        match parsed(alloc, bytes) {
+            Ok(value) => read_json(alloc, value),
+            Err(fault) => Err(fault),
+        }
+    }
+}
