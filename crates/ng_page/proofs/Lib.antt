@@ -3,3 +3,4 @@ pub mod Draws
 pub mod Turns
 pub mod Rounds
 pub mod Json
+pub mod Builds

@@ -3,3 +3,5 @@ pub mod PieceOf
 pub mod Seen
 pub mod App
 pub mod Facts
+pub mod Compiles
+pub mod TemplateOf

@@ -7,14 +7,13 @@ ghost use Rattle.ng_page.specs.PieceOf.{piece_of};
 ghost use Rattle.ng_page.specs.Seen.{part_of, parts_of};
 
 use crate::parts::{Part, Parts, Piece, Pieces};
-use ng_base::fault::Memory;
 use ng_base::txt::Txt;
 use ng_html::attrs::Attrs;
 use ng_html::forest::{Forest, Node, comment_node, element_node, text_node};
-use std::alloc::Global;
+use std::alloc::{AllocError, Global};
 
 /// Adds what a piece shows.
-fn draw_piece(into: &mut Txt, piece: &Piece) -> Result<(), Memory>
+fn draw_piece(into: &mut Txt, piece: &Piece) -> Result<(), AllocError>
     ensures { OnOk result (into.new ≡ into.old ++ kept_look (piece_of piece.now)) }
 {
     match piece {
@@ -28,7 +27,7 @@ fn draw_piece(into: &mut Txt, piece: &Piece) -> Result<(), Memory>
 }
 
 /// The text that the pieces show.
-fn draw_text(alloc: Global, pieces: &Pieces) -> Result<Txt, Memory>
+fn draw_text(alloc: Global, pieces: &Pieces) -> Result<Txt, AllocError>
     ensures { IfOk result (λ t. t ≡ flat_map kept_look pieces.now) }
 {
     let mut text = Txt::new(alloc);
@@ -39,7 +38,7 @@ fn draw_text(alloc: Global, pieces: &Pieces) -> Result<Txt, Memory>
 }
 
 /// A copy of an element's attributes.
-pub fn copied_attrs(alloc: Global, attrs: &Attrs) -> Result<Attrs, Memory>
+pub fn copied_attrs(alloc: Global, attrs: &Attrs) -> Result<Attrs, AllocError>
     ensures { IfOk result (λ a. a ≡ attrs.now) }
 {
     let mut copy = Attrs::new(alloc);
@@ -51,7 +50,7 @@ pub fn copied_attrs(alloc: Global, attrs: &Attrs) -> Result<Attrs, Memory>
 
 /// The node of a part.
 #[cycle(draw)]
-fn drawn_part(alloc: Global, part: &Part) -> Result<Node, Memory>
+fn drawn_part(alloc: Global, part: &Part) -> Result<Node, AllocError>
     ensures { IfOk result (λ n. node_of n ≡ draw_part kept_look (part_of part.now)) }
 {
     match part {
@@ -67,7 +66,7 @@ fn drawn_part(alloc: Global, part: &Part) -> Result<Node, Memory>
 
 /// The document that the parts show.
 #[cycle(draw)]
-pub fn drawn(alloc: Global, parts: &Parts) -> Result<Forest, Memory>
+pub fn drawn(alloc: Global, parts: &Parts) -> Result<Forest, AllocError>
     ensures { IfOk result (λ f. forest_of f ≡ shown (parts_of parts.now)) }
 {
     let mut forest = Forest::new(alloc);

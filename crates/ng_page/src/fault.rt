@@ -124,12 +124,3 @@ impl From<AllocError> for TplFault {
         }
     }
 }
-
-impl From<Memory> for TplFault {
-    fn from(memory: Memory) -> Self {
-        TplFault {
-            place: 0,
-            kind: TplKind::Memory(memory),
-        }
-    }
-}

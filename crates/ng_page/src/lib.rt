@@ -2,9 +2,11 @@
 #![tactic(auto)]
 
 pub mod app;
+pub mod compile;
 pub mod draw;
 pub mod fault;
 pub mod follow;
 pub mod parts;
 pub mod read_app;
 pub mod round;
+pub mod tpl;

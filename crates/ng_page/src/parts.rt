@@ -1,6 +1,6 @@
 //! The parts of a page in the code. `specs/Seen.antt` says which parts of the definitions they stand for.
 ghost use Rattle.std.specs.Prelude.{◌≡◌, ◌++◌, ◌∷◌, [], map, OnOk};
-ghost use Rattle.ng_pages.specs.Parts.{text_part, comment_part, element_part, no_parts, parts_list};
+ghost use Rattle.ng_pages.specs.Parts.{text_part, comment_part, element_part, no_parts, with_part};
 ghost use Rattle.ng_page.specs.PieceOf.{piece_of};
 ghost use Rattle.ng_page.specs.Seen.{part_of, parts_of};
 
@@ -99,17 +99,10 @@ impl Parts {
 
     /// Adds a part at the end.
     pub fn push(&mut self, part: Part) -> Result<(), AllocError>
-        ensures { OnOk result (parts_list (parts_of self.new) ≡ parts_list (parts_of self.old) ++ part_of part ∷ []) }
+        ensures { OnOk result (parts_of self.new ≡ with_part (parts_of self.old) (part_of part)) }
     {
         self.items.push(part)?;
         Ok(())
-    }
-
-    /// All of them, in order.
-    pub fn as_slice(&self) -> &[Part]
-        ensures { map part_of result.now ≡ parts_list (parts_of self.now) }
-    {
-        self.items.as_slice()
     }
 }
 

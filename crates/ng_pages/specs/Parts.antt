@@ -21,7 +21,7 @@ abbrev pub parts_from : List Part → Parts
 parts_from [] = no_parts
 parts_from (p ∷ ps) = part_then p (parts_from ps)
 
--- the parts in order
-abbrev pub parts_list : Parts → List Part
-parts_list no_parts = []
-parts_list (part_then p ps) = p ∷ parts_list ps
+-- one part more at the end
+abbrev pub with_part : Parts → Part → Parts
+with_part no_parts q = part_then q no_parts
+with_part (part_then p ps) q = part_then p (with_part ps q)

@@ -1,8 +1,9 @@
-use Rattle.std.proofs.Common.{◌≡◌}
+use Rattle.std.proofs.Common.{◌≡◌, map, take}
 use Rattle.ng_html.specs.Seen.{forest_of}
 use Rattle.ng_pages.specs.Drawing.{kept_look}
-use Rattle.ng_page.proofs.Draws.{drawn_first}
+use Rattle.ng_page.specs.Seen.{part_of}
+use Rattle.ng_page.proofs.Draws.{drawn_list}
 use Rattle.ng_page.proofs.draw.+draw.Given as goal
 
 abbrev pub invariant-drawn-loop-part : goal.invariant-drawn-loop-part
-invariant-drawn-loop-part l = forest_of l.forest ≡ drawn_first kept_look l.part-items l.part-index
+invariant-drawn-loop-part l = forest_of l.forest ≡ drawn_list kept_look (map part_of (take l.part-index l.part-items))
