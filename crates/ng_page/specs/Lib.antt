@@ -5,3 +5,5 @@ pub mod App
 pub mod Facts
 pub mod Compiles
 pub mod TemplateOf
+pub mod State
+pub mod PageOf

@@ -5,13 +5,12 @@ ghost use Rattle.ng_base.specs.Objects.{StandsAmong};
 ghost use Rattle.ng_pages.specs.Paths.{member as member_of, value_at, shown_value, has_later_members, is_object, is_later};
 ghost use Rattle.ng_pages.specs.Drawing.{now};
 
-use ng_base::fault::Memory;
 use ng_base::heap::{Heap, ObjKind};
 use ng_base::name::Oid;
 use ng_base::txt::Txt;
 use ng_base::value::Value;
 use ng_store::store::Store;
-use std::alloc::Global;
+use std::alloc::{AllocError, Global};
 
 /// The member of a value under a name, where `undefined` stands for what is nowhere.
 fn member<'a>(
@@ -53,7 +52,7 @@ fn value_at<'a>(
 }
 
 /// What a value shows.
-fn shown(alloc: Global, value: &Value) -> Result<Txt, Memory>
+fn shown(alloc: Global, value: &Value) -> Result<Txt, AllocError>
     ensures { IfOk result (λ t. t ≡ shown_value value.now) }
 {
     let mut text = Txt::new(alloc);
@@ -69,9 +68,9 @@ fn shown(alloc: Global, value: &Value) -> Result<Txt, Memory>
 }
 
 /// What a path shows over the data as it stands.
-pub fn shown_now(alloc: Global, store: &Store, root: Oid, path: &[Txt]) -> Result<Txt, Memory>
+pub fn shown_now(alloc: Global, store: &Store, root: Oid, path: &[Txt]) -> Result<Txt, AllocError>
     requires { root.0 < length store.now }
-    ensures { IfOk result (λ t. t ≡ now store.now root path.now) }
+    ensures { IfOk result (λ t. t ≡ now store.now (Obj root) path.now) }
 {
     let undefined = Value::Undefined;
     let from = Value::Obj(root);

@@ -6,6 +6,7 @@ pub mod compile;
 pub mod draw;
 pub mod fault;
 pub mod follow;
+pub mod page;
 pub mod parts;
 pub mod read_app;
 pub mod round;

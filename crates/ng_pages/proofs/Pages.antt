@@ -4,12 +4,12 @@ use Rattle.std.specs.List.{flat_map, list_any}
 use Rattle.std.specs.Option.{unwrap_or}
 use Rattle.std.specs.Str.{bytes_eq}
 use Rattle.std.proofs.lemmas.Slice.Eq.{bytes_eq-Decides}
-use Rattle.ng_base.specs.declared.name.Oid.{Oid}
+use Rattle.ng_base.specs.declared.value.Value.{Value}
 use Rattle.ng_base.specs.Objects.{Object}
 use Rattle.ng_markup.specs.Forest.{Node, Forest, element, text, comment, no_nodes, node}
 use Rattle.ng_pages.specs.Parts.{Piece, word, hole, Part, Parts, text_part, comment_part, element_part, no_parts, part_then}
 use Rattle.ng_pages.specs.Drawing.{kept_look, now, now_look, draw_part, draw, shown, rendering}
-use Rattle.ng_pages.specs.Digest.{is_dirty_kept, is_dirty_piece, is_dirty_part, is_dirty, tested_piece, tested_part, tested, rounds}
+use Rattle.ng_pages.specs.Digest.{is_dirty_kept, is_dirty_piece, is_dirty_part, is_dirty, tested_piece, tested_part, tested, rounds, settled}
 
 first_false : (a b : Bool) → (a || b) ≡ false → a ≡ false
 first_false true b h = h
@@ -27,7 +27,7 @@ not_false : (b : Bool) → not b ≡ false → b ≡ true
 not_false true h = refl
 not_false false h = absurd (cc)
 
-module _ (objects : List Object) (root : Oid) where
+module _ (objects : List Object) (root : Value) where
   -- a piece that is not dirty shows what is there now
   piece_shows : (p : Piece) → is_dirty_piece objects root p ≡ false → kept_look p ≡ now_look objects root p
   piece_shows (word w) h = refl
@@ -92,18 +92,73 @@ module _ (objects : List Object) (root : Oid) where
         ap (λ n. node n (rendering objects root (tested objects root ps))) (part_keeps p)
         ∙ ap (node (draw_part (now_look objects root) p)) (parts_keep ps)
 
-  -- a page that is not dirty stays as it is
-  rounds_stop : (k : ℕ) (ps : Parts) → is_dirty objects root ps ≡ false → is_dirty objects root (rounds k objects root ps) ≡ false
-  rounds_stop zero ps h = h
-  rounds_stop (suc k) ps h = rw h h
+  -- to test twice is to test once
+  pieces_twice : (ps : List Piece) → map (tested_piece objects root) (map (tested_piece objects root) ps) ≡ map (tested_piece objects root) ps
+  pieces_twice [] = refl
+  pieces_twice (word w ∷ ps) = ap (λ qs. word w ∷ qs) (pieces_twice ps)
+  pieces_twice (hole path kept ∷ ps) = ap (λ qs. hole path (Some (now objects root path)) ∷ qs) (pieces_twice ps)
 
-  rounds_from : (k : ℕ) (ps : Parts) (b : Bool) → is_dirty objects root ps ≡ b → is_dirty objects root (if b then rounds k objects root (tested objects root ps) else ps) ≡ false
-  rounds_from k ps true e = rounds_stop k (tested objects root ps) (parts_settle ps)
-  rounds_from k ps false e = e
+  mutual
+    part_twice : (p : Part) → tested_part objects root (tested_part objects root p) ≡ tested_part objects root p
+    part_twice (text_part ps) = ap text_part (pieces_twice ps)
+    part_twice (comment_part t) = refl
+    part_twice (element_part n a ps) = ap (element_part n a) (parts_twice ps)
 
-  pub rounds_settle : (k : ℕ) (ps : Parts) → is_dirty objects root (rounds (suc k) objects root ps) ≡ false
-  rounds_settle k ps = rounds_from k ps (is_dirty objects root ps) refl
+    parts_twice : (ps : Parts) → tested objects root (tested objects root ps) ≡ tested objects root ps
+    parts_twice no_parts = refl
+    parts_twice (part_then p ps) = ap (λ q. part_then q (tested objects root (tested objects root ps))) (part_twice p) ∙ ap (part_then (tested_part objects root p)) (parts_twice ps)
 
-  -- two rounds at the most: what a digest leaves
-  pub rounds_are : (k : ℕ) (ps : Parts) → rounds (suc (suc k)) objects root ps ≡ (if is_dirty objects root ps then tested objects root ps else ps)
+  -- what is not dirty stays as it is
+  piece_stays : (p : Piece) → is_dirty_piece objects root p ≡ false → tested_piece objects root p ≡ p
+  piece_stays (word w) h = refl
+  piece_stays (hole path None) h = absurd (cc)
+  piece_stays (hole path (Some kept)) h =
+      ap (λ t. hole path (Some t)) (sym ((bytes_eq-Decides kept (now objects root path)).0 (not_false (bytes_eq kept (now objects root path)) h)))
+
+  pieces_stay : (ps : List Piece) → list_any (is_dirty_piece objects root) ps ≡ false → map (tested_piece objects root) ps ≡ ps
+  pieces_stay [] h = refl
+  pieces_stay (p ∷ ps) h =
+      ap (λ q. q ∷ map (tested_piece objects root) ps) (piece_stays p (first_false _ _ h))
+      ∙ ap (λ qs. p ∷ qs) (pieces_stay ps (second_false (is_dirty_piece objects root p) _ h))
+
+  mutual
+    part_stays : (p : Part) → is_dirty_part objects root p ≡ false → tested_part objects root p ≡ p
+    part_stays (text_part ps) h = ap text_part (pieces_stay ps h)
+    part_stays (comment_part t) h = refl
+    part_stays (element_part n a ps) h = ap (element_part n a) (parts_stay ps h)
+
+    parts_stay : (ps : Parts) → is_dirty objects root ps ≡ false → tested objects root ps ≡ ps
+    parts_stay no_parts h = refl
+    parts_stay (part_then p ps) h =
+        ap (λ q. part_then q (tested objects root ps)) (part_stays p (first_false _ _ h))
+        ∙ ap (part_then p) (parts_stay ps (second_false (is_dirty_part objects root p) _ h))
+
+  -- two rounds at the most
+  rounds_are : (k : ℕ) (ps : Parts) → rounds (suc (suc k)) objects root ps ≡ (if is_dirty objects root ps then tested objects root ps else ps)
   rounds_are k ps = rw (parts_settle ps) refl
+
+  settled_is : (ps : Parts) → settled objects root ps ≡ (if is_dirty objects root ps then tested objects root ps else ps)
+  unfolding settled
+  settled_is ps = rounds_are 9 ps
+
+  by_dirt : (ps : Parts) (b : Bool) → is_dirty objects root ps ≡ b → (if b then tested objects root ps else ps) ≡ tested objects root ps
+  by_dirt ps true e = refl
+  by_dirt ps false e = sym (parts_stay ps e)
+
+  -- a digest leaves what one round leaves
+  pub settled_once : (ps : Parts) → settled objects root ps ≡ tested objects root ps
+  settled_once ps = settled_is ps ∙ by_dirt ps (is_dirty objects root ps) refl
+
+  -- and what two rounds leave
+  pub settled_twice : (ps : Parts) → settled objects root ps ≡ tested objects root (tested objects root ps)
+  settled_twice ps = settled_once ps ∙ sym (parts_twice ps)
+
+  pub digest_settles : (ps : Parts) → is_dirty objects root (settled objects root ps) ≡ false
+  digest_settles ps = ap (is_dirty objects root) (settled_once ps) ∙ parts_settle ps
+
+  pub digest_shows : (ps : Parts) → shown (settled objects root ps) ≡ rendering objects root ps
+  digest_shows ps = parts_show (settled objects root ps) (digest_settles ps) ∙ (ap (rendering objects root) (settled_once ps) ∙ parts_keep ps)
+
+  -- what a digest leaves has the rendering of the template
+  pub digest_keeps : (ps : Parts) → rendering objects root (settled objects root ps) ≡ rendering objects root ps
+  digest_keeps ps = ap (rendering objects root) (settled_once ps) ∙ parts_keep ps

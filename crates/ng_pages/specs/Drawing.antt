@@ -2,8 +2,7 @@
 use Rattle.std.specs.Prelude.{ℕ, List, [], ◌∷◌}
 use Rattle.std.specs.List.{flat_map}
 use Rattle.std.specs.Option.{unwrap_or}
-use Rattle.ng_base.specs.declared.name.Oid.{Oid}
-use Rattle.ng_base.specs.declared.value.Value.TheVariants.{Obj}
+use Rattle.ng_base.specs.declared.value.Value.{Value}
 use Rattle.ng_base.specs.Objects.{Object}
 use Rattle.ng_markup.specs.Forest.{Node, Forest, element, text, comment, no_nodes, node}
 use Rattle.ng_pages.specs.Parts.{Piece, word, hole, Part, Parts, text_part, comment_part, element_part, no_parts, part_then}
@@ -19,11 +18,11 @@ kept_look (word w) = w
 kept_look (hole path kept) = unwrap_or kept []
 
 -- the text of a path over the data as it stands
-abbrev pub now : List Object → Oid → List (List ℕ) → List ℕ
-now objects root path = shown_value (value_at objects (Obj root) path)
+abbrev pub now : List Object → Value → List (List ℕ) → List ℕ
+now objects root path = shown_value (value_at objects root path)
 
 -- a hole shows what its path leads to now, whatever was kept
-abbrev pub now_look : List Object → Oid → Look
+abbrev pub now_look : List Object → Value → Look
 now_look objects root (word w) = w
 now_look objects root (hole path kept) = now objects root path
 
@@ -42,5 +41,5 @@ abbrev pub shown : Parts → Forest
 shown parts = draw kept_look parts
 
 -- the rendering: the document computed afresh from the template and the data, without what was kept
-abbrev pub rendering : List Object → Oid → Parts → Forest
+abbrev pub rendering : List Object → Value → Parts → Forest
 rendering objects root parts = draw (now_look objects root) parts

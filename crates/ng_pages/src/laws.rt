@@ -1,5 +1,5 @@
 //! Laws of pages. Each function's contract is the law.
-ghost use Rattle.ng_pages.specs.Laws.{RoundSettles, SettledShowsRendering, RoundKeepsRendering, TwoRoundsSettle};
+ghost use Rattle.ng_pages.specs.Laws.{RoundSettles, SettledShowsRendering, RoundKeepsRendering, DigestSettles, DigestShowsRendering};
 
 /// After a round over unchanged data no watcher is dirty.
 pub fn round_settles()
@@ -19,8 +19,14 @@ pub fn round_keeps_rendering()
 {
 }
 
-/// The plain digest of such a page never comes to its limit.
-pub fn two_rounds_settle()
-    ensures { TwoRoundsSettle }
+/// A digest of such a page never comes to its limit, and leaves no watcher dirty.
+pub fn digest_settles()
+    ensures { DigestSettles }
+{
+}
+
+/// After a digest the page shows the rendering of its template.
+pub fn digest_shows_rendering()
+    ensures { DigestShowsRendering }
 {
 }
