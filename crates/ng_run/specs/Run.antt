@@ -1,0 +1,55 @@
+-- What a run answers and leaves.
+use Rattle.std.specs.Prelude.{ℕ, ◌≡◌, ◌≢◌, ◌≤◌, ◌<◌, ◌⊎◌, List, [], ◌∷◌, ◌++◌, length, Option, None, Some}
+use Rattle.std.specs.Io.KnownBytes.{Appends}
+use Rattle.ng_base.specs.Outside.{TookAll, longest}
+use Rattle.ng_page.specs.State.{State}
+use Rattle.ng_run.specs.Session.{Reply, Got, Brings, failures, failures_of_application, answer_to, answer_to_application, usage, session}
+
+-- the names of the files of a run
+abbrev pub Files : Type 0
+Files = Option (List ℕ × List ℕ)
+
+-- the bytes that a shelf tells of a name
+abbrev pub Telling : Type 0
+Telling = List ℕ → Option (List ℕ)
+
+-- what is to be written for these files, by what the fetches bring: the list of failures grows by what failed
+abbrev pub Replies : Files → Telling → List (List ℕ) → List (List ℕ) → Reply → Type 0
+Replies None told before now r = (now ≡ before) × (r ≡ usage)
+Replies (Some p) told before now r =
+    (g : Got) × (h : Got) × Brings (told p.0) g × Brings (told p.1) h
+    × (now ≡ before ++ failures p.0 p.1 g h) × (r ≡ answer_to g h)
+
+-- the same, where the template was fetched
+abbrev pub AnswersTemplate : Telling → List (List ℕ) → List (List ℕ) → List ℕ → List ℕ → Reply → Type 0
+AnswersTemplate told before now t name r =
+    (h : Got) × Brings (told name) h × (now ≡ before ++ failures_of_application name h) × (r ≡ answer_to_application t h)
+
+-- the status and the page are those of a reply, and its bytes were written whole
+abbrev pub Told : Files → Telling → List (List ℕ) → List (List ℕ) → Option (List ℕ) → Option (List ℕ) → ℕ → Option State → Type 0
+Told files told before now old new status page =
+    (r : Reply) × Replies files told before now r × (status ≡ r.status) × (page ≡ r.page) × Appends old new r.bytes
+
+-- the first bytes of a reply were taken
+abbrev pub Began : Files → Telling → List (List ℕ) → List (List ℕ) → Option (List ℕ) → Option (List ℕ) → Type 0
+Began files told before now old new = (r : Reply) × Replies files told before now r × TookAll old new r.bytes
+
+-- the shelf has these two files, and neither is too long
+abbrev pub Has : Files → Telling → List ℕ → List ℕ → Type 0
+Has None told t a = ⊥
+Has (Some p) told t a = (told p.0 ≡ Some t) × (told p.1 ≡ Some a) × (length t ≤ longest) × (length a ≤ longest)
+
+-- where no fetch failed, the run is the session of the two files
+abbrev pub RunsSession : Files → Telling → List (List ℕ) → List (List ℕ) → Option (List ℕ) → Option (List ℕ) → ℕ → Option State → Type 0
+RunsSession files told before now old new status page =
+    (t a : List ℕ) → Has files told t a → now ≡ before
+    → (status ≡ (session t a).status) × (page ≡ (session t a).page) × Appends old new (session t a).bytes
+
+-- one of the run's files
+abbrev pub IsFile : Files → List ℕ → Type 0
+IsFile None name = ⊥
+IsFile (Some p) name = (name ≡ p.0) ⊎ (name ≡ p.1)
+
+-- the list of failures grew by the name of one of the run's files
+abbrev pub FetchFailed : Files → List (List ℕ) → List (List ℕ) → Type 0
+FetchFailed files before now = (name : List ℕ) × IsFile files name × (now ≡ before ++ name ∷ [])

@@ -1,0 +1,166 @@
+-- What a run writes, and its status.
+use Rattle.std.specs.Prelude.{ℕ, ◌≡◌, ◌==◌, ◌&&◌, ◌<◌, ◌≤◌, not, Bool, true, List, [], ◌∷◌, ◌++◌, length, Option, None, Some, Result, Ok, Err, codes, encode_utf8_all, if◌then◌else◌}
+use Rattle.std.specs.Fmt.{decimal}
+use Rattle.ng_markup.specs.Forest.{Forest, print}
+use Rattle.ng_html.specs.Reading.{read_bytes}
+use Rattle.ng_html.specs.declared.fault.HtmlFault.{HtmlFault}
+use Rattle.ng_html.specs.declared.fault.HtmlKind.{HtmlKind}
+use Rattle.ng_html.specs.declared.fault.HtmlKind.TheVariants as html
+use Rattle.ng_pages.specs.Parts.{Parts}
+use Rattle.ng_pages.specs.Drawing.{rendering}
+use Rattle.ng_page.specs.App.{Facts, facts_of}
+use Rattle.ng_page.specs.Compiles.{compiled}
+use Rattle.ng_page.specs.State.{State, started}
+use Rattle.ng_page.specs.declared.fault.Member.{Member}
+use Rattle.ng_page.specs.declared.fault.Member.TheVariants as the
+use Rattle.ng_page.specs.declared.fault.AppKind.{AppKind}
+use Rattle.ng_page.specs.declared.fault.AppKind.TheVariants as app
+use Rattle.ng_page.specs.declared.fault.AppFault.{AppFault}
+use Rattle.ng_page.specs.declared.fault.TplKind.{TplKind}
+use Rattle.ng_page.specs.declared.fault.TplKind.TheVariants as tpl
+use Rattle.ng_page.specs.declared.fault.TplFault.{TplFault}
+use Rattle.ng_base.specs.Outside.{longest}
+
+-- a status, the bytes that are written, and the page as the last step left it
+pub record Reply : Type 0 where
+  pub status : ℕ
+  pub bytes : List ℕ
+  pub page : Option State
+
+abbrev pub line : ℕ → List ℕ → Reply
+line status t = record { status = status; bytes = t ++ codes "\n"; page = None }
+
+abbrev pub html_name : HtmlKind → List ℕ
+html_name html.Utf8 = codes "Utf8"
+html_name html.Unclosed = codes "Unclosed"
+html_name html.Unmatched = codes "Unmatched"
+html_name html.BadTag = codes "BadTag"
+html_name html.BadAttr = codes "BadAttr"
+html_name html.BadReference = codes "BadReference"
+html_name html.TooDeep = codes "TooDeep"
+html_name html.SelfClosed = codes "SelfClosed"
+html_name html.Later = codes "Later"
+html_name (html.Memory m) = codes "Memory"
+
+abbrev pub tpl_name : TplKind → List ℕ
+tpl_name tpl.Expression = codes "Expression"
+tpl_name tpl.Impure = codes "Impure"
+tpl_name tpl.MultiDir = codes "MultiDir"
+tpl_name tpl.BadRepeat = codes "BadRepeat"
+tpl_name tpl.CaseWithoutSwitch = codes "CaseWithoutSwitch"
+tpl_name tpl.UnknownFilter = codes "UnknownFilter"
+tpl_name tpl.LeftOut = codes "LeftOut"
+tpl_name tpl.Orphan = codes "Orphan"
+tpl_name tpl.Later = codes "Later"
+tpl_name (tpl.Memory m) = codes "Memory"
+
+abbrev pub member_name : Member → List ℕ
+member_name the.File = codes "file"
+member_name the.Format = codes "format"
+member_name the.Facts = codes "data"
+member_name the.Templates = codes "templates"
+member_name the.Directives = codes "directives"
+member_name the.Functions = codes "functions"
+member_name the.Run = codes "run"
+member_name the.Watch = codes "watch"
+member_name the.On = codes "on"
+
+abbrev pub app_name : AppKind → List ℕ
+app_name app.Json = codes "Json"
+app_name app.Shape = codes "Shape"
+app_name app.Number = codes "Number"
+app_name app.Full = codes "Full"
+app_name app.BadName = codes "BadName"
+app_name app.BadRestrict = codes "BadRestrict"
+app_name app.BadBinding = codes "BadBinding"
+app_name app.Markup = codes "Markup"
+app_name app.Template = codes "Template"
+app_name app.Expression = codes "Expression"
+app_name app.Impure = codes "Impure"
+app_name app.Later = codes "Later"
+app_name (app.Memory m) = codes "Memory"
+
+abbrev pub template_line : ℕ → List ℕ → Reply
+template_line place name = line 3 (codes "template: " ++ decimal place ++ codes " " ++ name)
+
+abbrev pub application_line : AppFault → Reply
+application_line f = line 4 (codes "application: " ++ member_name f.member ++ codes " " ++ decimal f.item ++ codes " " ++ app_name f.kind)
+
+-- the step that opens the page: its header, and the rendering on one line
+abbrev pub opened : Facts → Parts → State → Reply
+opened facts template state =
+    record { status = 0; bytes = codes "# 0 open\n" ++ encode_utf8_all (print (rendering facts.1 facts.0 template)) ++ codes "\n"; page = Some state }
+
+abbrev pub compiled_then : Facts → Result Parts TplFault → Reply
+compiled_then facts (Ok template) = opened facts template (started facts template)
+compiled_then facts (Err f) = template_line f.place (tpl_name f.kind)
+
+abbrev pub facts_then : Forest × List ℕ → Result Facts AppFault → Reply
+facts_then source (Ok facts) = compiled_then facts (compiled facts source)
+facts_then source (Err f) = application_line f
+
+abbrev pub source_then : List ℕ → Result (Forest × List ℕ) HtmlFault → Reply
+source_then application (Ok source) = facts_then source (facts_of application)
+source_then application (Err f) = template_line f.place (html_name f.kind)
+
+-- the template is read, then the application, then the template is compiled; the first refusal ends the run
+abbrev pub session : List ℕ → List ℕ → Reply
+session template application = source_then application (read_bytes template)
+
+-- what a fetch brought
+pub data Got : Type 0 where
+  failed : Got
+  too_long : ℕ → Got
+  file : List ℕ → Got
+
+-- the answer, by what the two fetches brought
+abbrev pub answer_to_application : List ℕ → Got → Reply
+answer_to_application t failed = line 6 (codes "read: application")
+answer_to_application t (too_long n) = line 9 (codes "long: application " ++ decimal n)
+answer_to_application t (file a) = session t a
+
+abbrev pub answer_to : Got → Got → Reply
+answer_to failed a = line 6 (codes "read: template")
+answer_to (too_long n) a = line 9 (codes "long: template " ++ decimal n)
+answer_to (file t) a = answer_to_application t a
+
+abbrev pub usage : Reply
+usage = line 2 (codes "usage: ngrun [--trace] [--patches] [--static] TEMPLATE APP [SCRIPT] or ngrun --load N")
+
+-- a word that is a file's name
+abbrev pub is_file_name : List ℕ → Bool
+is_file_name [] = true
+is_file_name (c ∷ cs) = not (c == 45)
+
+abbrev pub two_of : List (List ℕ) → Option (List ℕ × List ℕ)
+two_of [] = None
+two_of (t ∷ []) = None
+two_of (t ∷ a ∷ []) = Some (t, a)
+two_of (t ∷ a ∷ b ∷ ws) = None
+
+abbrev pub file_names : Option (List ℕ × List ℕ) → Option (List ℕ × List ℕ)
+file_names None = None
+file_names (Some p) = if is_file_name p.0 && is_file_name p.1 then Some p else None
+
+-- the names of the template and the application, where the words are of the form: two, neither with a `-` first
+abbrev pub names_of : List (List ℕ) → Option (List ℕ × List ℕ)
+names_of words = file_names (two_of words)
+
+-- what a fetch may bring, where the shelf tells the bytes
+abbrev pub Brings : Option (List ℕ) → Got → Type 0
+Brings told failed = Unit {0}
+Brings None (too_long n) = longest < n
+Brings (Some f) (too_long n) = (longest < n) × (length f ≡ n)
+Brings None (file g) = Unit {0}
+Brings (Some f) (file g) = (length f ≤ longest) × (g ≡ f)
+
+-- the files whose fetch failed
+abbrev pub failures_of_application : List ℕ → Got → List (List ℕ)
+failures_of_application a failed = a ∷ []
+failures_of_application a (too_long n) = []
+failures_of_application a (file g) = []
+
+abbrev pub failures : List ℕ → List ℕ → Got → Got → List (List ℕ)
+failures t a failed h = t ∷ []
+failures t a (too_long n) h = []
+failures t a (file f) h = failures_of_application a h

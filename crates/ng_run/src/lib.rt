@@ -1,0 +1,7 @@
+//! A run.
+#![tactic(auto)]
+
+mod answer;
+mod lines;
+mod reply;
+mod session;

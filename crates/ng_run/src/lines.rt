@@ -1,0 +1,151 @@
+//! The lines of refusals.
+ghost use Rattle.std.specs.Prelude.{◌≡◌, ◌++◌, codes, IfOk, OnOk};
+ghost use Rattle.std.specs.Fmt.{decimal};
+ghost use Rattle.ng_run.specs.ReplyOf.{reply_of};
+ghost use Rattle.ng_run.specs.Session.{line as line_of, html_name, tpl_name, member_name, app_name, template_line as template_line_of, application_line as application_line_of};
+
+use crate::reply::Reply;
+use ng_base::fault::Memory;
+use ng_html::fault::HtmlKind;
+use ng_page::fault::{AppFault, AppKind, Member, TplKind};
+use std::alloc::{AllocError, Global};
+
+/// Adds the digits of a number.
+fn push_number(into: &mut Vec<u8>, n: u64) -> Result<(), AllocError>
+    ensures { OnOk result (into.new.items ≡ into.old.items ++ decimal n) }
+{
+    let digits = n.to_string(*into.allocator())?;
+    into.extend_from_slice(digits.as_str().as_bytes())
+}
+
+/// A reply that is one line.
+fn line_reply(status: u8, line: Vec<u8>) -> Result<Reply, AllocError>
+    ensures { IfOk result (λ r. reply_of r ≡ line_of status line.items) }
+{
+    let mut bytes = line;
+    bytes.extend_from_slice("\n".as_bytes())?;
+    Ok(Reply {
+        status,
+        bytes,
+        page: None,
+    })
+}
+
+/// A reply that is one line.
+pub(crate) fn line(alloc: Global, status: u8, text: &str) -> Result<Reply, AllocError>
+    ensures { IfOk result (λ r. reply_of r ≡ line_of status text.now) }
+{
+    let mut bytes = Vec::new(alloc);
+    bytes.extend_from_slice(text.as_bytes())?;
+    line_reply(status, bytes)
+}
+
+/// A reply that is one line with a length at its end.
+pub(crate) fn long_line(alloc: Global, word: &str, length: u64) -> Result<Reply, AllocError>
+    ensures { IfOk result (λ r. reply_of r ≡ line_of 9 (word.now ++ decimal length)) }
+{
+    let mut bytes = Vec::new(alloc);
+    bytes.extend_from_slice(word.as_bytes())?;
+    push_number(&mut bytes, length)?;
+    line_reply(9, bytes)
+}
+
+/// The name of a refusal of a document.
+pub(crate) fn html_word(kind: &HtmlKind) -> &'static str
+    ensures { result.now ≡ html_name kind.now }
+{
+    match kind {
+        HtmlKind::Utf8 => "Utf8",
+        HtmlKind::Unclosed => "Unclosed",
+        HtmlKind::Unmatched => "Unmatched",
+        HtmlKind::BadTag => "BadTag",
+        HtmlKind::BadAttr => "BadAttr",
+        HtmlKind::BadReference => "BadReference",
+        HtmlKind::TooDeep => "TooDeep",
+        HtmlKind::SelfClosed => "SelfClosed",
+        HtmlKind::Later => "Later",
+        HtmlKind::Memory(_) => "Memory",
+    }
+}
+
+/// The name of a refusal of a template.
+pub(crate) fn tpl_word(kind: &TplKind) -> &'static str
+    ensures { result.now ≡ tpl_name kind.now }
+{
+    match kind {
+        TplKind::Expression => "Expression",
+        TplKind::Impure => "Impure",
+        TplKind::MultiDir => "MultiDir",
+        TplKind::BadRepeat => "BadRepeat",
+        TplKind::CaseWithoutSwitch => "CaseWithoutSwitch",
+        TplKind::UnknownFilter => "UnknownFilter",
+        TplKind::LeftOut => "LeftOut",
+        TplKind::Orphan => "Orphan",
+        TplKind::Later => "Later",
+        TplKind::Memory(_) => "Memory",
+    }
+}
+
+/// The name of a member of the application file.
+fn member_word(member: &Member) -> &'static str
+    ensures { result.now ≡ member_name member.now }
+{
+    match member {
+        Member::File => "file",
+        Member::Format => "format",
+        Member::Facts => "data",
+        Member::Templates => "templates",
+        Member::Directives => "directives",
+        Member::Functions => "functions",
+        Member::Run => "run",
+        Member::Watch => "watch",
+        Member::On => "on",
+    }
+}
+
+/// The name of a refusal of an application.
+fn app_word(kind: &AppKind) -> &'static str
+    ensures { result.now ≡ app_name kind.now }
+{
+    match kind {
+        AppKind::Json => "Json",
+        AppKind::Shape => "Shape",
+        AppKind::Number => "Number",
+        AppKind::Full => "Full",
+        AppKind::BadName => "BadName",
+        AppKind::BadRestrict => "BadRestrict",
+        AppKind::BadBinding => "BadBinding",
+        AppKind::Markup => "Markup",
+        AppKind::Template => "Template",
+        AppKind::Expression => "Expression",
+        AppKind::Impure => "Impure",
+        AppKind::Later => "Later",
+        AppKind::Memory(_) => "Memory",
+    }
+}
+
+/// The line of a refused template.
+pub(crate) fn template_line(alloc: Global, place: u64, word: &str) -> Result<Reply, AllocError>
+    ensures { IfOk result (λ r. reply_of r ≡ template_line_of place word.now) }
+{
+    let mut bytes = Vec::new(alloc);
+    bytes.extend_from_slice("template: ".as_bytes())?;
+    push_number(&mut bytes, place)?;
+    bytes.extend_from_slice(" ".as_bytes())?;
+    bytes.extend_from_slice(word.as_bytes())?;
+    line_reply(3, bytes)
+}
+
+/// The line of a refused application.
+pub(crate) fn application_line(alloc: Global, fault: &AppFault) -> Result<Reply, AllocError>
+    ensures { IfOk result (λ r. reply_of r ≡ application_line_of fault.now) }
+{
+    let mut bytes = Vec::new(alloc);
+    bytes.extend_from_slice("application: ".as_bytes())?;
+    bytes.extend_from_slice(member_word(&fault.member).as_bytes())?;
+    bytes.extend_from_slice(" ".as_bytes())?;
+    push_number(&mut bytes, fault.item)?;
+    bytes.extend_from_slice(" ".as_bytes())?;
+    bytes.extend_from_slice(app_word(&fault.kind).as_bytes())?;
+    line_reply(4, bytes)
+}
