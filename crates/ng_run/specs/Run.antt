@@ -1,8 +1,17 @@
 -- What a run answers and leaves.
-use Rattle.std.specs.Prelude.{ℕ, ◌≡◌, ◌≢◌, ◌≤◌, ◌<◌, ◌⊎◌, List, [], ◌∷◌, ◌++◌, length, Option, None, Some}
+use Rattle.std.specs.Prelude.{ℕ, ◌≡◌, ◌≤◌, ◌<◌, ◌⊎◌, false, List, [], ◌∷◌, ◌++◌, length, Option, None, Some, Ok, Err}
 use Rattle.std.specs.Io.KnownBytes.{Appends}
 use Rattle.ng_base.specs.Outside.{TookAll, longest}
+use Rattle.ng_markup.specs.Forest.{Forest}
+use Rattle.ng_html.specs.Reading.{read_bytes}
+use Rattle.ng_html.specs.declared.fault.HtmlFault.{HtmlFault}
+use Rattle.ng_pages.specs.Parts.{Parts}
+use Rattle.ng_pages.specs.Digest.{is_dirty}
+use Rattle.ng_page.specs.App.{Facts, facts_of}
+use Rattle.ng_page.specs.Compiles.{compiled}
 use Rattle.ng_page.specs.State.{State}
+use Rattle.ng_page.specs.declared.fault.AppFault.{AppFault}
+use Rattle.ng_page.specs.declared.fault.TplFault.{TplFault}
 use Rattle.ng_run.specs.Session.{Reply, Got, Brings, failures, failures_of_application, answer_to, answer_to_application, usage, session}
 
 -- the names of the files of a run
@@ -53,3 +62,47 @@ IsFile (Some p) name = (name ≡ p.0) ⊎ (name ≡ p.1)
 -- the list of failures grew by the name of one of the run's files
 abbrev pub FetchFailed : Files → List (List ℕ) → List (List ℕ) → Type 0
 FetchFailed files before now = (name : List ℕ) × IsFile files name × (now ≡ before ++ name ∷ [])
+
+-- a file that the shelf tells is too long; of a file that it doesn't tell nothing is said
+abbrev pub MayBeLong : Option (List ℕ) → Type 0
+MayBeLong None = Unit {0}
+MayBeLong (Some f) = longest < length f
+
+-- the first fetch that doesn't succeed has a file that is too long
+abbrev pub LongFile : Files → Telling → Type 0
+LongFile None told = ⊥
+LongFile (Some p) told = MayBeLong (told p.0) ⊎ MayBeLong (told p.1)
+
+-- the shelf tells that the first file is too long, or that the second is and the first isn't
+abbrev pub HasLong : Files → Telling → Type 0
+HasLong None told = ⊥
+HasLong (Some p) told =
+    ((t : List ℕ) × (told p.0 ≡ Some t) × (longest < length t))
+    ⊎ ((t : List ℕ) × (a : List ℕ) × (told p.0 ≡ Some t) × (length t ≤ longest) × (told p.1 ≡ Some a) × (longest < length a))
+
+-- a template is refused by its form, or by what it asks of the data
+abbrev pub TemplateRefused : List ℕ → List ℕ → Type 0
+TemplateRefused t a =
+    ((f : HtmlFault) × (read_bytes t ≡ Err f))
+    ⊎ ((s : Forest × List ℕ) × (facts : Facts) × (f : TplFault) × (read_bytes t ≡ Ok s) × (facts_of a ≡ Ok facts) × (compiled facts s ≡ Err f))
+
+-- an application is refused, and the template before it was read
+abbrev pub ApplicationRefused : List ℕ → List ℕ → Type 0
+ApplicationRefused t a = (s : Forest × List ℕ) × (f : AppFault) × (read_bytes t ≡ Ok s) × (facts_of a ≡ Err f)
+
+-- both are accepted
+abbrev pub Accepted : List ℕ → List ℕ → Type 0
+Accepted t a = (s : Forest × List ℕ) × (facts : Facts) × (template : Parts) × (read_bytes t ≡ Ok s) × (facts_of a ≡ Ok facts) × (compiled facts s ≡ Ok template)
+
+-- the status says which: each cause has its status, and one of the causes is there
+abbrev pub Causes : List ℕ → List ℕ → ℕ → Type 0
+Causes t a status =
+    (((status ≡ 0) × Accepted t a) ⊎ ((status ≡ 3) × TemplateRefused t a)) ⊎ ((status ≡ 4) × ApplicationRefused t a)
+
+-- where no fetch failed, the status has its cause in the two files
+abbrev pub HasCause : Files → Telling → List (List ℕ) → List (List ℕ) → ℕ → Type 0
+HasCause files told before now status = (t a : List ℕ) → Has files told t a → now ≡ before → Causes t a status
+
+-- no watcher of a page is dirty
+abbrev pub IsSettled : State → Type 0
+IsSettled s = is_dirty s.objects s.root s.parts ≡ false

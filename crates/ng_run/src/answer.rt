@@ -1,6 +1,6 @@
 //! The answer to the words: the files are fetched in their order.
 ghost use Rattle.std.specs.Prelude.{◌≡◌, ◌≢◌, ◌++◌, ◌∷◌, [], IfOk, Some, None, Option, List, ℕ, MatchOption};
-ghost use Rattle.ng_run.specs.ReplyOf.{reply_of, got_of};
+ghost use Rattle.ng_run.specs.ReplyOf.{reply_of, got_of, IsDrawn};
 ghost use Rattle.ng_run.specs.Session.{Brings, is_file_name, two_of, names_of, usage as usage_reply};
 ghost use Rattle.ng_run.specs.Run.{Replies, AnswersTemplate};
 
@@ -36,7 +36,8 @@ fn answer_to_template<S: Shelf>(
     template: Vec<u8>,
     name: &Txt,
 ) -> Result<Reply, Memory>
-    ensures { IfOk result (λ r. AnswersTemplate (S.bytes shelf.old) (S.failed shelf.old) (S.failed shelf.new) template.items name.now (reply_of r)) }
+    ensures reply { IfOk result (λ r. AnswersTemplate (S.bytes shelf.old) (S.failed shelf.old) (S.failed shelf.new) template.items name.now (reply_of r)) }
+    ensures drawn { IfOk result (λ r. IsDrawn r) }
 {
     match fetch(alloc, shelf, name)? {
         Got::Failed => Ok(line(alloc, 6, "read: application")?),
@@ -52,7 +53,8 @@ fn answer_to_names<S: Shelf>(
     template: &Txt,
     application: &Txt,
 ) -> Result<Reply, Memory>
-    ensures { IfOk result (λ r. Replies (Some (template.now, application.now)) (S.bytes shelf.old) (S.failed shelf.old) (S.failed shelf.new) (reply_of r)) }
+    ensures reply { IfOk result (λ r. Replies (Some (template.now, application.now)) (S.bytes shelf.old) (S.failed shelf.old) (S.failed shelf.new) (reply_of r)) }
+    ensures drawn { IfOk result (λ r. IsDrawn r) }
 {
     match fetch(alloc, shelf, template)? {
         Got::Failed => Ok(line(alloc, 6, "read: template")?),
@@ -86,7 +88,8 @@ fn two_words(words: &[Txt]) -> Option<(&Txt, &Txt)>
 
 /// The line on the form of the words.
 fn usage(alloc: Global) -> Result<Reply, AllocError>
-    ensures { IfOk result (λ r. reply_of r ≡ usage_reply) }
+    ensures reply { IfOk result (λ r. reply_of r ≡ usage_reply) }
+    ensures drawn { IfOk result (λ r. IsDrawn r) }
 {
     line(
         alloc,
@@ -97,7 +100,8 @@ fn usage(alloc: Global) -> Result<Reply, AllocError>
 
 /// The answer to the words.
 pub(crate) fn answer<S: Shelf>(alloc: Global, words: &[Txt], shelf: &mut S) -> Result<Reply, Memory>
-    ensures { IfOk result (λ r. Replies (names_of words.now) (S.bytes shelf.old) (S.failed shelf.old) (S.failed shelf.new) (reply_of r)) }
+    ensures reply { IfOk result (λ r. Replies (names_of words.now) (S.bytes shelf.old) (S.failed shelf.old) (S.failed shelf.new) (reply_of r)) }
+    ensures drawn { IfOk result (λ r. IsDrawn r) }
 {
     match two_words(words) {
         None => Ok(usage(alloc)?),

@@ -4,4 +4,5 @@
 mod answer;
 mod lines;
 mod reply;
+pub mod run;
 mod session;

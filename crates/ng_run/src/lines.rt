@@ -1,7 +1,7 @@
 //! The lines of refusals.
 ghost use Rattle.std.specs.Prelude.{◌≡◌, ◌++◌, codes, IfOk, OnOk};
 ghost use Rattle.std.specs.Fmt.{decimal};
-ghost use Rattle.ng_run.specs.ReplyOf.{reply_of};
+ghost use Rattle.ng_run.specs.ReplyOf.{reply_of, IsDrawn};
 ghost use Rattle.ng_run.specs.Session.{line as line_of, html_name, tpl_name, member_name, app_name, template_line as template_line_of, application_line as application_line_of};
 
 use crate::reply::Reply;
@@ -20,7 +20,8 @@ fn push_number(into: &mut Vec<u8>, n: u64) -> Result<(), AllocError>
 
 /// A reply that is one line.
 fn line_reply(status: u8, line: Vec<u8>) -> Result<Reply, AllocError>
-    ensures { IfOk result (λ r. reply_of r ≡ line_of status line.items) }
+    ensures reply { IfOk result (λ r. reply_of r ≡ line_of status line.items) }
+    ensures drawn { IfOk result (λ r. IsDrawn r) }
 {
     let mut bytes = line;
     bytes.extend_from_slice("\n".as_bytes())?;
@@ -33,7 +34,8 @@ fn line_reply(status: u8, line: Vec<u8>) -> Result<Reply, AllocError>
 
 /// A reply that is one line.
 pub(crate) fn line(alloc: Global, status: u8, text: &str) -> Result<Reply, AllocError>
-    ensures { IfOk result (λ r. reply_of r ≡ line_of status text.now) }
+    ensures reply { IfOk result (λ r. reply_of r ≡ line_of status text.now) }
+    ensures drawn { IfOk result (λ r. IsDrawn r) }
 {
     let mut bytes = Vec::new(alloc);
     bytes.extend_from_slice(text.as_bytes())?;
@@ -42,7 +44,8 @@ pub(crate) fn line(alloc: Global, status: u8, text: &str) -> Result<Reply, Alloc
 
 /// A reply that is one line with a length at its end.
 pub(crate) fn long_line(alloc: Global, word: &str, length: u64) -> Result<Reply, AllocError>
-    ensures { IfOk result (λ r. reply_of r ≡ line_of 9 (word.now ++ decimal length)) }
+    ensures reply { IfOk result (λ r. reply_of r ≡ line_of 9 (word.now ++ decimal length)) }
+    ensures drawn { IfOk result (λ r. IsDrawn r) }
 {
     let mut bytes = Vec::new(alloc);
     bytes.extend_from_slice(word.as_bytes())?;
@@ -126,7 +129,8 @@ fn app_word(kind: &AppKind) -> &'static str
 
 /// The line of a refused template.
 pub(crate) fn template_line(alloc: Global, place: u64, word: &str) -> Result<Reply, AllocError>
-    ensures { IfOk result (λ r. reply_of r ≡ template_line_of place word.now) }
+    ensures reply { IfOk result (λ r. reply_of r ≡ template_line_of place word.now) }
+    ensures drawn { IfOk result (λ r. IsDrawn r) }
 {
     let mut bytes = Vec::new(alloc);
     bytes.extend_from_slice("template: ".as_bytes())?;
@@ -138,7 +142,8 @@ pub(crate) fn template_line(alloc: Global, place: u64, word: &str) -> Result<Rep
 
 /// The line of a refused application.
 pub(crate) fn application_line(alloc: Global, fault: &AppFault) -> Result<Reply, AllocError>
-    ensures { IfOk result (λ r. reply_of r ≡ application_line_of fault.now) }
+    ensures reply { IfOk result (λ r. reply_of r ≡ application_line_of fault.now) }
+    ensures drawn { IfOk result (λ r. IsDrawn r) }
 {
     let mut bytes = Vec::new(alloc);
     bytes.extend_from_slice("application: ".as_bytes())?;

@@ -9,7 +9,7 @@ ghost use Rattle.ng_page.specs.Facts.{facts};
 ghost use Rattle.ng_page.specs.Free.{is_tpl_want};
 ghost use Rattle.ng_page.specs.TemplateOf.{template_of};
 ghost use Rattle.ng_page.specs.State.{started};
-ghost use Rattle.ng_run.specs.ReplyOf.{reply_of};
+ghost use Rattle.ng_run.specs.ReplyOf.{reply_of, IsDrawn};
 ghost use Rattle.ng_run.specs.Session.{session as session_of, source_then, facts_then, compiled_then, opened};
 
 use crate::lines::{application_line, html_word, template_line, tpl_word};
@@ -27,7 +27,8 @@ use std::alloc::Global;
 
 /// Opens the page and prints it.
 fn open(alloc: Global, template: Tpl, app: App) -> Result<Reply, Memory>
-    ensures { IfOk result (λ r. reply_of r ≡ opened (facts app) (template_of template) (started (facts app) (template_of template))) }
+    ensures reply { IfOk result (λ r. reply_of r ≡ opened (facts app) (template_of template) (started (facts app) (template_of template))) }
+    ensures drawn { IfOk result (λ r. IsDrawn r) }
 {
     let (page, _) = Page::start(alloc, template, app)?;
     let mut bytes = Vec::new(alloc);
@@ -50,7 +51,8 @@ fn compile_source(alloc: Global, source: Source, app: &App) -> Result<Tpl, TplFa
 
 /// What an application and a document give.
 fn session_of_app(alloc: Global, source: Source, app: App) -> Result<Reply, Memory>
-    ensures { IfOk result (λ r. reply_of r ≡ facts_then (source_of source) (Ok (facts app))) }
+    ensures reply { IfOk result (λ r. reply_of r ≡ facts_then (source_of source) (Ok (facts app))) }
+    ensures drawn { IfOk result (λ r. IsDrawn r) }
 {
     match compile_source(alloc, source, &app) {
         Ok(template) => open(alloc, template, app),
@@ -63,7 +65,8 @@ fn session_of_app(alloc: Global, source: Source, app: App) -> Result<Reply, Memo
 
 /// What an application file and a document give.
 fn session_of_source(alloc: Global, source: Source, application: Vec<u8>) -> Result<Reply, Memory>
-    ensures { IfOk result (λ r. reply_of r ≡ source_then application.items (Ok (source_of source))) }
+    ensures reply { IfOk result (λ r. reply_of r ≡ source_then application.items (Ok (source_of source))) }
+    ensures drawn { IfOk result (λ r. IsDrawn r) }
 {
     match App::read(alloc, application.as_slice()) {
         Ok(app) => session_of_app(alloc, source, app),
@@ -83,7 +86,8 @@ fn read_template(alloc: Global, template: Vec<u8>) -> Result<Source, HtmlFault>
 
 /// The session of a template and an application.
 pub(crate) fn session(alloc: Global, template: Vec<u8>, application: Vec<u8>) -> Result<Reply, Memory>
-    ensures { IfOk result (λ r. reply_of r ≡ session_of template.items application.items) }
+    ensures reply { IfOk result (λ r. reply_of r ≡ session_of template.items application.items) }
+    ensures drawn { IfOk result (λ r. IsDrawn r) }
 {
     match read_template(alloc, template) {
         Ok(source) => session_of_source(alloc, source, application),

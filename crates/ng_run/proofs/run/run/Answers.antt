@@ -1,0 +1,23 @@
+use Rattle.std.proofs.Common.{◌≡◌, ap, ◌∙◌, subst}
+use Rattle.std.specs.Io.KnownBytes.{Appends}
+use Rattle.ng_run.specs.ReplyOf.{reply_of}
+use Rattle.ng_run.specs.Run.{Causes}
+use Rattle.ng_run.proofs.Causes.{reply_session, reply_page, page_settled, session_causes, long_reply}
+use Rattle.ng_run.proofs.run.run.Goals as goal
+
+pub returns-in-Ok-put_all-clause-session : goal.returns-in-Ok-put_all-clause-session
+returns-in-Ok-put_all-clause-session g c n m t a has same =
+    let e = reply_session _ _ _ _ (reply_of c.in-Ok.reply) c.in-Ok.ensures.reply t a has same in
+    (ap (λ q. q.status) e, ap (λ q. q.page) e,
+        subst (λ bytes. Appends (g.K.Sink.taken c.args.sink.now) (g.K.Sink.taken c.put_all.new.sink) bytes) (c.as_slice.ensures.value ∙ ap (λ q. q.bytes) e) c.in-Ok-put_all.ensures.all)
+
+pub returns-in-Ok-put_all-clause-causes : goal.returns-in-Ok-put_all-clause-causes
+returns-in-Ok-put_all-clause-causes g c n m t a has same =
+    let e = reply_session _ _ _ _ (reply_of c.in-Ok.reply) c.in-Ok.ensures.reply t a has same in
+    rw (ap (λ q. q.status) e) (session_causes t a)
+
+pub returns-in-Ok-put_all-clause-long_file : goal.returns-in-Ok-put_all-clause-long_file
+returns-in-Ok-put_all-clause-long_file g c has same n m = long_reply _ _ _ _ (reply_of c.in-Ok.reply) c.in-Ok.ensures.reply has same
+
+pub returns-in-Ok-put_all-clause-settled : goal.returns-in-Ok-put_all-clause-settled
+returns-in-Ok-put_all-clause-settled g c = page_settled c.in-Ok.reply.status c.in-Ok.reply.page (reply_page _ _ _ _ (reply_of c.in-Ok.reply) c.in-Ok.ensures.reply)
