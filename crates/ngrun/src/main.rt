@@ -1,4 +1,10 @@
-//! The program.
+//! The program `ngrun`: renders a template over an application's data.
+//!
+//! It makes the real shelf and sink, takes its words after the program's name, and does what `run` of `ng_run`
+//! says, whose contract is the one that counts; the exit status is the status of the run. What a file holds and
+//! what standard output shows is the trusted edge: no contract speaks of it.
+//!
+//! Nothing is decided here.
 #![tactic(auto)]
 
 use ng_base::real::{FileShelf, StdoutSink};
@@ -8,6 +14,9 @@ use std::alloc::Global;
 use std::process::ExitCode;
 use std::rt::Env;
 use std::{env, io};
+
+/// The status where memory was refused.
+const NO_MEMORY: u8 = 8;
 
 /// The words after the program's name.
 fn words(handle: &(impl Env + Alloc<A = Global>), alloc: Global) -> Option<Vec<Txt>> {
@@ -25,7 +34,9 @@ fn words(handle: &(impl Env + Alloc<A = Global>), alloc: Global) -> Option<Vec<T
 
 fn main(rt: HostRuntime) -> ExitCode {
     let alloc = rt.alloc();
-    let words = words(&rt, alloc).unwrap_or(Vec::new(alloc));
+    let Some(words) = words(&rt, alloc) else {
+        return ExitCode::from(NO_MEMORY);
+    };
     let mut shelf = FileShelf::new(alloc, &rt);
     let mut sink = StdoutSink::new(io::writer(&rt));
     let ran = run(alloc, words.as_slice(), &mut shelf, &mut sink);

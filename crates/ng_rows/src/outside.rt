@@ -1,0 +1,51 @@
+//! The edge: real files and a writer of std, and the shelf and sink that never fail.
+use ng_base::fault::ShelfFault;
+use ng_base::in_memory::{Kept, SureShelf, SureSink};
+use ng_base::outside::{LONGEST, Shelf, Sink, put_all};
+use ng_base::real::{FileShelf, StdoutSink};
+use ng_base::txt::Txt;
+use std::fs;
+
+#[test]
+fn files_are_fetched_whole_or_not_at_all(rt: HostRuntime) {
+    let alloc = rt.alloc();
+    fs::write(&rt, "short.txt", "Hi {{name}}").expect(&rt, "a file is written");
+    let mut shelf = FileShelf::new(alloc, &rt);
+    let mut bytes = Vec::new(alloc);
+    assert!(rt; shelf.fetch("short.txt", &mut bytes).is_ok());
+    assert_eq!(rt; bytes.as_slice(), "Hi {{name}}".as_bytes());
+    assert!(rt; matches!(shelf.fetch("none.txt", &mut bytes), Err(ShelfFault::Failed)));
+    assert_eq!(rt; bytes.len(), 11);
+}
+
+#[test]
+fn a_file_one_byte_too_long_is_refused_with_its_length(rt: HostRuntime) {
+    let alloc = rt.alloc();
+    let mut long = Vec::new(alloc);
+    for _ in 0..LONGEST + 1 {
+        long.push(b'a').expect(&rt, "memory");
+    }
+    let mut files = Vec::new(alloc);
+    files
+        .push(Kept {
+            name: Txt::from_str(alloc, "long").expect(&rt, "memory"),
+            bytes: long,
+        })
+        .expect(&rt, "memory");
+    let mut shelf = SureShelf::new(files);
+    let mut bytes = Vec::new(alloc);
+    assert!(rt; matches!(shelf.fetch("long", &mut bytes), Err(ShelfFault::TooLong(67_108_865))));
+    assert!(rt; shelf.fetch("none", &mut bytes).is_ok());
+    assert!(rt; bytes.is_empty());
+}
+
+#[test]
+fn sinks_take_whole_pieces(rt: HostRuntime) {
+    let alloc = rt.alloc();
+    let mut sink = StdoutSink::new(Vec::new(alloc));
+    assert!(rt; put_all(&mut sink, b"piece").is_ok());
+    assert!(rt; matches!(sink.put(b""), Ok(0)));
+    let mut sure = SureSink::new();
+    assert!(rt; put_all(&mut sure, b"piece").is_ok());
+    assert_eq!(rt; sure.pieces(), 1);
+}
