@@ -7,3 +7,4 @@ pub mod Why
 pub mod Carried
 pub mod Stop
 pub mod Fresh
+pub mod BoardKeys
