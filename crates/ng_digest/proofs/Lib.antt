@@ -8,3 +8,4 @@ pub mod Carried
 pub mod Stop
 pub mod Fresh
 pub mod BoardKeys
+pub mod Few

@@ -1,5 +1,5 @@
 -- Numbers, watchers over them, and what watchers and tasks do to both.
-use Rattle.std.specs.Prelude.{ℕ, suc, ◌+◌, ◌-◌, ◌^◌, ◌≡◌, min, Bool, true, false, not, nat_lt, nat_eq, if◌then◌else◌, Option, Some, None, List, [], ◌∷◌, ◌++◌, length, slice_get, slice_set, slice_index, remove}
+use Rattle.std.specs.Prelude.{ℕ, suc, ◌+◌, Bool, true, false, nat_lt, nat_eq, if◌then◌else◌, Option, Some, None, List, [], ◌∷◌, ◌++◌, length, slice_get, slice_set, slice_index, remove}
 use Rattle.std.specs.List.{list_any}
 use Rattle.ng_base.specs.declared.fault.Fault.{Fault}
 use Rattle.ng_base.specs.declared.fault.Fault.TheVariants.{Range}
@@ -24,8 +24,9 @@ pub record State : Type 0 where
 abbrev pub view : Board → State
 view b = record { numbers = b.numbers.items; watches = b.watches.items; bodies = b.bodies.items; tasks = b.tasks.items; told = b.told.items; failed = b.failed.items; handed = b.handed; added = b.added }
 
-abbrev pub empty : State
-empty = record { numbers = []; watches = []; bodies = []; tasks = []; told = []; failed = []; handed = None; added = false }
+-- numbers, watchers and bodies before anything ran
+abbrev pub set_up : List ℕ → List Watch → List Body → State
+set_up numbers watches bodies = record { numbers = numbers; watches = watches; bodies = bodies; tasks = []; told = []; failed = []; handed = None; added = false }
 
 -- a state, and the fault that was met
 pub record Ran : Type 0 where

@@ -1,13 +1,12 @@
 -- A board meets what the early stop rests on.
-use Rattle.std.proofs.Common.{◌≡◌, ◌≢◌, ◌<◌, ◌≤◌, ◌+◌, ℕ, zero, suc, Bool, true, false, refl, sym, ap, ◌∙◌, subst, arith, Option, Some, None, List, [], ◌∷◌, ◌++◌, cond, length, length-append, ◌||◌, nat_eq, nat_lt, eq-eqb, eqb-true}
+use Rattle.std.proofs.Common.{◌≡◌, ◌≢◌, ℕ, Bool, true, false, refl, ap, arith, List, [], ◌∷◌, ◌++◌, cond, length, length-append, ◌||◌, nat_eq, nat_lt, eq-eqb, eqb-true}
 use Rattle.std.specs.List.{list_any}
-use Rattle.std.specs.Ordering.{nat_cmp, is_lt}
 use Rattle.std.specs.declared.cmp.Ordering.TheVariants.{Less, Equal, Greater}
 use Rattle.std.proofs.lemmas.Cmp.{nat_cmp_total}
 use Rattle.ng_base.specs.declared.fault.Fault.TheVariants.{Range}
 use Rattle.ng_digest.specs.Machine.{Verdict, found_clean, found_dirty, found_faulted}
 use Rattle.ng_digest.specs.Laws.{HasLaws}
-use Rattle.ng_digest.specs.Board.{State, verdict, tested, is_told, is_quiet, hand_over, waits, unset}
+use Rattle.ng_digest.specs.Board.{State, verdict, tested, is_told, is_quiet, hand_over}
 use Rattle.ng_digest.specs.Sheet.{board_machine}
 
 -- the state after a fault that is handed over

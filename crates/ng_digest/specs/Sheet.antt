@@ -1,5 +1,5 @@
 -- A board as a world.
-use Rattle.std.specs.Prelude.{ℕ, Option, None, []}
+use Rattle.std.specs.Prelude.{ℕ, None, []}
 use Rattle.std.specs.Ordering.{nat_cmp}
 use Rattle.ng_digest.specs.declared.sheet.Sheet.{Sheet}
 use Rattle.ng_digest.specs.Machine.{Machine}

@@ -1,6 +1,6 @@
 //! Numbers, watchers over them, and the acts that watchers and tasks do to both.
 ghost use Rattle.std.specs.Prelude.{◌≡◌, IfOk};
-ghost use Rattle.ng_digest.specs.Board.{Ran, view, act, empty};
+ghost use Rattle.ng_digest.specs.Board.{Ran, view, act, set_up};
 
 use ng_base::fault::{Fault, Memory};
 use std::alloc::Global;
@@ -60,20 +60,25 @@ pub struct Board {
 }
 
 impl Board {
-    /// A board without numbers, watchers and bodies.
-    pub fn new(alloc: Global) -> Board
-        ensures { view result ≡ empty }
+    /// A board with these numbers, watchers and bodies, at which no task waits.
+    pub fn of(
+        alloc: Global,
+        numbers: &[u64],
+        watches: &[Watch],
+        bodies: &[Body],
+    ) -> Result<Board, Memory>
+        ensures { IfOk result (λ board. view board ≡ set_up numbers.now watches.now bodies.now) }
     {
-        Board {
-            numbers: Vec::new(alloc),
-            watches: Vec::new(alloc),
-            bodies: Vec::new(alloc),
+        Ok(Board {
+            numbers: numbers.to_vec(alloc)?,
+            watches: watches.to_vec(alloc)?,
+            bodies: bodies.to_vec(alloc)?,
             tasks: Vec::new(alloc),
             told: Vec::new(alloc),
             failed: Vec::new(alloc),
             handed: None,
             added: false,
-        }
+        })
     }
 }
 

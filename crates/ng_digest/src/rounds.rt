@@ -246,7 +246,7 @@ pub fn digest<W: World>(w: &mut W) -> Result<Report, DigestFault>
     requires forgotten { (W.moves.at w.old).remembered ≡ None }
     ensures short { Digests W.moves.machine (W.moves.at w.old) result (W.moves.at w.new) }
     ensures plain { Unless result (PlainDigests W.moves.machine (W.moves.at w.old).state (plain_answer result) (plain_of (W.moves.at w.new))) }
-    ensures fresh { OnSettled result (IsFresh W.moves.machine (W.moves.at w.new).state) }
+    ensures fresh { OnSettled result (λ tests. IsFresh W.moves.machine tests (W.moves.at w.new).state) }
     ensures infdig { Unless result (result ≡ Err Infdig ↔ (W.moves.at w.new).log.dirty_rounds ≡ 11) }
     ensures fire_limit { Unless result (result ≡ Err FireLimit ↔ IsOverFires (W.moves.at w.new)) }
     ensures async_limit { Unless result (result ≡ Err AsyncLimit ↔ IsOverTasks W.moves.machine (W.moves.at w.new)) }

@@ -6,7 +6,7 @@ ghost use Rattle.ng_digest.specs.declared.world.Stage.TheVariants.{Between};
 ghost use Rattle.ng_digest.specs.Log.{zero_log};
 ghost use Rattle.ng_digest.specs.Machine.{Verdict, verdict_at, next_key};
 ghost use Rattle.ng_digest.specs.Place.{Answers, OnTested, Moves, Place, state_tested, stage_tested};
-ghost use Rattle.ng_digest.specs.Board.{State, view, empty, live_from};
+ghost use Rattle.ng_digest.specs.Board.{State, view, live_from};
 ghost use Rattle.ng_digest.specs.Sheet.{sheet_moves, place_of, board_machine, readied};
 ghost use Rattle.ng_digest.specs.Causes.{Unless};
 ghost use Rattle.ng_digest.specs.Plain.{PlainDigests};
@@ -19,8 +19,6 @@ use crate::rounds::{DigestFault, digest};
 use crate::watches;
 use crate::world::{Stage, Tested, World};
 use ng_base::fault::{Fault, Memory};
-use std::alloc::Global;
-
 /// A board, and where a digest over it stands.
 #[derive(Debug, Drop)]
 pub struct Sheet {
@@ -65,12 +63,12 @@ fn stage_after(same: bool, tested: Tested) -> Stage
 }
 
 impl Sheet {
-    /// A sheet without numbers, watchers and bodies.
-    pub fn new(alloc: Global) -> Sheet
-        ensures { place_of result ≡ record { state = empty; cursor = None; remembered = None; log = zero_log; stage = Between } }
+    /// A sheet over a board, ready for a digest.
+    pub fn new(board: Board) -> Sheet
+        ensures { place_of result ≡ record { state = view board; cursor = None; remembered = None; log = zero_log; stage = Between } }
     {
         Sheet {
-            board: Board::new(alloc),
+            board,
             cursor: None,
             remembered: None,
             stage: Stage::Between,
@@ -154,15 +152,10 @@ impl World for Sheet {
     }
 
     fn fire(&mut self) -> Result<(), Memory> {
-        match self.cursor {
-            None => {
-                self.remembered = None;
-            }
-            Some(key) => {
-                watches::fire(&mut self.board, key)?;
-                self.remembered = if self.board.added { None } else { Some(key) };
-            }
+        if let Some(key) = self.cursor {
+            watches::fire(&mut self.board, key)?;
         }
+        self.remembered = if self.board.added { None } else { self.cursor };
         self.stage = Stage::Passed;
         self.log.count_fire();
         Ok(())

@@ -1,4 +1,4 @@
-use Rattle.std.proofs.Common.{◌≡◌, ◌∙◌, sym, ap}
+use Rattle.std.proofs.Common.{◌∙◌, sym, ap}
 use Rattle.ng_digest.specs.Board.{view}
 use Rattle.ng_digest.specs.Machine.{next_key}
 use Rattle.ng_digest.specs.Sheet.{board_machine}
