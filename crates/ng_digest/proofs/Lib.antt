@@ -9,3 +9,4 @@ pub mod Stop
 pub mod Fresh
 pub mod BoardKeys
 pub mod Few
+pub mod One
