@@ -1,5 +1,6 @@
 //! Numbers, watchers over them, and the acts that watchers and tasks do to both.
-ghost use Rattle.std.specs.Prelude.{◌≡◌, IfOk};
+ghost use Rattle.std.specs.Prelude.{◌≡◌, IfOk, IfErr};
+ghost use Rattle.ng_base.specs.declared.fault.Memory.TheVariants.{Refused};
 ghost use Rattle.ng_digest.specs.Board.{Ran, view, act, set_up};
 
 use ng_base::fault::{Fault, Memory};
@@ -67,7 +68,8 @@ impl Board {
         watches: &[Watch],
         bodies: &[Body],
     ) -> Result<Board, Memory>
-        ensures { IfOk result (λ board. view board ≡ set_up numbers.now watches.now bodies.now) }
+        ensures done { IfOk result (λ board. view board ≡ set_up numbers.now watches.now bodies.now) }
+        ensures refused { IfErr result (λ e. e ≡ Refused) }
     {
         Ok(Board {
             numbers: numbers.to_vec(alloc)?,
@@ -158,7 +160,8 @@ fn remove(board: &mut Board, key: usize) -> Option<Fault>
 
 /// Does an act, and tells the fault that it met.
 pub fn do_act(board: &mut Board, done: Act) -> Result<Option<Fault>, Memory>
-    ensures { IfOk result (λ fault. act done (view board.old) ≡ record { state = view board.new; fault = fault }) }
+    ensures done { IfOk result (λ fault. act done (view board.old) ≡ record { state = view board.new; fault = fault }) }
+    ensures refused { IfErr result (λ e. e ≡ Refused) }
 {
     match done {
         Act::Rest => Ok(None),

@@ -1,5 +1,6 @@
 //! What a test, a fire and a task do to a board.
-ghost use Rattle.std.specs.Prelude.{◌≡◌, ◌<◌, ◌+◌, IfOk, OnOk, length, drop, slice_get};
+ghost use Rattle.std.specs.Prelude.{◌≡◌, ◌<◌, ◌+◌, IfOk, IfErr, OnOk, length, drop, slice_get};
+ghost use Rattle.ng_base.specs.declared.fault.Memory.TheVariants.{Refused};
 ghost use Rattle.ng_digest.specs.Board.{Ran, view, run_body, run_at, verdict, tell, tested, hand_over, mark, marked, keep, fired, ran, waits, unset, unset_found, unset_each, first_live};
 ghost use Rattle.ng_digest.specs.Machine.{found_faulted};
 ghost use Rattle.ng_digest.specs.Place.{Answers, OnTested};
@@ -10,7 +11,8 @@ use ng_base::fault::{Fault, Memory};
 
 /// Does a body's acts in order, up to one that faults.
 fn run_body(board: &mut Board, body: Body) -> Result<Option<Fault>, Memory>
-    ensures { IfOk result (λ fault. run_body body (view board.old) ≡ record { state = view board.new; fault = fault }) }
+    ensures done { IfOk result (λ fault. run_body body (view board.old) ≡ record { state = view board.new; fault = fault }) }
+    ensures refused { IfErr result (λ e. e ≡ Refused) }
 {
     if let Some(fault) = do_act(board, body.first)? {
         return Ok(Some(fault));
@@ -23,7 +25,8 @@ fn run_body(board: &mut Board, body: Body) -> Result<Option<Fault>, Memory>
 
 /// Does the body of a place.
 fn run_at(board: &mut Board, place: usize) -> Result<Option<Fault>, Memory>
-    ensures { IfOk result (λ fault. run_at place (view board.old) ≡ record { state = view board.new; fault = fault }) }
+    ensures done { IfOk result (λ fault. run_at place (view board.old) ≡ record { state = view board.new; fault = fault }) }
+    ensures refused { IfErr result (λ e. e ≡ Refused) }
 {
     match board.bodies.get(place) {
         None => Ok(Some(Fault::Range)),
@@ -87,7 +90,8 @@ pub fn test(board: &mut Board, key: usize) -> Tested
 
 /// Marks a watcher whose fire faulted, and hands the fault over.
 fn mark(board: &mut Board, key: usize, fault: Option<Fault>) -> Result<(), Memory>
-    ensures { OnOk result (view board.new ≡ mark key fault (view board.old)) }
+    ensures done { OnOk result (view board.new ≡ mark key fault (view board.old)) }
+    ensures refused { IfErr result (λ e. e ≡ Refused) }
 {
     match fault {
         None => Ok(()),
@@ -102,7 +106,8 @@ fn mark(board: &mut Board, key: usize, fault: Option<Fault>) -> Result<(), Memor
 /// Keeps the number now, and runs the body.
 fn keep_and_run(board: &mut Board, key: usize, watch: Watch, number: u64) -> Result<(), Memory>
     requires { key < length board.old.watches.items }
-    ensures { OnOk result (view board.new ≡ marked key (run_at watch.body (keep key watch number (view board.old)))) }
+    ensures done { OnOk result (view board.new ≡ marked key (run_at watch.body (keep key watch number (view board.old)))) }
+    ensures refused { IfErr result (λ e. e ≡ Refused) }
 {
     board.watches[key] = Watch {
         kept: Some(number),
@@ -115,7 +120,8 @@ fn keep_and_run(board: &mut Board, key: usize, watch: Watch, number: u64) -> Res
 
 /// Fires the watcher of a key.
 pub fn fire(board: &mut Board, key: usize) -> Result<(), Memory>
-    ensures { OnOk result (view board.new ≡ fired (view board.old) key) }
+    ensures done { OnOk result (view board.new ≡ fired (view board.old) key) }
+    ensures refused { IfErr result (λ e. e ≡ Refused) }
 {
     let watch = match board.watches.get(key) {
         None => return Ok(()),
@@ -134,6 +140,7 @@ pub fn fire(board: &mut Board, key: usize) -> Result<(), Memory>
 pub fn run_task(board: &mut Board) -> Result<bool, Memory>
     ensures answer { IfOk result (λ some. some ≡ waits (view board.old)) }
     ensures state { OnOk result (view board.new ≡ ran (view board.old)) }
+    ensures refused { IfErr result (λ e. e ≡ Refused) }
 {
     if board.tasks.is_empty() {
         return Ok(false);
