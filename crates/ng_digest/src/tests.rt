@@ -8,6 +8,7 @@ use crate::watches;
 use crate::world::Tested;
 use ng_base::fault::{Fault, Memory};
 use std::alloc::Global;
+use std::process::Abort;
 use std::test::Fail;
 
 const QUIET: Body = Body {
@@ -152,48 +153,67 @@ fn fires_end_at_a_million(rt: HostRuntime) -> Result<(), Fail> {
     Ok(())
 }
 
-/// A digest that walks every round to its end.
-fn plain(board: &mut Board) -> Result<(u32, u32, u32), DigestFault> {
+/// Runs the tasks that wait, counted on from those that ran before.
+fn plain_tasks(board: &mut Board, ran: u32) -> Result<u32, DigestFault> {
+    let mut tasks = ran;
+    for _ in 0..10_001 {
+        if board.tasks.is_empty() {
+            break;
+        }
+        if tasks >= 10_000 {
+            return Err(DigestFault::AsyncLimit);
+        }
+        watches::run_task(board).map_err(DigestFault::Memory)?;
+        tasks = tasks.saturating_add(1);
+    }
+    Ok(tasks)
+}
+
+/// Tests each watcher once, and fires those that are dirty. Answers the fires and the tests.
+fn plain_walk(board: &mut Board) -> Result<(u32, u32), DigestFault> {
     let mut fires: u32 = 0;
     let mut tests: u32 = 0;
-    let mut tasks: u32 = 0;
-    for round in 1..12u32 {
-        for _ in 0..10_001 {
-            if board.tasks.is_empty() {
-                break;
-            }
-            if tasks >= 10_000 {
-                watches::unset_failed(board);
-                return Err(DigestFault::AsyncLimit);
-            }
-            watches::run_task(board).map_err(DigestFault::Memory)?;
-            tasks += 1;
+    for key in 0..board.watches.len() {
+        if !is_live(board, key) {
+            continue;
         }
-        let before = fires;
-        for key in 0..board.watches.len() {
-            if !is_live(board, key) {
-                continue;
+        tests = tests.saturating_add(1);
+        match watches::test(board, key) {
+            Tested::Dirty => {
+                watches::fire(board, key).map_err(DigestFault::Memory)?;
+                fires = fires.saturating_add(1);
             }
-            tests = tests.saturating_add(1);
-            match watches::test(board, key) {
-                Tested::Dirty => {
-                    watches::fire(board, key).map_err(DigestFault::Memory)?;
-                    fires = fires.saturating_add(1);
-                }
-                Tested::Memory(e) => return Err(DigestFault::Memory(e)),
-                Tested::Clean | Tested::Faulted => {}
-            }
-        }
-        if before == fires && board.tasks.is_empty() {
-            watches::unset_failed(board);
-            return match board.handed {
-                None => Ok((round, fires, tests)),
-                Some((first, count)) => Err(DigestFault::Faulted { first, count }),
-            };
+            Tested::Memory(e) => return Err(DigestFault::Memory(e)),
+            Tested::Clean | Tested::Faulted => {}
         }
     }
-    watches::unset_failed(board);
+    Ok((fires, tests))
+}
+
+/// Rounds that all go to their end. Answers the rounds, fires and tests.
+fn plain_rounds(board: &mut Board) -> Result<(u32, u32, u32), DigestFault> {
+    let mut all = (0u32, 0u32);
+    let mut ran = 0;
+    for round in 1..12u32 {
+        ran = plain_tasks(board, ran)?;
+        let (fires, tests) = plain_walk(board)?;
+        all = (all.0.saturating_add(fires), all.1.saturating_add(tests));
+        if fires == 0 && board.tasks.is_empty() {
+            return Ok((round, all.0, all.1));
+        }
+    }
     Err(DigestFault::Infdig)
+}
+
+/// A digest that walks every round to its end.
+fn plain(board: &mut Board) -> Result<(u32, u32, u32), DigestFault> {
+    let rounds = plain_rounds(board);
+    watches::unset_failed(board);
+    let counts = rounds?;
+    match board.handed {
+        None => Ok(counts),
+        Some((first, count)) => Err(DigestFault::Faulted { first, count }),
+    }
 }
 
 fn is_live(board: &Board, key: usize) -> bool {
@@ -258,41 +278,53 @@ fn small_board(alloc: Global, seed: &mut u64) -> Result<Board, Memory> {
     Ok(board)
 }
 
+/// How often small sheets settled, stopped early and were given up.
+#[derive(Clone, Copy)]
+struct Seen {
+    settled: u32,
+    stopped: u32,
+    infdig: u32,
+}
+
+/// Runs one small sheet both ways.
+fn compare(rt: &impl Abort, alloc: Global, row: u64, seen: &mut Seen) -> Result<(), Memory> {
+    let mut seed = row;
+    let mut walked = small_board(alloc, &mut seed)?;
+    let mut seed = row;
+    let mut sheet = Sheet::new(small_board(alloc, &mut seed)?);
+    match (plain(&mut walked), sheet.run()) {
+        (Ok((rounds, fires, tests)), Ok(report)) => {
+            assert_eq!(rt; (rounds, fires), (report.rounds, report.fires), "at {row}");
+            seen.settled = seen.settled.saturating_add(1);
+            if report.tests < u64::from(tests) {
+                seen.stopped = seen.stopped.saturating_add(1);
+            }
+        }
+        (Err(want), Err(got)) => {
+            assert_eq!(rt; want, got, "at {row}");
+            if got == DigestFault::Infdig {
+                seen.infdig = seen.infdig.saturating_add(1);
+            }
+        }
+        (_, _) => assert!(rt; false, "at {row}"),
+    }
+    assert_eq!(rt; walked.numbers, sheet.board.numbers, "at {row}");
+    assert_eq!(rt; walked.watches, sheet.board.watches, "at {row}");
+    assert_eq!(rt; walked.tasks, sheet.board.tasks, "at {row}");
+    assert_eq!(rt; walked.handed, sheet.board.handed, "at {row}");
+    Ok(())
+}
+
 #[test]
 fn small_sheets_end_as_with_every_round_walked_to_its_end(rt: HostRuntime) -> Result<(), Fail> {
-    let mut settled: u32 = 0;
-    let mut stopped: u32 = 0;
-    let mut infdig: u32 = 0;
+    let mut seen = Seen {
+        settled: 0,
+        stopped: 0,
+        infdig: 0,
+    };
     for row in 0..400u64 {
-        let mut seed = row;
-        let mut walked = small_board(rt.alloc(), &mut seed)?;
-        let mut seed = row;
-        let mut sheet = Sheet::new(small_board(rt.alloc(), &mut seed)?);
-        let short = sheet.run();
-        match (plain(&mut walked), short) {
-            (Ok((rounds, fires, tests)), Ok(report)) => {
-                assert_eq!(rt; (rounds, fires), (report.rounds, report.fires), "at {row}");
-                settled = settled.saturating_add(1);
-                if report.tests < u64::from(tests) {
-                    stopped = stopped.saturating_add(1);
-                }
-            }
-            (Err(want), Err(got)) => {
-                assert_eq!(rt; want, got, "at {row}");
-                if got == DigestFault::Infdig {
-                    infdig = infdig.saturating_add(1);
-                }
-            }
-            (_, _) => assert!(rt; false, "at {row}"),
-        }
-        assert_eq!(rt; walked.numbers, sheet.board.numbers, "at {row}");
-        assert_eq!(rt; walked.watches, sheet.board.watches, "at {row}");
-        assert_eq!(rt; walked.tasks, sheet.board.tasks, "at {row}");
-        assert_eq!(rt; walked.handed, sheet.board.handed, "at {row}");
+        compare(&rt, rt.alloc(), row, &mut seen)?;
     }
-    assert!(rt;
-        settled > 50 && stopped > 20 && infdig > 5,
-        "{settled} {stopped} {infdig}"
-    );
+    assert!(rt; seen.settled > 50 && seen.stopped > 20 && seen.infdig > 5);
     Ok(())
 }
