@@ -1,14 +1,13 @@
 -- Each call keeps what carries the early stop.
-use Rattle.std.proofs.Common.{◌≡◌, ◌≢◌, ◌<◌, ◌≤◌, ◌+◌, ℕ, zero, suc, Bool, true, false, refl, sym, ap, ◌∙◌, subst, arith, Option, Some, None, List, [], ◌∷◌, cond, find, inl, inr, ◌⊎◌, true≢false}
+use Rattle.std.proofs.Common.{◌≡◌, ◌≢◌, ◌≤◌, ℕ, zero, suc, Bool, true, false, refl, sym, ap, ◌∙◌, subst, arith, Option, Some, None, List, [], ◌∷◌, cond, find, inl, inr, ◌⊎◌, true≢false}
 use Rattle.std.specs.Ordering.{is_lt, is_eq}
 use Rattle.std.specs.declared.cmp.Ordering.{Ordering}
 use Rattle.std.specs.declared.cmp.Ordering.TheVariants.{Less, Equal, Greater}
 use Rattle.std.specs.List.{AllByRecursion}
 use Rattle.std.specs.List.Sorted.{IsStrictlySortedBy}
 use Rattle.ng_digest.specs.Machine.{Machine, Verdict, found_clean, found_dirty, found_faulted, above, next_key, ahead, is_same}
-use Rattle.ng_digest.specs.Laws.{HasLaws}
+use Rattle.ng_digest.specs.Laws.{HasLaws, InOrder}
 use Rattle.ng_digest.specs.Place.{state_tested}
-use Rattle.ng_digest.specs.Short.{InOrder}
 use Rattle.ng_digest.specs.Plain.{Plain, with_state, PlainWalks, plain_end, plain_clean}
 use Rattle.ng_digest.specs.Early.{IsIn, IsLive, IsKnownClean, IsCarried}
 use Rattle.ng_digest.proofs.Keys.{is_less, first_passes, first_fails, above_both, not_below, fewer_ahead}
@@ -18,7 +17,7 @@ passes_at test x k ks true t e rest = subst (λ y. test y ≡ true) (first_passe
 passes_at test x k ks false t e rest = rest (first_fails test x k ks t e)
 
 -- what is found passes
-found_passes : {K : Type 0} (test : K → Bool) (k : K) (ks : List K) → find test ks ≡ Some k → test k ≡ true
+pub found_passes : {K : Type 0} (test : K → Bool) (k : K) (ks : List K) → find test ks ≡ Some k → test k ≡ true
 found_passes test k [] e = cc
 found_passes test k (x ∷ xs) e = passes_at test x k xs (test x) refl e (found_passes test k xs)
 
@@ -27,7 +26,7 @@ live_at test x k ks true t e rest = inl (first_passes test x k ks t e)
 live_at test x k ks false t e rest = inr (rest (first_fails test x k ks t e))
 
 -- what is found is in the list
-found_live : {K : Type 0} (test : K → Bool) (k : K) (ks : List K) → find test ks ≡ Some k → IsIn k ks
+pub found_live : {K : Type 0} (test : K → Bool) (k : K) (ks : List K) → find test ks ≡ Some k → IsIn k ks
 found_live test k [] e = cc
 found_live test k (x ∷ xs) e = live_at test x k xs (test x) refl e (found_live test k xs)
 
@@ -54,12 +53,12 @@ module _ {K : Type 0} (order : K → K → Ordering) (test : K → Bool) (k j : 
   least_at x xs false t s e (inr i) p rest = rest (first_fails test x k xs t e) i
 
   -- the one that is found is the least that passes
-  least : (xs : List K) → IsStrictlySortedBy order xs → find test xs ≡ Some k → IsIn j xs → test j ≡ true → (k ≡ j) ⊎ (order k j ≡ Less)
+  pub least : (xs : List K) → IsStrictlySortedBy order xs → find test xs ≡ Some k → IsIn j xs → test j ≡ true → (k ≡ j) ⊎ (order k j ≡ Less)
   unfolding IsStrictlySortedBy
   least [] s e i p = absurd i
   least (x ∷ xs) s e i p = least_at x xs (test x) refl s.0 e i p (λ f m. least xs s.1 f m p)
 
-equal : (o : Ordering) → is_eq o ≡ true → o ≡ Equal
+pub equal : (o : Ordering) → is_eq o ≡ true → o ≡ Equal
 equal Less e = cc
 equal Equal e = refl
 equal Greater e = cc

@@ -1,19 +1,18 @@
 -- What the calls of a digest leave of its counts, and where it stands after them.
-use Rattle.std.proofs.Common.{◌≡◌, ◌≢◌, ◌<◌, ◌≤◌, ◌+◌, ◌-◌, ◌^◌, min, ℕ, suc, Bool, true, false, refl, sym, ap, ◌∙◌, subst, arith, Option, Some, None, true≢false}
+use Rattle.std.proofs.Common.{◌≡◌, ◌<◌, ◌≤◌, ◌+◌, ◌-◌, ◌^◌, min, Bool, true, refl, sym, ap, ◌∙◌, arith, Option, Some, None, true≢false}
 use Rattle.ng_digest.specs.declared.log.Log.{Log}
-use Rattle.ng_digest.specs.declared.world.Stage.{Stage}
-use Rattle.ng_digest.specs.declared.world.Stage.TheVariants.{Between, Draining, AtKey, Pending, Passed, Through, Calm, Over}
+use Rattle.ng_digest.specs.declared.world.Stage.TheVariants.{Between, Draining, Pending, Calm}
 use Rattle.ng_digest.specs.declared.rounds.Found.{Found}
-use Rattle.ng_digest.specs.declared.rounds.Found.TheVariants.{Nothing, Stopped, Fireable}
+use Rattle.ng_digest.specs.declared.rounds.Found.TheVariants.{Fireable}
 use Rattle.ng_digest.specs.declared.rounds.Walked.{Walked}
 use Rattle.ng_digest.specs.declared.rounds.Walked.TheVariants as walk
 use Rattle.ng_digest.specs.declared.rounds.RoundEnd.{RoundEnd}
 use Rattle.ng_digest.specs.declared.rounds.RoundEnd.TheVariants as round
 use Rattle.ng_digest.specs.declared.rounds.End.{End}
 use Rattle.ng_digest.specs.declared.rounds.End.TheVariants.{Settled, Infdig, FireLimit, AsyncLimit}
-use Rattle.ng_digest.specs.Log.{more32, more64, with_close}
-use Rattle.ng_digest.specs.Machine.{Machine, Verdict, found_clean, found_dirty, found_faulted, next_key}
-use Rattle.ng_digest.specs.Place.{Place, begun, at_next, after_task, advanced, found, after_test, after_fire, is_remembered, is_dirty, closed, stage_closed, stage_tested}
+use Rattle.ng_digest.specs.Log.{more32, with_close}
+use Rattle.ng_digest.specs.Machine.{Machine, next_key}
+use Rattle.ng_digest.specs.Place.{Place, at_next, advanced, is_remembered, stage_closed, stage_tested}
 use Rattle.ng_digest.specs.Short.{Drains, drained, too_many, ran_one, Skips, none_above, at_remembered, at_dirty, passed_by, Walks, walked_through, walk_stopped, walk_limited, fired_one, Round, many_tasks, many_fires, closed_clean, closed_dirty, Rounds, last_is_clean, over_fires, over_tasks, eleventh_is_dirty, one_more}
 
 -- all of a log but its tests

@@ -1,14 +1,13 @@
 -- What the rounds and what came after them make of a whole digest.
-use Rattle.std.proofs.Common.{◌≡◌, sym, subst, ap, ◌∙◌, Bool, true, false, Option, Some, None, Result, Ok, Err}
-use Rattle.ng_digest.specs.declared.log.Log.{Log}
+use Rattle.std.proofs.Common.{◌≡◌, sym, subst, ◌∙◌, Bool, Result, Ok, Err}
 use Rattle.ng_digest.specs.declared.log.Report.{Report}
 use Rattle.ng_digest.specs.declared.rounds.DigestFault.{DigestFault}
 use Rattle.ng_digest.specs.declared.rounds.DigestFault.TheVariants as fault
-use Rattle.ng_digest.specs.declared.rounds.End.TheVariants.{Settled, Infdig, FireLimit, AsyncLimit}
+use Rattle.ng_digest.specs.declared.rounds.End.TheVariants.{Settled}
 use Rattle.ng_digest.specs.Log.{report_of}
 use Rattle.ng_digest.specs.Machine.{Machine}
-use Rattle.ng_digest.specs.Place.{Place, posted, given_up}
-use Rattle.ng_digest.specs.Short.{Rounds, Digests, gives_report, gives_faulted, gives_infdig, gives_fire_limit, gives_async_limit, gives_memory}
+use Rattle.ng_digest.specs.Place.{Place, posted}
+use Rattle.ng_digest.specs.Short.{Rounds, Digests, gives_report, gives_faulted, gives_memory}
 use Rattle.ng_digest.specs.Ends.{Finishes}
 
 module _ {S K : Type 0} (m : Machine S K) where

@@ -1,23 +1,21 @@
 -- Once the rounds have settled each live key is known clean.
-use Rattle.std.proofs.Common.{◌≡◌, ◌≢◌, ◌<◌, ◌≤◌, ◌+◌, ◌-◌, ◌^◌, min, ℕ, zero, suc, Bool, true, false, refl, sym, ap, ◌∙◌, subst, arith, Option, Some, None, Result, Ok, Err, is_some, nat_lt, ◌||◌, true≢false, cond}
+use Rattle.std.proofs.Common.{◌≡◌, ◌≢◌, ◌+◌, ◌-◌, ◌^◌, min, ℕ, Bool, true, false, refl, sym, subst, arith, Option, Some, None, Result, is_some, nat_lt, ◌||◌, zero-le}
 use Rattle.std.proofs.lemmas.Bool.Decides.{nat_tests}
 use Rattle.ng_digest.specs.declared.log.Report.{Report}
 use Rattle.ng_digest.specs.declared.rounds.Found.{Found}
 use Rattle.ng_digest.specs.declared.rounds.Found.TheVariants.{Nothing, Stopped, Fireable}
 use Rattle.ng_digest.specs.declared.rounds.Walked.{Walked}
-use Rattle.ng_digest.specs.declared.rounds.Walked.TheVariants as walk
-use Rattle.ng_digest.specs.declared.rounds.RoundEnd.{RoundEnd}
 use Rattle.ng_digest.specs.declared.rounds.RoundEnd.TheVariants as round
-use Rattle.ng_digest.specs.declared.rounds.End.{End}
-use Rattle.ng_digest.specs.declared.rounds.End.TheVariants.{Settled, Infdig, FireLimit, AsyncLimit}
+use Rattle.ng_digest.specs.declared.rounds.End.TheVariants.{Settled}
 use Rattle.ng_digest.specs.declared.rounds.DigestFault.{DigestFault}
 use Rattle.ng_digest.specs.Log.{zero_log}
-use Rattle.ng_digest.specs.Machine.{Machine, Verdict, found_clean, found_dirty, found_faulted, above, next_key, is_same}
-use Rattle.ng_digest.specs.Laws.{HasLaws}
-use Rattle.ng_digest.specs.Place.{Place, at_next, advanced, found, after_test, after_fire, is_remembered, is_dirty}
-use Rattle.ng_digest.specs.Short.{InOrder, Drains, Skips, none_above, at_remembered, at_dirty, passed_by, Walks, walked_through, walk_stopped, walk_limited, fired_one, IsWhole, came_to_end, cut_short, Round, many_tasks, many_fires, closed_clean, closed_dirty, Rounds, last_is_clean, over_fires, over_tasks, eleventh_is_dirty, one_more, Digests, gives_report, gives_faulted, gives_infdig, gives_fire_limit, gives_async_limit, gives_memory}
-use Rattle.ng_digest.specs.Early.{IsLive, IsKnownClean, IsCarried, IsFresh, OnSettled}
+use Rattle.ng_digest.specs.Machine.{Machine, found_dirty, above, next_key}
+use Rattle.ng_digest.specs.Laws.{HasLaws, InOrder}
+use Rattle.ng_digest.specs.Place.{Place, at_next, found, after_test, after_fire, is_remembered}
+use Rattle.ng_digest.specs.Short.{Skips, none_above, at_remembered, at_dirty, passed_by, Walks, walked_through, walk_stopped, walk_limited, fired_one, IsWhole, Round, closed_clean, Rounds, last_is_clean, one_more, Digests, gives_report, gives_faulted, gives_infdig, gives_fire_limit, gives_async_limit, gives_memory}
+use Rattle.ng_digest.specs.Early.{IsLive, IsKnownClean, IsFresh, OnSettled}
 use Rattle.ng_digest.proofs.Carried.{tested_is, known_passed, none_passes, carried_stop, was_live}
+use Rattle.ng_digest.proofs.Few.{rounds_few, at_start_few}
 use Rattle.ng_digest.proofs.Stop.{Carries, CarriesOn, drains_plain, skips_plain, round_plain, forgotten, clean_then}
 
 not_fired : (n : ℕ) (w : Bool) → (nat_lt 0 n || w) ≡ false → n ≡ 0
@@ -80,10 +78,10 @@ module _ {S K : Type 0} (m : Machine S K) (laws : HasLaws m) where
   rounds_known (last_is_clean d) c = quiet_known d c
   rounds_known (one_more d h rest) c = rounds_known rest (round_plain m laws d c).1
 
-  pub digest_fresh : {p q : Place S K} {r : Result Report DigestFault} → Digests m p r q → p.remembered ≡ None → OnSettled r (IsFresh m q.state)
-  digest_fresh {p = p} (gives_report {q = x} d h) f = (x.state, refl, rounds_known d (forgotten m laws p f))
-  digest_fresh {p = p} (gives_faulted {q = x} d h) f = (x.state, refl, rounds_known d (forgotten m laws p f))
-  digest_fresh (gives_infdig d) f = tt
-  digest_fresh (gives_fire_limit d) f = tt
-  digest_fresh (gives_async_limit d) f = tt
-  digest_fresh gives_memory f = tt
+  pub digest_fresh : {p q : Place S K} {r : Result Report DigestFault} → Digests m p r q → p.remembered ≡ None → p.log ≡ zero_log → OnSettled r (λ tests. IsFresh m tests q.state)
+  digest_fresh {p = p} (gives_report {q = x} {cut = cut} d h) f z = (x.state, refl, rounds_known d (forgotten m laws p f), rounds_few m laws d (at_start_few m laws p f))
+  digest_fresh {p = p} (gives_faulted {q = x} d h) f z = (x.state, refl, rounds_known d (forgotten m laws p f), zero-le)
+  digest_fresh (gives_infdig d) f z = tt
+  digest_fresh (gives_fire_limit d) f z = tt
+  digest_fresh (gives_async_limit d) f z = tt
+  digest_fresh gives_memory f z = tt

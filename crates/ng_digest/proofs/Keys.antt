@@ -1,5 +1,5 @@
 -- The live keys in their order: each advance leaves one key less above the cursor.
-use Rattle.std.proofs.Common.{◌≡◌, ◌≢◌, ◌<◌, ◌≤◌, ◌+◌, ℕ, suc, Bool, true, false, refl, sym, ap, ◌∙◌, subst, arith, Option, Some, None, List, [], ◌∷◌, cond, filter, find, length, is_some, inl, inr, ◌⊎◌, true≢false}
+use Rattle.std.proofs.Common.{◌≡◌, ◌≢◌, ◌<◌, ◌+◌, ◌↔◌, suc, Bool, true, false, refl, sym, ap, ◌∙◌, subst, arith, Option, Some, None, List, [], ◌∷◌, cond, filter, find, length, is_some}
 use Rattle.std.specs.Cmp.{IsTotalOrder, tied_itself}
 use Rattle.std.specs.Ordering.{is_lt, ordering_reverse}
 use Rattle.std.specs.declared.cmp.Ordering.{Ordering}
@@ -77,10 +77,32 @@ module _ {S K : Type 0} (m : Machine S K) (t : IsTotalOrder m.order) where
       ∙ sym (ap (λ l. suc (length l)) (filter_fails (above m (Some k)) x xs (not_back x k less)))
 
   -- the key that the cursor comes to is the one that is no longer above it
-  one_less : (c : Option K) (k : K) (ks : List K) → IsStrictlySortedBy m.order ks → find (above m c) ks ≡ Some k → length (filter (above m c) ks) ≡ suc (length (filter (above m (Some k)) ks))
+  pub one_less : (c : Option K) (k : K) (ks : List K) → IsStrictlySortedBy m.order ks → find (above m c) ks ≡ Some k → length (filter (above m c) ks) ≡ suc (length (filter (above m (Some k)) ks))
   unfolding IsStrictlySortedBy
   one_less c k [] s e = cc
   one_less c k (x ∷ xs) s e = one_less_at c x k xs (above m c x) refl s.0 e (one_less c k xs s.1)
+
+  pub falls : (s : S) (c : Option K) (k : K) → IsStrictlySortedBy m.order (m.keys s) → next_key m s c ≡ Some k → ahead m s c ≡ ahead m s (Some k) + 1
+  falls s c k sorted e = let h = one_less c k (m.keys s) sorted e in omega (arith, h)
+
+  none_ahead : (c : Option K) (ks : List K) → find (above m c) ks ≡ None → length (filter (above m c) ks) ≡ 0
+  none_ahead c [] e = refl
+  none_ahead c (x ∷ xs) e = none_ahead_at (above m c x) refl (none_ahead c xs)
+    where
+      none_ahead_at : (b : Bool) → above m c x ≡ b → (find (above m c) xs ≡ None → length (filter (above m c) xs) ≡ 0) → length (filter (above m c) (x ∷ xs)) ≡ 0
+      none_ahead_at true t rest = let h : Some x ≡ None = sym (ap (λ b. cond b (Some x) (find (above m c) xs)) t) ∙ e in cc
+      none_ahead_at false t rest = ap length (filter_fails (above m c) x xs t) ∙ rest (sym (ap (λ b. cond b (Some x) (find (above m c) xs)) t) ∙ e)
+
+  ahead_none : (c : Option K) (ks : List K) → length (filter (above m c) ks) ≡ 0 → find (above m c) ks ≡ None
+  ahead_none c [] e = refl
+  ahead_none c (x ∷ xs) e = ahead_none_at (above m c x) refl (ahead_none c xs)
+    where
+      ahead_none_at : (b : Bool) → above m c x ≡ b → (length (filter (above m c) xs) ≡ 0 → find (above m c) xs ≡ None) → find (above m c) (x ∷ xs) ≡ None
+      ahead_none_at true t rest = let h : length (x ∷ filter (above m c) xs) ≡ 0 = sym (ap length (filter_passes (above m c) x xs t)) ∙ e in absurd (omega arith)
+      ahead_none_at false t rest = ap (λ b. cond b (Some x) (find (above m c) xs)) t ∙ rest (sym (ap length (filter_fails (above m c) x xs t)) ∙ e)
+
+  pub none_where : (s : S) (c : Option K) → next_key m s c ≡ None ↔ ahead m s c ≡ 0
+  none_where s c = (none_ahead c (m.keys s), ahead_none c (m.keys s))
 
   pub fewer_ahead : (s : S) (c : Option K) (k : K) → IsStrictlySortedBy m.order (m.keys s) → next_key m s c ≡ Some k → ahead m s (Some k) < ahead m s c
   fewer_ahead s c k sorted e = let h = one_less c k (m.keys s) sorted e in omega (arith, h)

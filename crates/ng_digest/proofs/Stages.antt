@@ -1,5 +1,5 @@
 -- Where a world stands after each call.
-use Rattle.std.proofs.Common.{refl, ◌≡◌, ◌≢◌, ◌⊎◌, inl, inr, Bool, true, false, sym, subst, ap, ◌∙◌, Option, Some, None, is_some}
+use Rattle.std.proofs.Common.{refl, ◌≡◌, ◌≢◌, ◌⊎◌, inl, inr, Bool, true, false, sym, subst, ap, ◌∙◌}
 use Rattle.ng_digest.specs.Machine.{Machine, Verdict, found_clean, found_dirty, found_faulted}
 use Rattle.ng_digest.specs.Place.{Place, MayAdvance, after_task, stage_tested, Answers}
 use Rattle.ng_digest.specs.declared.world.Tested.{Tested}

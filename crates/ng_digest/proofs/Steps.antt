@@ -1,13 +1,14 @@
 -- What a walk did, from what its calls ensure.
-use Rattle.std.proofs.Common.{refl, ◌≡◌, ◌≢◌, ◌⊎◌, inl, inr, Bool, true, false, sym, subst, ap, ◌∙◌, Option, Some, None, is_some}
-use Rattle.ng_digest.specs.Machine.{Machine, Verdict, found_clean, found_dirty, found_faulted, next_key}
-use Rattle.ng_digest.specs.Place.{Place, MayAdvance, advanced, at_next, after_test, after_fire, is_remembered, found, stage_tested, Answers, OnTested}
+use Rattle.std.proofs.Common.{refl, ◌≡◌, ◌≢◌, ◌⊎◌, inl, inr, true, false, sym, subst, ap, ◌∙◌, Option, Some, None, is_some}
+use Rattle.ng_digest.specs.Machine.{Machine, found_dirty, next_key}
+use Rattle.ng_digest.specs.Laws.{InOrder}
+use Rattle.ng_digest.specs.Place.{Place, advanced, at_next, after_test, is_remembered, found, stage_tested, OnTested}
 use Rattle.ng_digest.specs.declared.rounds.Found.{Found}
 use Rattle.ng_digest.specs.declared.rounds.Found.TheVariants.{Nothing, Stopped, Fireable}
 use Rattle.ng_digest.specs.declared.world.Tested.{Tested}
 use Rattle.ng_digest.specs.declared.world.Tested.TheVariants.{Clean, Faulted}
 use Rattle.ng_digest.specs.declared.world.Stage.TheVariants.{Passed, Through, Pending}
-use Rattle.ng_digest.specs.Short.{has_more, InOrder, Skips, none_above, at_remembered, at_dirty, passed_by}
+use Rattle.ng_digest.specs.Short.{has_more, Skips, none_above, at_remembered, at_dirty, passed_by}
 use Rattle.ng_digest.proofs.Stages.{passed_after, through_after}
 
 pub was_tested : (t : Tested) (P : Type 0) → (t ≡ Clean) ⊎ (t ≡ Faulted) → OnTested t P → P

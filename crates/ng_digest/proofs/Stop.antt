@@ -1,5 +1,5 @@
 -- The short digest ends where the plain one does.
-use Rattle.std.proofs.Common.{◌≡◌, ◌≢◌, ◌<◌, ◌≤◌, ◌+◌, ℕ, Bool, true, false, refl, sym, ap, ◌∙◌, subst, Option, Some, None, Result, Ok, Err, is_some, cond}
+use Rattle.std.proofs.Common.{◌≡◌, ◌≢◌, ◌<◌, ◌≤◌, Bool, true, false, refl, sym, ap, subst, Option, Some, None, Result, is_some}
 use Rattle.std.specs.List.Sorted.{IsStrictlySortedBy}
 use Rattle.ng_digest.specs.declared.log.Report.{Report}
 use Rattle.ng_digest.specs.declared.rounds.Found.{Found}
@@ -12,11 +12,11 @@ use Rattle.ng_digest.specs.declared.rounds.End.{End}
 use Rattle.ng_digest.specs.declared.rounds.End.TheVariants.{Settled, Infdig, FireLimit, AsyncLimit}
 use Rattle.ng_digest.specs.declared.rounds.DigestFault.{DigestFault}
 use Rattle.ng_digest.specs.Log.{zero_log, with_close}
-use Rattle.ng_digest.specs.Machine.{Machine, Verdict, found_clean, found_dirty, found_faulted, next_key, adds_at, fired_at}
-use Rattle.ng_digest.specs.Laws.{HasLaws}
-use Rattle.ng_digest.specs.Place.{Place, at_next, advanced, found, state_tested, after_task, after_test, after_fire, is_remembered, closed, stage_closed}
+use Rattle.ng_digest.specs.Machine.{Machine, found_dirty, next_key}
+use Rattle.ng_digest.specs.Laws.{HasLaws, InOrder}
+use Rattle.ng_digest.specs.Place.{Place, at_next, advanced, found, state_tested, after_test, after_fire, is_remembered, stage_closed}
 use Rattle.ng_digest.specs.Causes.{Unless}
-use Rattle.ng_digest.specs.Short.{InOrder, Drains, drained, too_many, ran_one, Skips, none_above, at_remembered, at_dirty, passed_by, Walks, walked_through, walk_stopped, walk_limited, fired_one, IsWhole, came_to_end, cut_short, Round, many_tasks, many_fires, closed_clean, closed_dirty, Rounds, last_is_clean, over_fires, over_tasks, eleventh_is_dirty, one_more, Digests, gives_report, gives_faulted, gives_infdig, gives_fire_limit, gives_async_limit, gives_memory}
+use Rattle.ng_digest.specs.Short.{Drains, drained, too_many, ran_one, Skips, none_above, at_remembered, at_dirty, passed_by, Walks, walked_through, walk_stopped, walk_limited, fired_one, IsWhole, came_to_end, cut_short, Round, many_tasks, many_fires, closed_clean, closed_dirty, Rounds, last_is_clean, over_fires, over_tasks, eleventh_is_dirty, one_more, Digests, gives_report, gives_faulted, gives_infdig, gives_fire_limit, gives_async_limit, gives_memory}
 use Rattle.ng_digest.specs.Plain.{Plain, at_first, with_state, PlainDrains, plain_drained, plain_too_many, plain_ran, PlainWalks, plain_end, plain_clean, plain_limit, plain_dirty, PlainRound, plain_many_tasks, plain_many_fires, plain_quiet, plain_busy, PlainRounds, plain_last, plain_over_fires, plain_over_tasks, plain_eleventh, plain_more, PlainDigests, plain_ok, plain_faulted, plain_infdig, plain_fire_limit, plain_async_limit}
 use Rattle.ng_digest.specs.Early.{IsCarried, plain_of, plain_answer}
 use Rattle.ng_digest.proofs.Carried.{tested_is, carried_clean, carried_end, carried_fire, carried_stop, carried_on, quiet_walk}

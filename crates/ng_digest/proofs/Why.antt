@@ -1,18 +1,14 @@
 -- Each answer of a digest exactly by its cause.
-use Rattle.std.proofs.Common.{◌≡◌, ◌≢◌, ◌<◌, ◌≤◌, ◌↔◌, ℕ, Bool, true, false, refl, sym, ap, ◌∙◌, subst, arith, Option, Some, None, Result, Ok, Err, IsOk, IfOk, unwrap_or}
+use Rattle.std.proofs.Common.{◌≡◌, ◌↔◌, ℕ, refl, sym, ap, ◌∙◌, arith, Some, None, Result, Err, IsOk, IfOk, unwrap_or}
 use Rattle.ng_base.specs.declared.fault.Fault.{Fault}
-use Rattle.ng_digest.specs.declared.log.Log.{Log}
 use Rattle.ng_digest.specs.declared.log.Report.{Report}
 use Rattle.ng_digest.specs.declared.rounds.DigestFault.{DigestFault}
 use Rattle.ng_digest.specs.declared.rounds.DigestFault.TheVariants as fault
 use Rattle.ng_digest.specs.declared.rounds.End.{End}
-use Rattle.ng_digest.specs.declared.rounds.End.TheVariants.{Settled, Infdig, FireLimit, AsyncLimit}
-use Rattle.ng_digest.specs.declared.world.Stage.{Stage}
-use Rattle.ng_digest.specs.declared.world.Stage.TheVariants.{Between, Draining, AtKey, Pending, Passed, Through, Calm, Over}
 use Rattle.ng_digest.specs.Log.{zero_log}
 use Rattle.ng_digest.specs.Machine.{Machine}
 use Rattle.ng_digest.specs.Laws.{HasLaws}
-use Rattle.ng_digest.specs.Place.{Place, posted, given_up}
+use Rattle.ng_digest.specs.Place.{Place}
 use Rattle.ng_digest.specs.Causes.{Unless, IsOverFires, IsOverTasks, HasSettled, IsReport}
 use Rattle.ng_digest.specs.Short.{Rounds, Digests, gives_report, gives_faulted, gives_infdig, gives_fire_limit, gives_async_limit, gives_memory}
 use Rattle.ng_digest.proofs.Counts.{Went, what_went}

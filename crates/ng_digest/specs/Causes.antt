@@ -1,5 +1,5 @@
 -- The causes of a digest's answers, by the log and by where the world stands then.
-use Rattle.std.specs.Prelude.{ℕ, ◌≡◌, Bool, true, false, Option, Some, None, Result, Ok, Err}
+use Rattle.std.specs.Prelude.{ℕ, ◌≡◌, true, Option, Result, Err}
 use Rattle.ng_base.specs.declared.fault.Fault.{Fault}
 use Rattle.ng_digest.specs.declared.log.Log.{Log}
 use Rattle.ng_digest.specs.declared.log.Report.{Report}

@@ -1,5 +1,5 @@
 -- What carries the early stop from call to call.
-use Rattle.std.specs.Prelude.{ℕ, ◌≡◌, ◌≢◌, ◌⊎◌, Bool, true, false, Option, Some, None, List, [], ◌∷◌, Result, Ok, Err}
+use Rattle.std.specs.Prelude.{ℕ, ◌≤◌, length, ◌≡◌, ◌≢◌, ◌⊎◌, true, false, Option, Some, None, List, [], ◌∷◌, Result, Ok, Err}
 use Rattle.ng_digest.specs.declared.log.Report.{Report}
 use Rattle.ng_digest.specs.declared.rounds.DigestFault.{DigestFault}
 use Rattle.ng_digest.specs.declared.rounds.DigestFault.TheVariants as fault
@@ -34,12 +34,13 @@ abbrev pub plain_answer : Result Report DigestFault → Result (ℕ × ℕ) Dige
 plain_answer (Ok r) = Ok (r.rounds, r.fires)
 plain_answer (Err e) = Err e
 
--- what was done once the rounds had settled began in a state in which each live key was known clean
-abbrev pub IsFresh : {S K : Type 0} → Machine S K → S → Type 0
-IsFresh m t = (s : _) × (t ≡ m.settled s) × ((k : _) → IsLive m s k → IsKnownClean m s k)
+-- What was done once the rounds had settled began in a state in which each live key was known clean, and which had at
+-- least so many live keys
+abbrev pub IsFresh : {S K : Type 0} → Machine S K → ℕ → S → Type 0
+IsFresh m tests t = (s : _) × (t ≡ m.settled s) × ((k : _) → IsLive m s k → IsKnownClean m s k) × (tests ≤ length (m.keys s))
 
--- what holds where the rounds have settled
-abbrev pub OnSettled : Result Report DigestFault → Type 0 → Type 0
-OnSettled (Ok r) p = p
-OnSettled (Err (fault.Faulted first count)) p = p
-OnSettled (Err _) p = Unit {0}
+-- what holds of the tests after the last fire where the rounds have settled; after a fault they are not told
+abbrev pub OnSettled : Result Report DigestFault → (ℕ → Type 0) → Type 0
+OnSettled (Ok r) P = P r.tests_after_last_fire
+OnSettled (Err (fault.Faulted first count)) P = P 0
+OnSettled (Err _) P = Unit {0}

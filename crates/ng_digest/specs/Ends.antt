@@ -1,5 +1,5 @@
 -- Where a world stands at each of these ends, and what came after the rounds.
-use Rattle.std.specs.Prelude.{ℕ, ◌≡◌, Bool, true, false, Option, Some, None, Result, Ok, Err}
+use Rattle.std.specs.Prelude.{ℕ, ◌≡◌, Some, None, Result, Ok, Err}
 use Rattle.ng_digest.specs.declared.log.Report.{Report}
 use Rattle.ng_digest.specs.declared.rounds.Found.{Found}
 use Rattle.ng_digest.specs.declared.rounds.Found.TheVariants.{Nothing, Stopped, Fireable}
@@ -8,7 +8,7 @@ use Rattle.ng_digest.specs.declared.rounds.Walked.TheVariants as walk
 use Rattle.ng_digest.specs.declared.rounds.RoundEnd.{RoundEnd}
 use Rattle.ng_digest.specs.declared.rounds.RoundEnd.TheVariants as round
 use Rattle.ng_digest.specs.declared.rounds.End.{End}
-use Rattle.ng_digest.specs.declared.rounds.End.TheVariants.{Settled, Infdig, FireLimit, AsyncLimit}
+use Rattle.ng_digest.specs.declared.rounds.End.TheVariants.{Settled}
 use Rattle.ng_digest.specs.declared.rounds.DigestFault.{DigestFault}
 use Rattle.ng_digest.specs.declared.rounds.DigestFault.TheVariants as fault
 use Rattle.ng_digest.specs.declared.world.Stage.{Stage}

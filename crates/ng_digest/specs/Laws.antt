@@ -1,9 +1,13 @@
 -- What the early stop rests on: the order of keys, and that a test changes no other test.
-use Rattle.std.specs.Prelude.{◌≡◌, ◌≢◌, Bool, true, false, Option, Some, None, List}
+use Rattle.std.specs.Prelude.{◌≡◌, ◌≢◌}
 use Rattle.std.specs.Cmp.{IsTotalOrder}
-use Rattle.std.specs.declared.cmp.Ordering.{Ordering}
-use Rattle.std.specs.declared.cmp.Ordering.TheVariants.{Less, Equal, Greater}
-use Rattle.ng_digest.specs.Machine.{Machine, Verdict, found_dirty}
+use Rattle.std.specs.List.Sorted.{IsStrictlySortedBy}
+use Rattle.std.specs.declared.cmp.Ordering.TheVariants.{Equal}
+use Rattle.ng_digest.specs.Machine.{Machine, found_dirty}
+
+-- the live keys are listed in their order
+abbrev pub InOrder : {S K : Type 0} → Machine S K → S → Type 0
+InOrder m s = IsStrictlySortedBy m.order (m.keys s)
 
 -- Keys are totally ordered, and no two keys tie. A test that isn't dirty leaves the live keys and what each test
 -- finds; a second one changes nothing, and so does one that changed nothing before another was made. Tasks that wait

@@ -1,5 +1,5 @@
 -- The log of a digest: counters, each of which stays at its type's last value once it is there.
-use Rattle.std.specs.Prelude.{ℕ, ◌+◌, ◌-◌, ◌^◌, ◌≡◌, min, Bool, true, false, if◌then◌else◌}
+use Rattle.std.specs.Prelude.{ℕ, ◌+◌, ◌-◌, ◌^◌, min, Bool, true, false, if◌then◌else◌}
 use Rattle.ng_digest.specs.declared.log.Log.{Log}
 use Rattle.ng_digest.specs.declared.log.Report.{Report}
 

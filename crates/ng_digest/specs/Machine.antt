@@ -1,5 +1,5 @@
 -- What a world is to a digest: a state with watchers under keys, and what a test, a fire and a task do to it.
-use Rattle.std.specs.Prelude.{ℕ, ◌≡◌, Bool, true, false, Option, Some, None, List, find, filter, length}
+use Rattle.std.specs.Prelude.{ℕ, Bool, true, false, Option, Some, None, List, find, filter, length}
 use Rattle.std.specs.Ordering.{is_lt, is_eq}
 use Rattle.std.specs.declared.cmp.Ordering.{Ordering}
 use Rattle.ng_base.specs.declared.fault.Fault.{Fault}

@@ -1,6 +1,5 @@
 -- Where a world stands in a digest, and where each call takes it.
-use Rattle.std.specs.Prelude.{ℕ, ◌≡◌, ◌<◌, Bool, true, false, Option, Some, None, ◌||◌, nat_lt, if◌then◌else◌}
-use Rattle.ng_base.specs.declared.fault.Fault.{Fault}
+use Rattle.std.specs.Prelude.{◌≡◌, Bool, true, false, Option, Some, None, ◌||◌, nat_lt, if◌then◌else◌}
 use Rattle.ng_digest.specs.declared.world.Tested.{Tested}
 use Rattle.ng_digest.specs.declared.world.Tested.TheVariants.{Clean, Dirty, Faulted, Memory}
 use Rattle.ng_digest.specs.declared.log.Log.{Log}

@@ -1,8 +1,6 @@
 -- The plain digest: it walks every round to its end, and remembers no key.
 use Rattle.std.specs.Prelude.{ℕ, ◌≡◌, ◌≢◌, ◌<◌, ◌≤◌, Bool, true, false, Option, Some, None, Result, Ok, Err, ◌||◌, nat_lt}
 use Rattle.ng_base.specs.declared.fault.Fault.{Fault}
-use Rattle.ng_digest.specs.declared.log.Log.{Log}
-use Rattle.ng_digest.specs.declared.log.Report.{Report}
 use Rattle.ng_digest.specs.declared.rounds.RoundEnd.{RoundEnd}
 use Rattle.ng_digest.specs.declared.rounds.RoundEnd.TheVariants as round
 use Rattle.ng_digest.specs.declared.rounds.End.{End}

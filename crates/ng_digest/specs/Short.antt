@@ -1,6 +1,6 @@
 -- The short digest: the calls in their order, each chosen by the answers before it.
-use Rattle.std.specs.Prelude.{ℕ, ◌≡◌, ◌≢◌, ◌<◌, ◌≤◌, Bool, true, false, Option, Some, None, Result, Ok, Err, is_some}
-use Rattle.std.specs.List.Sorted.{IsStrictlySortedBy}
+use Rattle.std.specs.Prelude.{ℕ, ◌≡◌, ◌≢◌, ◌<◌, ◌≤◌, Bool, true, false, Some, None, Result, Ok, Err, is_some}
+use Rattle.ng_digest.specs.Laws.{InOrder}
 use Rattle.ng_base.specs.declared.fault.Fault.{Fault}
 use Rattle.ng_base.specs.declared.fault.Memory.{Memory}
 use Rattle.ng_digest.specs.declared.log.Report.{Report}
@@ -15,7 +15,7 @@ use Rattle.ng_digest.specs.declared.rounds.End.TheVariants.{Settled, Infdig, Fir
 use Rattle.ng_digest.specs.declared.rounds.DigestFault.{DigestFault}
 use Rattle.ng_digest.specs.declared.rounds.DigestFault.TheVariants as fault
 use Rattle.ng_digest.specs.Log.{report_of}
-use Rattle.ng_digest.specs.Machine.{Machine, Verdict, found_dirty, next_key}
+use Rattle.ng_digest.specs.Machine.{Machine, found_dirty, next_key}
 use Rattle.ng_digest.specs.Place.{Place, begun, after_task, advanced, found, after_test, after_fire, is_remembered, is_dirty, closed, posted, given_up}
 
 -- whether a live key is above the cursor
@@ -30,10 +30,6 @@ pub data Drains {S K : Type 0} (m : Machine S K) : Place S K → Bool → Place 
   drained : {p : Place S K} → waiting m p ≡ false → Drains m p false p
   too_many : {p : Place S K} → waiting m p ≡ true → 10000 ≤ p.log.tasks → Drains m p true p
   ran_one : {p q : Place S K} {over : Bool} → waiting m p ≡ true → p.log.tasks < 10000 → Drains m (after_task true m p) over q → Drains m p over q
-
--- the live keys are listed in their order
-abbrev pub InOrder : {S K : Type 0} → Machine S K → S → Type 0
-InOrder m s = IsStrictlySortedBy m.order (m.keys s)
 
 -- from the cursor upwards keys are tested, up to one that is dirty, to the remembered key, or to the last
 pub data Skips {S K : Type 0} (m : Machine S K) : Place S K → Found → Place S K → Type 0 where

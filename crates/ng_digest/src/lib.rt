@@ -18,6 +18,11 @@
 //! It is not for the order of watchers, for snapshots, or for what a listener does: these are the world's.
 #![tactic(auto)]
 
+pub mod board;
 pub mod log;
 pub mod rounds;
+pub mod sheet;
+#[cfg(test)]
+mod tests;
+pub mod watches;
 pub mod world;

@@ -5,9 +5,10 @@ ghost use Rattle.ng_digest.specs.Place.{Moves, MayAdvance};
 ghost use Rattle.ng_digest.specs.declared.world.Stage.TheVariants.{Between, Draining, Calm};
 ghost use Rattle.ng_digest.specs.Short.{Drains, Skips, Walks, Round, Rounds, Digests};
 ghost use Rattle.ng_base.specs.declared.fault.Fault.{Fault};
+ghost use Rattle.ng_digest.specs.declared.rounds.DigestFault.{DigestFault};
 ghost use Rattle.ng_digest.specs.declared.rounds.DigestFault.TheVariants.{Infdig, FireLimit, AsyncLimit, Faulted};
 ghost use Rattle.ng_digest.specs.Causes.{Unless, IsOverFires, IsOverTasks, HasSettled, IsReport};
-ghost use Rattle.ng_digest.specs.Plain.{PlainDigests};
+ghost use Rattle.ng_digest.specs.Plain.{Plain, PlainDigests};
 ghost use Rattle.ng_digest.specs.Early.{plain_of, plain_answer, IsFresh, OnSettled};
 ghost use Rattle.ng_digest.specs.Ends.{StageFound, StageWalked, StageRound, StageEnd, CountsRound, Finishes};
 
@@ -246,7 +247,7 @@ pub fn digest<W: World>(w: &mut W) -> Result<Report, DigestFault>
     requires forgotten { (W.moves.at w.old).remembered ≡ None }
     ensures short { Digests W.moves.machine (W.moves.at w.old) result (W.moves.at w.new) }
     ensures plain { Unless result (PlainDigests W.moves.machine (W.moves.at w.old).state (plain_answer result) (plain_of (W.moves.at w.new))) }
-    ensures fresh { OnSettled result (IsFresh W.moves.machine (W.moves.at w.new).state) }
+    ensures fresh { OnSettled result (λ tests. IsFresh W.moves.machine tests (W.moves.at w.new).state) }
     ensures infdig { Unless result (result ≡ Err Infdig ↔ (W.moves.at w.new).log.dirty_rounds ≡ 11) }
     ensures fire_limit { Unless result (result ≡ Err FireLimit ↔ IsOverFires (W.moves.at w.new)) }
     ensures async_limit { Unless result (result ≡ Err AsyncLimit ↔ IsOverTasks W.moves.machine (W.moves.at w.new)) }
@@ -256,3 +257,8 @@ pub fn digest<W: World>(w: &mut W) -> Result<Report, DigestFault>
 {
     run(w)
 }
+
+/// The plain digest has one answer, and ends in one state with one set of counts.
+pub fn plain_digest_is_one<W: World>()
+    ensures { (s : W.moves.State) (r u : Result (ℕ × ℕ) DigestFault) (p q : Plain W.moves.State) → PlainDigests W.moves.machine s r p → PlainDigests W.moves.machine s u q → (r ≡ u) × (p ≡ q) }
+{}

@@ -1,9 +1,8 @@
 //! What a digest runs over.
-ghost use Rattle.std.specs.Prelude.{◌≡◌, ◌<◌, Option, Bool, IfOk, OnOk, is_some};
-ghost use Rattle.std.specs.List.Sorted.{IsStrictlySortedBy};
-ghost use Rattle.ng_digest.specs.Machine.{next_key};
+ghost use Rattle.std.specs.Prelude.{◌≡◌, ◌≢◌, ◌<◌, ◌+◌, ◌↔◌, Option, Some, None, Bool, IfOk, OnOk, is_some};
+ghost use Rattle.ng_digest.specs.Laws.{HasLaws, InOrder};
+ghost use Rattle.ng_digest.specs.Machine.{next_key, ahead, found_dirty};
 ghost use Rattle.ng_digest.specs.Place.{Moves, MayAdvance, begun, after_task, advanced, found, after_test, after_fire, is_remembered, is_dirty, closed, posted, given_up, Answers, OnTested};
-ghost use Rattle.ng_digest.specs.Laws.{HasLaws};
 
 use ng_base::fault::{Fault, Memory};
 
@@ -63,7 +62,7 @@ pub trait World {
         requires { MayAdvance (moves.at self.old).stage (moves.machine.waits (moves.at self.old).state) }
         ensures answer { IfOk result (λ more. more ≡ is_some (next_key moves.machine (moves.at self.old).state (moves.at self.old).cursor)) }
         ensures step { OnOk result (moves.at self.new ≡ advanced moves.machine (moves.at self.old)) }
-        ensures sorted { OnOk result (IsStrictlySortedBy moves.machine.order (moves.machine.keys (moves.at self.old).state)) };
+        ensures sorted { OnOk result (InOrder moves.machine (moves.at self.old).state) };
 
     /// Whether the cursor stands at the remembered key.
     fn last_dirty(&self) -> bool
@@ -103,3 +102,10 @@ pub trait World {
     /// What the early stop rests on.
     ghost laws: { HasLaws moves.machine };
 }
+
+/// An advance of the cursor leaves one live key less ahead, and none is ahead exactly where it cannot advance.
+pub fn ahead_falls<W: World>()
+    ensures lowers { (s : W.moves.State) (c : Option W.moves.Key) (k : W.moves.Key) → InOrder W.moves.machine s → next_key W.moves.machine s c ≡ Some k → ahead W.moves.machine s c ≡ ahead W.moves.machine s (Some k) + 1 }
+    ensures none { (s : W.moves.State) (c : Option W.moves.Key) → next_key W.moves.machine s c ≡ None ↔ ahead W.moves.machine s c ≡ 0 }
+    ensures stays { (s : W.moves.State) (c : Option W.moves.Key) (k : W.moves.Key) → W.moves.machine.verdict s k ≢ found_dirty → ahead W.moves.machine (W.moves.machine.tested s k) c ≡ ahead W.moves.machine s c }
+{}

@@ -1,5 +1,3 @@
-use Rattle.std.proofs.Common.{◌≡◌}
-use Rattle.ng_digest.specs.Place.{Moves}
 use Rattle.ng_digest.proofs.Why.{why_infdig, why_fire_limit, why_async_limit, why_faulted, why_settled, why_report}
 use Rattle.ng_digest.proofs.Stop.{digest_plain}
 use Rattle.ng_digest.proofs.Fresh.{digest_fresh}
@@ -12,7 +10,7 @@ returns g c =
     record {
       short = run;
       plain = digest_plain m.machine g.met.W.World.laws run c.requires.log c.requires.forgotten;
-      fresh = digest_fresh m.machine g.met.W.World.laws run c.requires.forgotten;
+      fresh = digest_fresh m.machine g.met.W.World.laws run c.requires.forgotten c.requires.log;
       infdig = why_infdig m.machine run c.requires.log;
       fire_limit = why_fire_limit m.machine run c.requires.log;
       async_limit = why_async_limit m.machine g.met.W.World.laws run c.requires.log;

@@ -1,5 +1,4 @@
-use Rattle.std.proofs.Common.{arith, sym, ◌∙◌, ap, subst, ◌≡◌}
-use Rattle.ng_digest.specs.Place.{Moves, after_task}
+use Rattle.std.proofs.Common.{arith, sym, ◌∙◌, ap, subst}
 use Rattle.ng_digest.specs.Short.{Drains, drained, too_many, ran_one}
 use Rattle.ng_digest.proofs.Stages.{task_ran}
 use Rattle.ng_digest.proofs.rounds.drain.Goals as goal

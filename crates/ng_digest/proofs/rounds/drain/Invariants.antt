@@ -1,8 +1,6 @@
-use Rattle.std.proofs.Common.{◌≡◌, ◌≤◌, ◌<◌, ◌-◌, ◌+◌, ℕ, Bool, true, false}
-use Rattle.ng_digest.specs.Place.{Moves, MayAdvance}
-use Rattle.ng_digest.specs.Machine.{ahead}
-use Rattle.ng_digest.specs.declared.world.Stage.TheVariants.{Draining, Between}
-use Rattle.ng_digest.specs.Short.{Drains, Skips, Walks, Rounds}
+use Rattle.std.proofs.Common.{◌≡◌, ◌-◌, Bool}
+use Rattle.ng_digest.specs.declared.world.Stage.TheVariants.{Draining}
+use Rattle.ng_digest.specs.Short.{Drains}
 use Rattle.ng_digest.proofs.rounds.drain.Given as goal
 
 abbrev pub invariant-loop-w : goal.invariant-loop-w

@@ -1,5 +1,4 @@
-use Rattle.std.proofs.Common.{arith, sym, ◌∙◌, ap, subst, rules, false, true, ◌≡◌, ◌≢◌, ◌<◌}
-use Rattle.ng_digest.specs.Place.{Moves, MayAdvance}
+use Rattle.std.proofs.Common.{arith, sym, ◌∙◌, ap}
 use Rattle.ng_digest.proofs.Stages.{may_advance, not_dirty}
 use Rattle.ng_digest.proofs.Steps.{was_tested, none_found, dirty_found, stop_found, passed_found, stage_dirty, stage_passed, stage_stopped, stage_none}
 use Rattle.ng_digest.proofs.Keys.{fewer}

@@ -1,8 +1,7 @@
-use Rattle.std.proofs.Common.{◌≡◌, ◌≤◌, ◌<◌, ◌-◌, ◌+◌, ℕ, Bool, true, false}
-use Rattle.ng_digest.specs.Place.{Moves, MayAdvance}
+use Rattle.std.proofs.Common.{◌≡◌}
+use Rattle.ng_digest.specs.Place.{MayAdvance}
 use Rattle.ng_digest.specs.Machine.{ahead}
-use Rattle.ng_digest.specs.declared.world.Stage.TheVariants.{Draining, Between}
-use Rattle.ng_digest.specs.Short.{Drains, Skips, Walks, Rounds}
+use Rattle.ng_digest.specs.Short.{Skips}
 use Rattle.ng_digest.proofs.rounds.next_dirty.Given as goal
 
 abbrev pub invariant-loop-w : goal.invariant-loop-w

@@ -1,10 +1,9 @@
-use Rattle.std.proofs.Common.{arith, sym, ◌∙◌, ap, subst, rules, false, true, ◌≡◌, ◌≢◌, ◌<◌, ◌≤◌, ◌+◌}
-use Rattle.ng_digest.specs.Place.{Moves, MayAdvance}
+use Rattle.std.proofs.Common.{sym, ◌∙◌, subst, rules, false, true}
 use Rattle.ng_digest.specs.Short.{many_tasks, many_fires, closed_clean, closed_dirty, came_to_end, cut_short}
 use Rattle.ng_digest.specs.declared.rounds.Walked.TheVariants as walk
 use Rattle.ng_digest.proofs.rounds.round.Goals as goal
 use Rattle.ng_digest.proofs.rounds.round.Goals.{in-ToEnd, in-Stopped}
-use Rattle.ng_digest.specs.Short.{Drains, Round, Walks}
+use Rattle.ng_digest.specs.Short.{Drains, Round}
 use Rattle.ng_digest.specs.declared.rounds.RoundEnd.TheVariants as ends
 
 pub returns-then-branch-clause-run : goal.returns-then-branch-clause-run

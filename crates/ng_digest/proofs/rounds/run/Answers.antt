@@ -1,4 +1,4 @@
-use Rattle.std.proofs.Common.{sym, subst, ap, ◌∙◌, rules, ◌≡◌, Err}
+use Rattle.std.proofs.Common.{sym, subst, ap, ◌∙◌, rules, Err}
 use Rattle.ng_digest.specs.declared.rounds.DigestFault.TheVariants as fault
 use Rattle.ng_digest.specs.Log.{report_of}
 use Rattle.ng_digest.specs.Short.{Digests, gives_infdig, gives_fire_limit, gives_async_limit, gives_memory}

@@ -1,6 +1,4 @@
-use Rattle.std.proofs.Common.{arith, sym, ◌∙◌, ap, subst, rules, false, true, ◌≡◌, ◌≢◌, ◌<◌, ◌≤◌, ◌+◌}
-use Rattle.ng_digest.specs.Place.{Moves, MayAdvance}
-use Rattle.ng_digest.specs.declared.world.Stage.TheVariants.{Passed}
+use Rattle.std.proofs.Common.{arith, rules}
 use Rattle.ng_digest.specs.Short.{last_is_clean, over_fires, over_tasks, eleventh_is_dirty, one_more}
 use Rattle.ng_digest.proofs.rounds.settle.Goals as goal
 

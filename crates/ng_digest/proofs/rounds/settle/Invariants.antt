@@ -1,8 +1,6 @@
-use Rattle.std.proofs.Common.{◌≡◌, ◌≤◌, ◌<◌, ◌-◌, ◌+◌, ℕ, Bool, true, false}
-use Rattle.ng_digest.specs.Place.{Moves, MayAdvance}
-use Rattle.ng_digest.specs.Machine.{ahead}
-use Rattle.ng_digest.specs.declared.world.Stage.TheVariants.{Draining, Between}
-use Rattle.ng_digest.specs.Short.{Drains, Skips, Walks, Rounds}
+use Rattle.std.proofs.Common.{◌≡◌, ◌≤◌, ◌-◌}
+use Rattle.ng_digest.specs.declared.world.Stage.TheVariants.{Between}
+use Rattle.ng_digest.specs.Short.{Rounds}
 use Rattle.ng_digest.proofs.rounds.settle.Given as goal
 
 abbrev pub invariant-rounds : goal.invariant-rounds

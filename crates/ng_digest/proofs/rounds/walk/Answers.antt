@@ -1,5 +1,4 @@
-use Rattle.std.proofs.Common.{arith, sym, ◌∙◌, ap, subst, rules, false, true, ◌≡◌, ◌≢◌, ◌<◌, ◌≤◌, ◌+◌}
-use Rattle.ng_digest.specs.Place.{Moves, MayAdvance, after_fire}
+use Rattle.std.proofs.Common.{arith, ap, subst, rules}
 use Rattle.ng_digest.specs.Short.{Walks, walked_through, walk_stopped, walk_limited, fired_one}
 use Rattle.ng_digest.proofs.Stages.{may_advance}
 use Rattle.ng_digest.proofs.rounds.walk.Goals as goal
