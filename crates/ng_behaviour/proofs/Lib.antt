@@ -1,0 +1,5 @@
+pub mod Paths
+pub mod ScopeTree
+pub mod Grown
+pub mod Dying
+pub mod NextScope

@@ -1,0 +1,2 @@
+//! The definitions of what a page does.
+#![tactic(auto)]

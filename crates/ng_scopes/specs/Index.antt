@@ -1,0 +1,18 @@
+-- The first of the live paths from a bound on.
+use Rattle.std.specs.Prelude.{ℕ, ◌≡◌, Bool, true, false, List, Option, Some, None, IsSome}
+use Rattle.std.specs.Ordering.{is_gt}
+use Rattle.std.specs.declared.ops.Bound.{Bound}
+use Rattle.std.specs.BTreeMap.Range.{IsFromStart}
+use Rattle.ng_base.specs.Order.{path_cmp}
+use Rattle.ng_behaviour.specs.Scopes.{begins}
+
+-- s is found under the least path from a start on, which begins with u
+pub record IsFirst (find : List ℕ → Option ℕ) (start : Bound (List ℕ)) (u : List ℕ) (s : ℕ) : Type 0 where
+  pub path : List ℕ
+  pub from : IsFromStart path_cmp start path
+  pub under : begins u path ≡ true
+  pub found : find path ≡ Some s
+  pub least : (q : List ℕ) → IsFromStart path_cmp start q → IsSome (find q) → is_gt (path_cmp path q) ≡ false
+
+abbrev pub NoneFrom : (List ℕ → Option ℕ) → Bound (List ℕ) → List ℕ → Type 0
+NoneFrom find start u = (q : List ℕ) → IsFromStart path_cmp start q → begins u q ≡ true → find q ≡ None
