@@ -6,7 +6,7 @@ use Rattle.std.specs.Bool.{Decides}
 use Rattle.std.proofs.lemmas.Slice.Eq.{bytes_eq-Decides}
 use Rattle.std.proofs.lemmas.Bool.Decides.{eqb_tells}
 use Rattle.ng_base.specs.Order.{path_cmp, path_cmp-eq}
-use Rattle.ng_behaviour.specs.Scopes.{Scope, scope_at, path_at, live_at, children_at, begins, down, at, change_at, dead, dying_under, dead_under, live_scope, IsScopeTree}
+use Rattle.ng_behaviour.specs.Scopes.{Scope, scope_at, path_at, live_at, children_at, begins, down, at, change_at, dead, dying_under, dead_under, live_scope, IsLed, IsScopeTree}
 use Rattle.ng_behaviour.proofs.Paths.{begins-through}
 use Rattle.ng_behaviour.proofs.ScopeTree.{and-then-some, change-length, change-same, change-other, change-keeps, down-same, down-path}
 
@@ -75,11 +75,6 @@ dying-same u x false h = refl
 pub kill-done : (u : List ℕ) (t : List Scope) → ((r : ℕ) → r < length t → begins u (path_at t r) ≡ true → live_at t r ≡ false) → dead_under u t ≡ t
 kill-done u [] h = refl
 kill-done u (x ∷ t) h = ap (λ y. y ∷ dead_under u t) (dying-same u x (begins u x.path) (h 0 (omega arith))) ∙ ap (λ ys. x ∷ ys) (kill-done u t (λ r l. h (suc r) (omega arith)))
-
--- paths lead to scopes and back
-pub record IsLed (t : List Scope) : Type 0 where
-  pub leads : (s : ℕ) → s < length t → at t (path_at t s) ≡ Some s
-  pub back : (p : List ℕ) (r : ℕ) → at t p ≡ Some r → (r < length t) × (path_at t r ≡ p)
 
 pub led-tree : (t : List Scope) → IsScopeTree t → IsLed t
 led-tree t i = record {

@@ -3,16 +3,12 @@ use Rattle.std.proofs.Common.{ℕ, zero, suc, ◌+◌, ◌<◌, ◌≤◌, ◌�
 use Rattle.std.specs.Prelude.{option_and_then, slice_get}
 use Rattle.std.proofs.lemmas.Option.{slice_get_past, slice_get_within}
 use Rattle.std.proofs.lemmas.Bool.Decides.{eqb_tells}
-use Rattle.ng_behaviour.specs.Scopes.{Scope, no_scope, scope_at, path_at, live_at, children_at, begins, down, at, adopting, child_of, with_child, live_scope, IsScopeTree}
+use Rattle.ng_behaviour.specs.Scopes.{Scope, no_scope, scope_at, path_at, live_at, children_at, begins, down, at, adopting, child_of, child_path, with_child, live_scope, IsScopeTree}
 use Rattle.ng_behaviour.proofs.Paths.{begins-itself, begins-before}
 use Rattle.ng_behaviour.proofs.ScopeTree.{near, and-then-some, grown-length, grown-new, grown-keeps, grown-children, grown-children_other, scope-past, get-kept, get-last, get-back, down-append, down-path, down-grows, IsNumbered}
 
--- the path that the next child of a container has
-abbrev pub fresh : List Scope → ℕ → List ℕ
-fresh t c = path_at t c ++ length (children_at t c) ∷ []
-
 -- nothing stands under it yet, nor below it
-pub fresh-none : (t : List Scope) (c : ℕ) → IsScopeTree t → c < length t → at t (fresh t c) ≡ None
+pub fresh-none : (t : List Scope) (c : ℕ) → IsScopeTree t → c < length t → at t (child_path t c) ≡ None
 fresh-none t c i h = down-append t 0 (path_at t c) (length (children_at t c) ∷ []) ∙ rw (i.leads c h, slice_get_past (children_at t c) (length (children_at t c)) (omega arith)) refl
 
 pub begins-rest : (u p : List ℕ) → begins u p ≡ true → (q : List ℕ) × (p ≡ u ++ q)
@@ -23,11 +19,11 @@ begins-rest (x ∷ u) (y ∷ p) h = elim (eqb_tells x y) [
   | inr t ↦ absurd (let m = rw t.0 at h in cc)
 ]
 
-pub fresh-below : (t : List Scope) (c r : ℕ) → IsScopeTree t → c < length t → r < length t → begins (fresh t c) (path_at t r) ≡ true → ⊥
+pub fresh-below : (t : List Scope) (c r : ℕ) → IsScopeTree t → c < length t → r < length t → begins (child_path t c) (path_at t r) ≡ true → ⊥
 fresh-below t c r i h l b =
-    let q = begins-rest (fresh t c) (path_at t r) b in
-    let e : at t (fresh t c ++ q.0) ≡ Some r = ap (at t) (sym q.1) ∙ i.leads r l in
-    let n : at t (fresh t c ++ q.0) ≡ None = down-append t 0 (fresh t c) q.0 ∙ rw (fresh-none t c i h) refl in
+    let q = begins-rest (child_path t c) (path_at t r) b in
+    let e : at t (child_path t c ++ q.0) ≡ Some r = ap (at t) (sym q.1) ∙ i.leads r l in
+    let n : at t (child_path t c ++ q.0) ≡ None = down-append t 0 (child_path t c) q.0 ∙ rw (fresh-none t c i h) refl in
     cc
 
 grows : (t : List Scope) (c o : ℕ) → c < length t → (s k d : ℕ) → slice_get (children_at t s) k ≡ Some d → slice_get (children_at (with_child t c o) s) k ≡ Some d
@@ -45,7 +41,7 @@ grown-path t c o r h = grown-keeps (λ x. x.path) t c o r (λ x. refl) h
 grown-live : (t : List Scope) (c o r : ℕ) → r < length t → live_at (with_child t c o) r ≡ live_at t r
 grown-live t c o r h = grown-keeps (λ x. x.live) t c o r (λ x. refl) h
 
-new-path : (t : List Scope) (c o s : ℕ) → s ≡ length t → path_at (with_child t c o) s ≡ fresh t c
+new-path : (t : List Scope) (c o s : ℕ) → s ≡ length t → path_at (with_child t c o) s ≡ child_path t c
 new-path t c o s e = ap (λ x. x.path) (grown-new t c o s e)
 
 new-live : (t : List Scope) (c o s : ℕ) → s ≡ length t → live_at (with_child t c o) s ≡ live_at t c
@@ -55,7 +51,7 @@ new-live t c o s e = ap (λ x. x.live) (grown-new t c o s e)
 pub grown-at : (t : List Scope) (c o : ℕ) (p : List ℕ) (s : ℕ) → c < length t → at t p ≡ Some s → at (with_child t c o) p ≡ Some s
 grown-at t c o p s h e = down-grows t (with_child t c o) (grows t c o h) 0 p s e
 
-pub grown-at_new : (t : List Scope) (c o : ℕ) → IsScopeTree t → c < length t → at (with_child t c o) (fresh t c) ≡ Some (length t)
+pub grown-at_new : (t : List Scope) (c o : ℕ) → IsScopeTree t → c < length t → at (with_child t c o) (child_path t c) ≡ Some (length t)
 grown-at_new t c o i h =
     down-append (with_child t c o) 0 (path_at t c) (length (children_at t c) ∷ [])
     ∙ rw (grown-at t c o (path_at t c) c h (i.leads c h), grown-children t c o h, get-last (children_at t c) (length t)) refl
@@ -97,18 +93,18 @@ grown-lively t c o i h s r l m b v =
         | inl r-old ↦ rw (grown-live t c o s s-old) (i.lively s r s-old r-old (rw (grown-path t c o s s-old, grown-path t c o r r-old) at b) (rw (grown-live t c o r r-old) at v))
         | inr r-new ↦
             let q : r ≡ length t = omega arith in
-            let w : begins (path_at t s) (fresh t c) ≡ true =
+            let w : begins (path_at t s) (child_path t c) ≡ true =
             ap (begins (path_at t s)) (sym (new-path t c o r q)) ∙ ap (λ u. begins u (path_at (with_child t c o) r)) (sym (grown-path t c o s s-old)) ∙ b in
             let z : live_at t c ≡ true = sym (new-live t c o r q) ∙ v in
             rw (grown-live t c o s s-old) (elim (begins-before (path_at t s) (path_at t c) (length (children_at t c)) w) [
               | inl up ↦ i.lively s c s-old h up z
-              | inr same ↦ absurd (let e : at t (fresh t c) ≡ Some s = ap (at t) (sym same) ∙ i.leads s s-old in let n = fresh-none t c i h in cc)
+              | inr same ↦ absurd (let e : at t (child_path t c) ≡ Some s = ap (at t) (sym same) ∙ i.leads s s-old in let n = fresh-none t c i h in cc)
             ])
       ]
       | inr s-new ↦
           let p : s ≡ length t = omega arith in
           elim (near r (length t)) [
-            | inl r-old ↦ absurd (fresh-below t c r i h r-old (ap (begins (fresh t c)) (sym (grown-path t c o r r-old)) ∙ ap (λ u. begins u (path_at (with_child t c o) r)) (sym (new-path t c o s p)) ∙ b))
+            | inl r-old ↦ absurd (fresh-below t c r i h r-old (ap (begins (child_path t c)) (sym (grown-path t c o r r-old)) ∙ ap (λ u. begins u (path_at (with_child t c o) r)) (sym (new-path t c o s p)) ∙ b))
             | inr r-new ↦ let q : r ≡ s = omega arith in ap (live_at (with_child t c o)) (sym q) ∙ v
           ]
     ]
@@ -122,7 +118,7 @@ tree-grows t c o i h = record {
   lively = grown-lively t c o i h;
 }
 
-path-none : (t : List Scope) (c o : ℕ) (p : List ℕ) → IsScopeTree t → c < length t → (p ≡ fresh t c → ⊥) → (w : Option ℕ) → at (with_child t c o) p ≡ w → at t p ≡ None → at (with_child t c o) p ≡ None
+path-none : (t : List Scope) (c o : ℕ) (p : List ℕ) → IsScopeTree t → c < length t → (p ≡ child_path t c → ⊥) → (w : Option ℕ) → at (with_child t c o) p ≡ w → at t p ≡ None → at (with_child t c o) p ≡ None
 path-none t c o p i h n None e f = e
 path-none t c o p i h n (Some r) e f =
     let j = tree-grows t c o i h in
@@ -135,7 +131,7 @@ path-none t c o p i h n (Some r) e f =
           absurd (n (sym same ∙ ap (λ x. x.path) (grown-new t c o r q)))
     ]
 
-path-other : (t : List Scope) (c o : ℕ) (p : List ℕ) → IsScopeTree t → c < length t → (p ≡ fresh t c → ⊥) → (w : Option ℕ) → at t p ≡ w → at (with_child t c o) p ≡ at t p
+path-other : (t : List Scope) (c o : ℕ) (p : List ℕ) → IsScopeTree t → c < length t → (p ≡ child_path t c → ⊥) → (w : Option ℕ) → at t p ≡ w → at (with_child t c o) p ≡ at t p
 path-other t c o p i h n None e = path-none t c o p i h n (at (with_child t c o) p) refl e ∙ sym e
 path-other t c o p i h n (Some s) e = grown-at t c o p s h e ∙ sym e
 
@@ -144,11 +140,11 @@ live-kept t c o p i h None e = refl
 live-kept t c o p i h (Some s) e = let a = down-path t i.numbered 0 p s i.root e in rw (grown-live t c o s a.0) refl
 
 -- the live scopes of all other paths are as before
-pub live-other : (t : List Scope) (c o : ℕ) (p : List ℕ) → IsScopeTree t → c < length t → (p ≡ fresh t c → ⊥) → live_scope (with_child t c o) p ≡ live_scope t p
+pub live-other : (t : List Scope) (c o : ℕ) (p : List ℕ) → IsScopeTree t → c < length t → (p ≡ child_path t c → ⊥) → live_scope (with_child t c o) p ≡ live_scope t p
 live-other t c o p i h n = rw (path-other t c o p i h n (at t p) refl) (live-kept t c o p i h (at t p) refl)
 
-pub live-new : (t : List Scope) (c o : ℕ) → IsScopeTree t → c < length t → live_scope (with_child t c o) (fresh t c) ≡ cond (live_at t c) (Some (length t)) None
+pub live-new : (t : List Scope) (c o : ℕ) → IsScopeTree t → c < length t → live_scope (with_child t c o) (child_path t c) ≡ cond (live_at t c) (Some (length t)) None
 live-new t c o i h = rw (grown-at_new t c o i h) (ap (λ b. cond b (Some (length t)) None) (new-live t c o (length t) refl))
 
-pub live-fresh : (t : List Scope) (c : ℕ) → IsScopeTree t → c < length t → live_scope t (fresh t c) ≡ None
+pub live-fresh : (t : List Scope) (c : ℕ) → IsScopeTree t → c < length t → live_scope t (child_path t c) ≡ None
 live-fresh t c i h = rw (fresh-none t c i h) refl

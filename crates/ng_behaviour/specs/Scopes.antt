@@ -68,9 +68,13 @@ change_at (x ∷ t) (suc s) f = x ∷ change_at t s f
 abbrev pub adopting : ℕ → Scope → Scope
 adopting c x = record { path = x.path; parent = x.parent; object = x.object; live = x.live; children = x.children ++ c ∷ [] }
 
--- the next scope under a container: its path is the container's and its own number, and it is live where the container is
+-- the path that the next scope under a container has: the container's and its own number
+abbrev pub child_path : List Scope → ℕ → List ℕ
+child_path t c = path_at t c ++ length (children_at t c) ∷ []
+
+-- the next scope under a container, which is live where the container is
 abbrev pub child_of : List Scope → ℕ → ℕ → Scope
-child_of t c o = record { path = path_at t c ++ length (children_at t c) ∷ []; parent = Some c; object = o; live = live_at t c; children = [] }
+child_of t c o = record { path = child_path t c; parent = Some c; object = o; live = live_at t c; children = [] }
 
 -- a scope more, under a container
 abbrev pub with_child : List Scope → ℕ → ℕ → List Scope
@@ -129,3 +133,8 @@ pub record IsScopeTree (t : List Scope) : Type 0 where
 -- the live scope of a path
 abbrev pub live_scope : List Scope → List ℕ → Option ℕ
 live_scope t p = option_and_then (λ s. if live_at t s then Some s else None) (at t p)
+
+-- each scope's path leads to it, and a path that leads somewhere is the path of what it leads to
+pub record IsLed (t : List Scope) : Type 0 where
+  pub leads : (s : ℕ) → s < length t → at t (path_at t s) ≡ Some s
+  pub back : (p : List ℕ) (r : ℕ) → at t p ≡ Some r → (r < length t) × (path_at t r ≡ p)

@@ -1,1 +1,4 @@
 pub mod First
+pub mod TreeOf
+pub mod Bury
+pub mod Lengths
