@@ -1,12 +1,10 @@
 -- A tree in which a scope and all below it die is a tree; one dies at a time, and its path leaves the index of the live ones.
 use Rattle.std.proofs.Common.{ℕ, zero, suc, ◌<◌, ◌≡◌, Bool, true, false, cond, List, [], ◌∷◌, ◌++◌, length, Option, Some, None, refl, ap, sym, ◌∙◌, arith, inl, inr, ◌⊎◌}
-use Rattle.std.specs.Prelude.{option_and_then, slice_get, bytes_eq}
+use Rattle.std.specs.Prelude.{option_and_then, bytes_eq}
 use Rattle.std.specs.Ordering.{is_eq}
-use Rattle.std.specs.Bool.{Decides}
 use Rattle.std.proofs.lemmas.Slice.Eq.{bytes_eq-Decides}
-use Rattle.std.proofs.lemmas.Bool.Decides.{eqb_tells}
 use Rattle.ng_base.specs.Order.{path_cmp, path_cmp-eq}
-use Rattle.ng_behaviour.specs.Scopes.{Scope, scope_at, path_at, live_at, children_at, begins, down, at, change_at, dead, dying_under, dead_under, live_scope, IsLed, IsScopeTree}
+use Rattle.ng_behaviour.specs.Scopes.{Scope, scope_at, path_at, live_at, children_at, begins, at, change_at, dead, dying_under, dead_under, live_scope, IsLed, IsScopeTree}
 use Rattle.ng_behaviour.proofs.Paths.{begins-through}
 use Rattle.ng_behaviour.proofs.ScopeTree.{and-then-some, change-length, change-same, change-other, change-keeps, down-same, down-path}
 

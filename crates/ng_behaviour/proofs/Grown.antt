@@ -1,11 +1,11 @@
 -- A tree that grows by a scope is a tree, and the new scope alone is found under its path.
-use Rattle.std.proofs.Common.{ℕ, zero, suc, ◌+◌, ◌<◌, ◌≤◌, ◌≡◌, Bool, true, false, cond, eqb, List, [], ◌∷◌, ◌++◌, length, map, Option, Some, None, refl, ap, sym, ◌∙◌, arith, inl, inr, ◌⊎◌, length-append}
+use Rattle.std.proofs.Common.{ℕ, suc, ◌<◌, ◌≡◌, true, cond, List, [], ◌∷◌, ◌++◌, length, Option, Some, None, refl, ap, sym, ◌∙◌, arith, inl, inr}
 use Rattle.std.specs.Prelude.{option_and_then, slice_get}
-use Rattle.std.proofs.lemmas.Option.{slice_get_past, slice_get_within}
+use Rattle.std.proofs.lemmas.Option.{slice_get_past}
 use Rattle.std.proofs.lemmas.Bool.Decides.{eqb_tells}
-use Rattle.ng_behaviour.specs.Scopes.{Scope, no_scope, scope_at, path_at, live_at, children_at, begins, down, at, adopting, child_of, child_path, with_child, live_scope, IsScopeTree}
-use Rattle.ng_behaviour.proofs.Paths.{begins-itself, begins-before}
-use Rattle.ng_behaviour.proofs.ScopeTree.{near, and-then-some, grown-length, grown-new, grown-keeps, grown-children, grown-children_other, scope-past, get-kept, get-last, get-back, down-append, down-path, down-grows, IsNumbered}
+use Rattle.ng_behaviour.specs.Scopes.{Scope, path_at, live_at, children_at, begins, at, child_path, with_child, live_scope, IsScopeTree}
+use Rattle.ng_behaviour.proofs.Paths.{begins-before}
+use Rattle.ng_behaviour.proofs.ScopeTree.{near, grown-length, grown-new, grown-keeps, grown-children, grown-children_other, scope-past, get-kept, get-last, get-back, down-append, down-path, down-grows, IsNumbered}
 
 -- nothing stands under it yet, nor below it
 pub fresh-none : (t : List Scope) (c : ℕ) → IsScopeTree t → c < length t → at t (child_path t c) ≡ None

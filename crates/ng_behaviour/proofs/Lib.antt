@@ -3,3 +3,4 @@ pub mod ScopeTree
 pub mod Grown
 pub mod Dying
 pub mod NextScope
+pub mod ScopeLaws

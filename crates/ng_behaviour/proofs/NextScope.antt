@@ -1,13 +1,12 @@
 -- The next scope is the least of those ahead.
-use Rattle.std.proofs.Common.{ℕ, zero, suc, ◌<◌, ◌≡◌, Bool, true, false, cond, ◌&&◌, List, [], ◌∷◌, length, Option, Some, None, refl, ap, sym, ◌∙◌, arith, inl, inr, ◌⊎◌}
-use Rattle.std.specs.Prelude.{option_and_then, MatchOption}
+use Rattle.std.proofs.Common.{ℕ, zero, suc, ◌<◌, ◌≡◌, Bool, true, false, cond, ◌&&◌, List, [], ◌∷◌, length, Option, Some, None, refl, ap, sym, ◌∙◌, arith}
+use Rattle.std.specs.Prelude.{MatchOption}
 use Rattle.std.specs.Ordering.{is_lt, is_gt, ordering_reverse}
 use Rattle.std.specs.declared.cmp.Ordering.{Ordering}
 use Rattle.std.specs.declared.cmp.Ordering.TheVariants.{Less, Equal, Greater}
-use Rattle.std.specs.Cmp.{first_so, second_so}
 use Rattle.std.proofs.lemmas.Cmp.{upto, tied_itself}
 use Rattle.ng_base.specs.Order.{path_cmp, path_cmp_total}
-use Rattle.ng_behaviour.specs.Scopes.{Scope, scope_at, path_at, live_at, begins, at, is_ahead, nearer, nearest, next_path, next_scope, NoneAhead, IsNextScope, IsScopeTree}
+use Rattle.ng_behaviour.specs.Scopes.{Scope, scope_at, path_at, is_ahead, nearer, next_path, NoneAhead}
 use Rattle.ng_behaviour.proofs.Paths.{path-same}
 
 pub record IsLeastAhead (t : List Scope) (p u b : List ℕ) : Type 0 where
@@ -17,7 +16,7 @@ pub record IsLeastAhead (t : List Scope) (p u b : List ℕ) : Type 0 where
   pub path : path_at t scope ≡ b
   pub least : (r : ℕ) → r < length t → is_ahead p u (scope_at t r) ≡ true → is_gt (path_cmp b (path_at t r)) ≡ false
 
-abbrev Nearest : List Scope → List ℕ → List ℕ → Option (List ℕ) → Type 0
+abbrev pub Nearest : List Scope → List ℕ → List ℕ → Option (List ℕ) → Type 0
 Nearest t p u o = MatchOption o (NoneAhead t p u) (IsLeastAhead t p u)
 
 less-not_above : (o : Ordering) → is_lt o ≡ true → is_gt o ≡ false
@@ -79,7 +78,7 @@ nearest-step x t p u true (Some b) e n = chosen (is_lt (path_cmp x.path b)) refl
     chosen true l = before x t p u b e l n
     chosen false l = behind x t p u b l n
 
-next_path-is : (t : List Scope) (p u : List ℕ) → Nearest t p u (next_path t p u)
+pub next_path-is : (t : List Scope) (p u : List ℕ) → Nearest t p u (next_path t p u)
 next_path-is [] p u = λ r h. absurd (omega arith)
 next_path-is (x ∷ t) p u = nearest-step x t p u (is_ahead p u x) (next_path t p u) refl (next_path-is t p u)
 

@@ -1,12 +1,9 @@
 -- What a tree of scopes keeps as it grows and dies.
-use Rattle.std.proofs.Common.{ℕ, zero, suc, ◌+◌, ◌<◌, ◌≤◌, ◌≡◌, Bool, true, false, cond, eqb, List, [], ◌∷◌, ◌++◌, length, map, Option, Some, None, refl, ap, sym, ◌∙◌, arith, inl, inr, ◌⊎◌, get_or, append_assoc, length-append}
+use Rattle.std.proofs.Common.{ℕ, zero, suc, ◌<◌, ◌≤◌, ◌≡◌, List, [], ◌∷◌, ◌++◌, length, Option, Some, None, refl, ap, sym, ◌∙◌, arith, inl, inr, ◌⊎◌, append_assoc, length-append}
 use Rattle.std.specs.Prelude.{option_and_then, slice_get}
-use Rattle.std.proofs.lemmas.List.{get_or_push, length-map}
-use Rattle.std.proofs.lemmas.Option.{slice_get_past, slice_get_within}
+use Rattle.std.proofs.lemmas.List.{get_or_push}
 use Rattle.std.proofs.Math.ListN.{get_or-append, get_or-eq_default}
-use Rattle.std.proofs.lemmas.Bool.Decides.{eqb_tells}
-use Rattle.ng_behaviour.specs.Scopes.{Scope, no_scope, scope_at, path_at, object_at, parent_at, live_at, children_at, begins, down, at, change_at, adopting, child_of, with_child, dead, dying_under, dead_under, live_scope, IsScopeTree}
-use Rattle.ng_behaviour.proofs.Paths.{begins-itself, begins-before, begins-through}
+use Rattle.ng_behaviour.specs.Scopes.{Scope, no_scope, scope_at, path_at, children_at, down, change_at, adopting, child_of, with_child}
 
 pub near : (a b : ℕ) → (a < b) ⊎ (b ≤ a)
 near a b = grind arith

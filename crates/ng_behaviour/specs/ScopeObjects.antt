@@ -2,7 +2,7 @@
 use Rattle.std.specs.Prelude.{ℕ, ◌+◌, ◌<◌, List, [], ◌∷◌, ◌++◌, length, Option, pos}
 use Rattle.ng_base.specs.Objects.{Object}
 use Rattle.ng_base.specs.declared.value.Value.{Value}
-use Rattle.ng_base.specs.declared.value.Value.TheVariants.{Int, Obj, Null}
+use Rattle.ng_base.specs.declared.value.Value.TheVariants.{Int, Obj}
 use Rattle.ng_base.specs.declared.heap.ObjKind.TheVariants.{Scope as a_scope}
 use Rattle.ng_language.specs.Objects.{new_object, set_name}
 use Rattle.ng_behaviour.specs.Scopes.{Scope, object_at}

@@ -1,5 +1,5 @@
 -- The tree of scopes: a list in order of making, in which each scope has its path, its parent, its object and its children, and is live or not.
-use Rattle.std.specs.Prelude.{ℕ, zero, suc, ◌<◌, ◌≡◌, Bool, true, false, ◌&&◌, eqb, IsTrue, List, [], ◌∷◌, ◌++◌, length, map, Option, Some, None, is_some, option_map, option_and_then, slice_get, slice_index_or, MatchOption, if◌then◌else◌}
+use Rattle.std.specs.Prelude.{ℕ, zero, suc, ◌<◌, ◌≡◌, Bool, true, false, ◌&&◌, eqb, IsTrue, List, [], ◌∷◌, ◌++◌, length, map, Option, Some, None, option_and_then, slice_get, slice_index_or, MatchOption, if◌then◌else◌}
 use Rattle.std.specs.Ordering.{is_lt, is_gt}
 use Rattle.ng_base.specs.Order.{path_cmp}
 
@@ -138,3 +138,11 @@ live_scope t p = option_and_then (λ s. if live_at t s then Some s else None) (a
 pub record IsLed (t : List Scope) : Type 0 where
   pub leads : (s : ℕ) → s < length t → at t (path_at t s) ≡ Some s
   pub back : (p : List ℕ) (r : ℕ) → at t p ≡ Some r → (r < length t) × (path_at t r ≡ p)
+
+-- the next scope is the least of those ahead, and there is none exactly where none is ahead
+abbrev pub NextScopeLaw : Type 0
+NextScopeLaw = (t : List Scope) (p u : List ℕ) → IsScopeTree t → MatchOption (next_scope t p u) (NoneAhead t p u) (IsNextScope t p u)
+
+-- a tree that grows by a scope, or in which scopes die, is a tree
+abbrev pub GrownTreeLaw : Type 0
+GrownTreeLaw = (t : List Scope) (c o : ℕ) → IsScopeTree t → c < length t → IsScopeTree (with_child t c o) × IsScopeTree (without_scope t c)

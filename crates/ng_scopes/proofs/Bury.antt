@@ -1,12 +1,12 @@
 -- One live scope dies after another.
-use Rattle.std.proofs.Common.{◌≡◌, ◌<◌, ℕ, Bool, true, false, cond, List, length, Option, Some, None, refl, ap, sym, ◌∙◌}
+use Rattle.std.proofs.Common.{◌≡◌, ◌<◌, ℕ, true, cond, List, length, Option, Some, None, refl, ap, sym, ◌∙◌}
 use Rattle.std.specs.Ordering.{is_eq}
 use Rattle.std.specs.declared.ops.Bound.TheVariants.{Included}
 use Rattle.ng_base.specs.Order.{path_cmp}
-use Rattle.ng_behaviour.specs.Scopes.{Scope, path_at, live_at, begins, change_at, dead, dead_under, without_scope, live_scope, at, IsLed}
+use Rattle.ng_behaviour.specs.Scopes.{Scope, path_at, live_at, begins, change_at, dead, dead_under, live_scope, IsLed}
 use Rattle.ng_behaviour.proofs.Paths.{begins-after}
 use Rattle.ng_behaviour.proofs.ScopeTree.{change-keeps}
-use Rattle.ng_behaviour.proofs.Dying.{kill, kill-end, kill-done, kill-index, led-kill, live-found, not-live}
+use Rattle.ng_behaviour.proofs.Dying.{kill-end, kill-done, kill-index, led-kill, live-found, not-live}
 use Rattle.ng_scopes.specs.Index.{IsFirst, NoneFrom}
 
 -- the scope that a search gave

@@ -1,10 +1,10 @@
 -- What is read from rows, and how a change of one row changes the tree.
-use Rattle.std.proofs.Common.{◌≡◌, ◌<◌, ◌≤◌, ◌+◌, ◌-◌, ℕ, zero, suc, Bool, List, [], ◌∷◌, ◌++◌, length, map, take, get_or, set, Option, Some, None, refl, ap, sym, ◌∙◌, arith, inl, inr, ◌⊎◌}
+use Rattle.std.proofs.Common.{◌≡◌, ◌<◌, ◌+◌, ◌-◌, ℕ, zero, suc, List, [], ◌∷◌, ◌++◌, length, take, get_or, set, Some, None, refl, ap, sym, ◌∙◌, arith, inl, inr, ◌⊎◌}
 use Rattle.std.specs.Prelude.{slice_get}
 use Rattle.std.proofs.lemmas.List.{length-append}
 use Rattle.std.proofs.Math.Seq.{take-append_seam}
 use Rattle.std.proofs.lemmas.Bool.Decides.{eqb_tells}
-use Rattle.ng_behaviour.specs.Scopes.{Scope, no_scope, scope_at, path_at, object_at, children_at, change_at, adopting, scope_from, of_object, dead}
+use Rattle.ng_behaviour.specs.Scopes.{Scope, no_scope, scope_at, object_at, change_at, adopting, scope_from, of_object}
 use Rattle.ng_scopes.specs.declared.rows.Row.{Row}
 use Rattle.ng_scopes.specs.Rows.{tree_of, scope_of, losing, Rises}
 

@@ -73,6 +73,7 @@ pub fn make_object(
     ensures answer { Meets is_want (next_name store.old) result }
     ensures ok { OnOk result (store.new ≡ named (store.old ++ new_object a_scope (option_map (λ p. p.0) proto) ∷ []) (length store.old) id (Value.Obj parent) root.0) }
     ensures grown { length store.old ≤ length store.new }
+    ensures longer { OnOk result (length store.old < length store.new) }
     ensures unchanged { IfErr result (λ e. is_want e ≡ false → store.new ≡ store.old) }
 {
     let object = store.make(ObjKind::Scope, proto)?;

@@ -2,13 +2,13 @@
 ghost use Rattle.std.specs.Prelude.{◌≡◌, ◌<◌, ◌≤◌, ◌^◌, ◌++◌, ◌∷◌, [], ℕ, true, OnOk, OnErr, IfErr, IfOk, MatchOption, length, slice_get, vec_len};
 ghost use Rattle.std.specs.BTreeMap.{get, btree_map_len};
 ghost use Rattle.ng_base.specs.Order.{path_cmp};
-ghost use Rattle.ng_behaviour.specs.Scopes.{at, begins, change_at, adopting, child_path, children_at, path_at, object_at, of_object, without_scope, live_scope, live_at, dead, IsLed, IsScopeTree};
+ghost use Rattle.ng_behaviour.specs.Scopes.{at, begins, change_at, adopting, child_path, child_of, with_child, children_at, path_at, object_at, of_object, without_scope, live_scope, live_at, dead, IsLed, IsScopeTree};
 ghost use Rattle.ng_scopes.specs.Index.{IsFirst, NoneFrom};
 ghost use Rattle.ng_scopes.specs.Rows.{tree_of, scope_of, losing, IsIndex, Rises};
 
-use crate::index::first_from;
+use crate::index::{delist, enlist, first_from};
 use ng_base::path::Path;
-use std::alloc::AllocError;
+use std::alloc::{AllocError, Global};
 use std::collections::BTreeMap;
 use std::ops::Bound;
 
@@ -165,4 +165,62 @@ fn first_live(index: &BTreeMap<Path, u32>, rows: &[Row], s: usize) -> Option<u32
 {
     let row = &rows[s];
     first_from(index, &row.path, &row.path)
+}
+
+/// Adds a live or dead scope under a container, as the container is, and its path to the index.
+#[tactic(auto, using(crate::proofs::TreeOf::reads))]
+pub fn add(
+    rows: &mut Vec<Row>,
+    index: &mut BTreeMap<Path, u32>,
+    alloc: Global,
+    c: usize,
+    object: u32,
+) -> Result<(), AllocError>
+    requires within { c < vec_len rows.old }
+    requires few { vec_len rows.old < 2 ^ 32 }
+    requires children { length (children_at (tree_of rows.old.items) c) < 2 ^ 32 }
+    requires tree { IsScopeTree (tree_of rows.old.items) }
+    requires index { IsIndex index.old (tree_of rows.old.items) }
+    ensures ok { OnOk result (tree_of rows.new.items ≡ with_child (tree_of rows.old.items) c object) }
+    ensures err { OnErr result (tree_of rows.new.items ≡ tree_of rows.old.items) }
+    ensures index { IsIndex index.new (tree_of rows.new.items) }
+{
+    let row = new_row(rows.as_slice(), alloc, c, object)?;
+    enlist(index, &row.path, rows.len() as u32, row.live)?;
+    match adopt(rows, c, row) {
+        Ok(()) => Ok(()),
+        Err(row) => {
+            delist(index, &row.path);
+            Err(AllocError)
+        }
+    }
+}
+
+/// The next scope under a container.
+#[tactic(auto, using(crate::proofs::TreeOf::reads))]
+fn new_row(rows: &[Row], alloc: Global, c: usize, object: u32) -> Result<Row, AllocError>
+    requires within { c < length rows.now }
+    requires few { length rows.now < 2 ^ 32 }
+    requires children { length (children_at (tree_of rows.now) c) < 2 ^ 32 }
+    ensures { IfOk result (λ r. scope_of r ≡ child_of (tree_of rows.now) c object) }
+{
+    let path = next_path(rows, c)?;
+    let container = &rows[c];
+    Ok(Row {
+        path,
+        parent: Some(c as u32),
+        object,
+        live: container.live,
+        children: Vec::new(alloc),
+    })
+}
+
+/// The number of a scope's children.
+#[tactic(auto, using(crate::proofs::TreeOf::reads))]
+pub fn children_in(rows: &[Row], c: usize) -> usize
+    requires { c < length rows.now }
+    ensures { result ≡ length (children_at (tree_of rows.now) c) }
+{
+    let container = &rows[c];
+    container.children.len()
 }

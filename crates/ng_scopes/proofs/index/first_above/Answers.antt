@@ -1,4 +1,4 @@
-use Rattle.std.proofs.Common.{◌≡◌, false, ◌∙◌, sym, ap}
+use Rattle.std.proofs.Common.{◌≡◌, false}
 use Rattle.std.specs.BTreeMap.{get}
 use Rattle.ng_base.specs.Order.{path_cmp}
 use Rattle.ng_behaviour.specs.Scopes.{begins}

@@ -1,4 +1,4 @@
-use Rattle.std.proofs.Common.{◌≡◌, List, refl, ap, sym, ◌∙◌, subst}
+use Rattle.std.proofs.Common.{◌≡◌, refl, ap, sym, ◌∙◌, subst}
 use Rattle.std.specs.BTreeMap.{get}
 use Rattle.std.specs.declared.ops.Bound.TheVariants.{Included}
 use Rattle.ng_base.specs.Order.{path_cmp}

@@ -1,7 +1,6 @@
 use Rattle.std.proofs.Common.{◌≡◌, vec_len}
 use Rattle.std.specs.BTreeMap.{btree_map_len}
 use Rattle.ng_behaviour.specs.Scopes.{path_at, dead_under, IsLed}
-
 use Rattle.ng_scopes.specs.Rows.{tree_of, IsIndex}
 use Rattle.ng_scopes.proofs.rows.bury.Given as goal
 

@@ -1,8 +1,8 @@
-use Rattle.std.proofs.Common.{◌≡◌, ◌<◌, List, length, None, cond, refl, ap, sym, ◌∙◌, arith}
+use Rattle.std.proofs.Common.{◌≡◌, ◌<◌, length, None, cond, ap, sym, ◌∙◌, arith}
 use Rattle.std.specs.Ordering.{is_eq}
 use Rattle.std.specs.BTreeMap.{get}
 use Rattle.ng_base.specs.Order.{path_cmp}
-use Rattle.ng_behaviour.specs.Scopes.{path_at, change_at, dead, live_scope}
+use Rattle.ng_behaviour.specs.Scopes.{path_at, dead, live_scope}
 use Rattle.ng_scopes.specs.Rows.{tree_of, scope_of}
 use Rattle.ng_scopes.proofs.TreeOf.{tree-length, tree-read, tree-set}
 use Rattle.ng_scopes.proofs.Bury.{die-index}

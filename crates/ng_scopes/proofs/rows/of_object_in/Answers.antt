@@ -1,6 +1,5 @@
-use Rattle.std.proofs.Common.{arith, ◌≡◌, ◌<◌, ◌+◌, ◌-◌, ◌/◌, length, sym, ap}
-use Rattle.ng_behaviour.specs.Scopes.{object_at, scope_at}
-use Rattle.ng_scopes.specs.Rows.{tree_of, scope_of}
+use Rattle.std.proofs.Common.{arith, ◌+◌, ◌-◌, ◌/◌, ap}
+use Rattle.ng_scopes.specs.Rows.{tree_of}
 use Rattle.ng_scopes.proofs.TreeOf.{tree-length, tree-read, below-too}
 use Rattle.ng_scopes.proofs.rows.of_object_in.Goals as goal
 
