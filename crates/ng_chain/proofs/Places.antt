@@ -211,3 +211,5 @@ pub ruleset searches = (passed-bound, passed-reached, passed-short)
 pub ruleset reads = (found-unpassed, found-other, found-slot, found-passed, found-place, value-found, passed-bound)
 
 pub ruleset strangers = (value-slot)
+
+pub ruleset rises = (standing-rising)

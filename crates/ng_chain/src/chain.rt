@@ -96,6 +96,14 @@ impl<T> Chain<T> {
         }
     }
 
+    /// What holds of the entries of every chain: their serials rise, up to the last one given.
+    #[tactic(auto, using(crate::proofs::Places::rises))]
+    pub fn sound(&self)
+        ensures { IsRising 0 self.now.last self.now.entries }
+    {
+        let _ = &self.slots;
+    }
+
     /// The value of an entry.
     pub fn get(&self, t: &Token) -> &T
         requires stands { IsSome (value_of self.now.entries t.now) }

@@ -1,0 +1,126 @@
+-- What the lists of a table of listeners stand for, and the walks that are open on them.
+use Rattle.std.specs.Prelude.{ℕ, zero, suc, ◌+◌, ◌<◌, ◌≡◌, Bool, true, false, eqb, List, [], ◌∷◌, ◌++◌, length, map, Option, Some, None, IsSome, option_map, replicate, slice_set, slice_index_or, sum_by, if◌then◌else◌}
+use Rattle.ng_base.specs.declared.name.FunId.{FunId}
+use Rattle.ng_chain.specs.Walked.{Walked, walk_at, open_walks, serial_of, with_entries, with_walk, without}
+use Rattle.ng_chain.specs.declared.chain.Span.{Span}
+use Rattle.ng_chain.specs.declared.chain.Token.{Token}
+use Rattle.ng_parse.specs.ProgramOf.{program}
+use Rattle.ng_behaviour.specs.Listeners.{Listener, Heard, IsNextListener, NobodyAhead, RiseTo, stands_at, heard_at, place_of}
+use Rattle.ng_events.specs.declared.stands.Listener.{Listener as Registered}
+use Rattle.ng_events.specs.declared.stands.Stand.{Stand}
+use Rattle.ng_events.specs.declared.stands.EventWalk.{EventWalk}
+use Rattle.ng_events.specs.declared.stands.EventWalk.TheVariants.{Bare, On}
+
+-- the lists, and how many walks are open where no list is
+pub record Table : Type 0 where
+  pub stands : List Stand
+  pub bare : ℕ
+
+abbrev pub seen : Registered → Listener
+seen l = record { id = l.id.0; body = program l.body }
+
+abbrev pub entries_of : List (Token × Registered) → List (ℕ × Listener)
+entries_of = map (λ e. (serial_of e.0, seen e.1))
+
+abbrev pub heard : Stand → Heard
+heard s = record { scope = s.scope; name = s.name; last = s.chain.last; entries = entries_of s.chain.entries }
+
+abbrev pub all_heard : List Stand → List Heard
+all_heard = map heard
+
+-- what the table stands for: the listeners
+abbrev pub lists_of : Table → List Heard
+lists_of t = all_heard t.stands
+
+abbrev pub no_chain : Walked Registered
+no_chain = record { entries = []; last = 0; walks = replicate 64 None }
+
+-- the chain of a list: an empty one where no list is
+abbrev pub chain_at : List Stand → ℕ → Walked Registered
+chain_at [] i = no_chain
+chain_at (x ∷ xs) zero = x.chain
+chain_at (x ∷ xs) (suc i) = chain_at xs i
+
+-- one list's chain is changed, and every other is as before
+abbrev pub change_chain : List Stand → ℕ → (Walked Registered → Walked Registered) → List Stand
+change_chain [] i f = []
+change_chain (x ∷ xs) zero f = record { scope = x.scope; name = x.name; chain = f x.chain } ∷ xs
+change_chain (x ∷ xs) (suc i) f = x ∷ change_chain xs i f
+
+abbrev pub pushed : Token → Registered → Walked Registered → Walked Registered
+pushed t l c = record { entries = c.entries ++ (t, l) ∷ []; last = c.last + 1; walks = c.walks }
+
+abbrev pub removed : Token → Walked Registered → Walked Registered
+removed t c = with_entries c (without (serial_of t) c.entries)
+
+abbrev pub walked : ℕ → Option Span → Walked Registered → Walked Registered
+walked k w c = with_walk c k w
+
+abbrev pub begun : ℕ → Walked Registered → Walked Registered
+begun k c = with_walk c k (Some (record { place = 0; end = c.last }))
+
+abbrev pub quiet_stand : ℕ → Stand → Stand
+quiet_stand s x = if eqb s x.scope then record { scope = x.scope; name = x.name; chain = with_entries x.chain [] } else x
+
+abbrev pub change_stand : List Stand → ℕ → (Stand → Stand) → List Stand
+change_stand [] i f = []
+change_stand (x ∷ xs) zero f = f x ∷ xs
+change_stand (x ∷ xs) (suc i) f = x ∷ change_stand xs i f
+
+-- the first so many lists are quiet, if they are of the scope
+abbrev pub quiet_first : ℕ → ℕ → List Stand → List Stand
+quiet_first zero s xs = xs
+quiet_first (suc n) s [] = []
+quiet_first (suc n) s (x ∷ xs) = quiet_stand s x ∷ quiet_first n s xs
+
+-- the walks on each list: none on one that is not there yet
+abbrev pub walks_on : List Stand → ℕ → List (Option Span)
+walks_on xs i = (chain_at xs i).walks
+
+abbrev pub walks_at : Table → ℕ → List (Option Span)
+walks_at t = walks_on t.stands
+
+abbrev pub open_on : List Stand → ℕ
+open_on xs = sum_by (λ x. open_walks x.chain.walks) xs
+
+-- how many walks are open
+abbrev pub open_of : Table → ℕ
+open_of t = open_on t.stands + t.bare
+
+abbrev pub is_at : ℕ → ℕ → Bool
+is_at zero zero = true
+is_at zero (suc j) = false
+is_at (suc i) zero = false
+is_at (suc i) (suc j) = is_at i j
+
+-- one walk is opened, moved or closed, and all others are as before
+abbrev pub put_walk : (ℕ → List (Option Span)) → ℕ → ℕ → Option Span → ℕ → List (Option Span)
+put_walk ws i k w j = if is_at i j then slice_set (ws j) k w else ws j
+
+-- a walk over the listeners that stand at a scope for a name, or over none
+abbrev pub IsOpen : Table → EventWalk → Type 0
+IsOpen t Bare = 0 < t.bare
+IsOpen t (On i w) = (i < length t.stands) × IsSome (walk_at (walks_at t i) w.slot)
+
+-- a walk is begun over the list of a scope and a name, where there is one
+abbrev pub Begins : Table → ℕ → List ℕ → EventWalk → Table → Type 0
+Begins t s n Bare u = (place_of (lists_of t) s n ≡ None) × (u.bare ≡ t.bare + 1) × (walks_at u ≡ walks_at t)
+Begins t s n (On i w) u =
+    (place_of (lists_of t) s n ≡ Some i) × (i < length t.stands) × (u.bare ≡ t.bare) × (walk_at (walks_at t i) w.slot ≡ None) × (w.slot < length (walks_at t i)) × (walks_at u ≡ put_walk (walks_at t) i w.slot (Some (record { place = 0; end = (heard_at (lists_of t) i).last }))) × RiseTo 0 (heard_at (lists_of t) i).last (heard_at (lists_of t) i).entries
+
+-- the next listener of a walk, and where the walk stands then
+abbrev pub Hears : List (ℕ × Listener) → Option Span → Option FunId → Option Span → Type 0
+Hears es None r new = Unit {0}
+Hears es (Some w) None new = NobodyAhead es w.place w.end × (new ≡ Some w)
+Hears es (Some w) (Some id) None = ⊥
+Hears es (Some w) (Some id) (Some v) = IsNextListener es w.place w.end v.place × (v.end ≡ w.end) × (option_map (λ l. l.id) (stands_at es v.place) ≡ Some id.0)
+
+-- one walk goes on, and no other
+abbrev pub Goes : Table → EventWalk → Option FunId → Table → Type 0
+Goes t Bare r u = (r ≡ None) × (walks_at u ≡ walks_at t)
+Goes t (On i w) r u = Hears (heard_at (lists_of t) i).entries (walk_at (walks_at t i) w.slot) r (walk_at (walks_at u i) w.slot) × (walks_at u ≡ put_walk (walks_at t) i w.slot (walk_at (walks_at u i) w.slot))
+
+-- one walk ends, and no other
+abbrev pub Ends : Table → EventWalk → Table → Type 0
+Ends t Bare u = (u.bare + 1 ≡ t.bare) × (walks_at u ≡ walks_at t)
+Ends t (On i w) u = (u.bare ≡ t.bare) × (walks_at u ≡ put_walk (walks_at t) i w.slot None)

@@ -1,0 +1,6 @@
+//! Listeners.
+#![tactic(auto)]
+
+mod names;
+pub mod listeners;
+mod stands;

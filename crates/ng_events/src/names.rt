@@ -1,0 +1,1 @@
+//! Where the lists of the scopes and names stand.

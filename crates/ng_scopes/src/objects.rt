@@ -1,0 +1,84 @@
+//! The objects of scopes, with the names that they have of their own.
+ghost use Rattle.std.specs.Prelude.{◌≡◌, ◌<◌, ◌≤◌, ◌^◌, ◌++◌, ◌∷◌, [], false, length, option_map, IfSome, IfOk, IfErr, OnOk, OnErr};
+ghost use Rattle.ng_base.specs.Meets.{Meets};
+ghost use Rattle.ng_base.specs.Objects.{StandsAmong};
+ghost use Rattle.ng_base.specs.Word.{IsWord};
+ghost use Rattle.ng_base.specs.declared.heap.ObjKind.TheVariants.{Scope as a_scope};
+ghost use Rattle.ng_language.specs.Objects.{new_object, set_name};
+ghost use Rattle.ng_store.specs.Answers.{is_want, next_name};
+ghost use Rattle.ng_behaviour.specs.ScopeObjects.{named, id_name, parent_name, root_name};
+
+use ng_base::fault::Memory;
+use ng_base::heap::ObjKind;
+use ng_base::name::Oid;
+use ng_base::txt::Txt;
+use ng_base::value::Value;
+use ng_store::store::{Store, StoreFault};
+use std::alloc::Global;
+
+/// Sets a name that is given as a word.
+#[tactic(auto, using(crate::proofs::Lengths::kept))]
+fn set_word(
+    store: &mut Store,
+    alloc: Global,
+    object: Oid,
+    word: &str,
+    value: Value,
+) -> Result<(), Memory>
+    requires word { IsWord word.now }
+    requires object { object.0 < length store.old }
+    requires value { StandsAmong (length store.old) value }
+    ensures ok { OnOk result (store.new ≡ set_name store.old object.0 word.now value) }
+    ensures len { length store.new ≡ length store.old }
+    ensures refused { IfErr result (λ e. e ≡ Memory.Refused) }
+{
+    let mut name = Txt::new(alloc);
+    name.push_word(word)?;
+    store.set(object, &name, value)
+}
+
+/// Gives an object the names of a scope: its number, its parent and the root.
+pub fn name_scope(
+    store: &mut Store,
+    alloc: Global,
+    object: Oid,
+    id: u32,
+    parent: Value,
+    root: Oid,
+) -> Result<(), Memory>
+    requires object { object.0 < length store.old }
+    requires parent { StandsAmong (length store.old) parent }
+    requires root { root.0 < length store.old }
+    ensures ok { OnOk result (store.new ≡ named store.old object.0 id parent root.0) }
+    ensures len { length store.new ≡ length store.old }
+    ensures refused { IfErr result (λ e. e ≡ Memory.Refused) }
+{
+    set_word(store, alloc, object, "$id", Value::Int(i64::from(id)))?;
+    set_word(store, alloc, object, "$parent", parent)?;
+    set_word(store, alloc, object, "$root", Value::Obj(root))
+}
+
+/// A new object of a scope, with the names that it has of its own.
+pub fn make_object(
+    store: &mut Store,
+    alloc: Global,
+    proto: Option<Oid>,
+    id: u32,
+    parent: Oid,
+    root: Oid,
+) -> Result<Oid, StoreFault>
+    requires proto { IfSome proto (λ p. p.0 < length store.old) }
+    requires parent { parent.0 < length store.old }
+    requires root { root.0 < length store.old }
+    ensures answer { Meets is_want (next_name store.old) result }
+    ensures ok { OnOk result (store.new ≡ named (store.old ++ new_object a_scope (option_map (λ p. p.0) proto) ∷ []) (length store.old) id (Value.Obj parent) root.0) }
+    ensures grown { length store.old ≤ length store.new }
+    ensures longer { OnOk result (length store.old < length store.new) }
+    ensures unchanged { IfErr result (λ e. is_want e ≡ false → store.new ≡ store.old) }
+{
+    let object = store.make(ObjKind::Scope, proto)?;
+    match name_scope(store, alloc, object, id, Value::Obj(parent), root) {
+        Ok(()) => Ok(object),
+        Err(m) => Err(StoreFault::Memory(m)),
+    }
+}
