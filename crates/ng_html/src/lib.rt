@@ -28,6 +28,8 @@ pub mod reading;
 pub mod source;
 pub mod step;
 pub mod tables;
+#[cfg(test)]
+mod tests;
 pub mod writing;
 
 pub use attrs::{Attr, Attrs};
