@@ -1,9 +1,9 @@
 -- What is spelled so is read.
-use Rattle.std.proofs.Common.{◌≡◌, ◌≢◌, ◌≤◌, ◌<◌, ℕ, zero, suc, ◌+◌, Bool, true, false, ◌&&◌, ◌||◌, not, ◌==◌, nat_lt, List, [], ◌∷◌, ◌++◌, length, refl, ap, ◌∙◌, sym, subst, arith, append_assoc, append-nil}
+use Rattle.std.proofs.Common.{◌≡◌, ◌≢◌, ◌≤◌, ◌<◌, ℕ, ◌+◌, Bool, true, false, ◌&&◌, ◌||◌, not, ◌==◌, nat_lt, List, [], ◌∷◌, ◌++◌, length, refl, ap, ◌∙◌, sym, subst, arith, append_assoc, append-nil}
 use Rattle.std.proofs.lemmas.Bool.Decides.{nat_tests}
 use Rattle.std.proofs.lemmas.List.{length-append}
 use Rattle.std.proofs.lemmas.Slice.Eq.{bytes_eq-Decides}
-use Rattle.std.specs.Prelude.{Result, Ok, Err, if◌then◌else◌, max}
+use Rattle.std.specs.Prelude.{Result, Ok, Err, if◌then◌else◌}
 use Rattle.std.specs.List.{list_all}
 use Rattle.std.specs.Str.{bytes_eq}
 use Rattle.ng_base.specs.Cells.{place}
@@ -11,7 +11,7 @@ use Rattle.ng_base.specs.Meets.{◌>>=◌}
 use Rattle.ng_base.proofs.Binds.{if_true, if_false}
 use Rattle.ng_markup.specs.Forest.{Node, Forest, element, text, comment, no_nodes, node, with_node}
 use Rattle.ng_markup.specs.FirstPath.{is_small_letter, is_special, is_element_name, is_element_char, is_text_char, is_text, start_tag, end_tag, spelling_node, spelling, AreApart, IsFirstNode, IsFirst, node_height, height, size, node_places, places, open_limit, node_limit, FirstSpells}
-use Rattle.ng_html.specs.Reading.{Around, Tree, State, between, noted, opened, started, closed, ended, with_text, is_nil, in_between, in_text, in_start, in_end, step_in, finished, finish_in, reads, read_chars, no_tree, later}
+use Rattle.ng_html.specs.Reading.{Around, Tree, State, between, noted, opened, started, ended, with_text, is_nil, finished, reads, read_chars, no_tree, later}
 use Rattle.ng_html.specs.declared.fault.HtmlFault.{HtmlFault}
 use Rattle.ng_html.specs.declared.step.Mode.{Mode}
 use Rattle.ng_html.specs.declared.step.Mode.TheVariants as mode
@@ -94,9 +94,9 @@ start_on total t n (c ∷ w) p cs h =
     let d = no_element_char c b.0 in
     let last : Result State HtmlFault = if is_element_char c then Ok (in_mode t (mode.Start (n ++ c ∷ []) p)) else Err later in
     ap (on total (w ++ 62 ∷ cs)) (
-      if_false (c == 62) (started t n p) (if c == 47 && is_nil n then Ok (in_mode t (mode.End [])) else last) d.0
-      ∙ (if_false (c == 47 && is_nil n) (Ok (in_mode t (mode.End []))) last (ap (λ x. x && is_nil n) d.1)
-      ∙ if_true (is_element_char c) (Ok (in_mode t (mode.Start (n ++ c ∷ []) p))) (Err later) b.0))
+    if_false (c == 62) (started t n p) (if c == 47 && is_nil n then Ok (in_mode t (mode.End [])) else last) d.0
+    ∙ (if_false (c == 47 && is_nil n) (Ok (in_mode t (mode.End []))) last (ap (λ x. x && is_nil n) d.1)
+    ∙ if_true (is_element_char c) (Ok (in_mode t (mode.Start (n ++ c ∷ []) p))) (Err later) b.0))
     ∙ (start_on total t (n ++ c ∷ []) w p cs b.1
     ∙ ap (λ x. on total cs (started t x p)) (append_assoc n (c ∷ []) w))
 
@@ -106,8 +106,8 @@ end_on total t n (c ∷ w) cs h =
     let b = both_true (is_element_char c) (list_all is_element_char w) h in
     let d = no_element_char c b.0 in
     ap (on total (w ++ 62 ∷ cs)) (
-      if_false (c == 62) (ended t n) (if is_element_char c then Ok (in_mode t (mode.End (n ++ c ∷ []))) else Err later) d.0
-      ∙ if_true (is_element_char c) (Ok (in_mode t (mode.End (n ++ c ∷ [])))) (Err later) b.0)
+    if_false (c == 62) (ended t n) (if is_element_char c then Ok (in_mode t (mode.End (n ++ c ∷ []))) else Err later) d.0
+    ∙ if_true (is_element_char c) (Ok (in_mode t (mode.End (n ++ c ∷ [])))) (Err later) b.0)
     ∙ (end_on total t (n ++ c ∷ []) w cs b.1
     ∙ ap (λ x. on total cs (ended t x)) (append_assoc n (c ∷ []) w))
 
@@ -121,9 +121,9 @@ text_flush total t u (c ∷ cs) a h =
     let p = place total (c ∷ cs) in
     let v = tree t.stack (with_node t.done (text u)) t.places in
     ap (on total cs) (
-      if_true (c == 60) (with_text t u >>= λ w. Ok (in_mode w (mode.Start [] p))) (Ok (in_mode t (mode.Text (u ++ c ∷ [])))) (same_code c 60 a)
-      ∙ (ap (λ (r : Result Tree HtmlFault). r >>= λ w. Ok (in_mode w (mode.Start [] p))) (text_added t u h)
-      ∙ sym (if_true (c == 60) (Ok (in_mode v (mode.Start [] p))) (noted v p >>= λ w. Ok (in_mode w (mode.Text (c ∷ [])))) (same_code c 60 a))))
+    if_true (c == 60) (with_text t u >>= λ w. Ok (in_mode w (mode.Start [] p))) (Ok (in_mode t (mode.Text (u ++ c ∷ [])))) (same_code c 60 a)
+    ∙ (ap (λ (r : Result Tree HtmlFault). r >>= λ w. Ok (in_mode w (mode.Start [] p))) (text_added t u h)
+    ∙ sym (if_true (c == 60) (Ok (in_mode v (mode.Start [] p))) (noted v p >>= λ w. Ok (in_mode w (mode.Text (c ∷ [])))) (same_code c 60 a))))
 
 noted_on : (t : Tree) (p : ℕ) → length t.places < node_limit → noted t p ≡ Ok (tree t.stack t.done (t.places ++ p ∷ []))
 noted_on t p h = if_true (nat_lt (length t.places) node_limit) (Ok (tree t.stack t.done (t.places ++ p ∷ []))) (Err later) (below (length t.places) node_limit h)
@@ -133,8 +133,8 @@ first_char_on : (total : ℕ) (t : Tree) (c : ℕ) (cs : List ℕ) → (c == 60)
 first_char_on total t c cs h few =
     let p = place total (c ∷ cs) in
     ap (on total cs) (
-      if_false (c == 60) (Ok (in_mode t (mode.Start [] p))) (noted t p >>= λ u. Ok (in_mode u (mode.Text (c ∷ [])))) h
-      ∙ ap (λ (r : Result Tree HtmlFault). r >>= λ u. Ok (in_mode u (mode.Text (c ∷ [])))) (noted_on t p few))
+    if_false (c == 60) (Ok (in_mode t (mode.Start [] p))) (noted t p >>= λ u. Ok (in_mode u (mode.Text (c ∷ [])))) h
+    ∙ ap (λ (r : Result Tree HtmlFault). r >>= λ u. Ok (in_mode u (mode.Text (c ∷ [])))) (noted_on t p few))
 
 few_of : (ps qs : List ℕ) (p : ℕ) → length (ps ++ p ∷ qs) ≤ node_limit → length ps < node_limit
 few_of ps qs p h = let e = length-append ps (p ∷ qs) in omega (arith, e, h)
@@ -162,8 +162,8 @@ start_tag_on total t n cs i d few =
     ap (λ x. reads total (in_mode t (mode.Start [] p)) x) whole
     ∙ (start_on total t [] n p cs (all_element_chars n i)
     ∙ ap (on total cs) (
-      if_true (is_element_name n && nat_lt (length t.stack) open_limit) (noted t p >>= λ u. Ok (between (opened u n))) (Err later) (both (is_element_name n) (nat_lt (length t.stack) open_limit) i (below (length t.stack) open_limit d))
-      ∙ ap (λ (r : Result Tree HtmlFault). r >>= λ u. Ok (between (opened u n))) (noted_on t p few)))
+    if_true (is_element_name n && nat_lt (length t.stack) open_limit) (noted t p >>= λ u. Ok (between (opened u n))) (Err later) (both (is_element_name n) (nat_lt (length t.stack) open_limit) i (below (length t.stack) open_limit d))
+    ∙ ap (λ (r : Result Tree HtmlFault). r >>= λ u. Ok (between (opened u n))) (noted_on t p few)))
 
 end_tag_on : (total : ℕ) (n cs : List ℕ) (before done : Forest) (os : List Around) (ps : List ℕ) → is_element_name n ≡ true →
     reads total (between (tree (record { name = n; before = before } ∷ os) done ps)) (end_tag n ++ cs) ≡ reads total (between (tree os (with_node before (element n [] done)) ps)) cs
@@ -203,12 +203,12 @@ element_on : (n : List ℕ) (f : Forest) → is_element_name n ≡ true → Fore
 element_on n f i ih total t before cs at high few e =
     let rest = spelling f ++ (end_tag n ++ cs) in
     let whole : (start_tag n ++ (spelling f ++ end_tag n)) ++ cs ≡ start_tag n ++ rest =
-      append_assoc (start_tag n) (spelling f ++ end_tag n) cs ∙ ap (λ x. start_tag n ++ x) (append_assoc (spelling f) (end_tag n) cs) in
+    append_assoc (start_tag n) (spelling f ++ end_tag n) cs ∙ ap (λ x. start_tag n ++ x) (append_assoc (spelling f) (end_tag n) cs) in
     let here : total ≡ size (before ++ (start_tag n ++ rest)) = e ∙ ap (λ x. size (before ++ x)) whole in
     let begins : place total (start_tag n ++ rest) ≡ size before = place_is total before (start_tag n ++ rest) here in
     let inside = opened (tree t.stack t.done (t.places ++ size before ∷ [])) n in
     let more : t.places ++ size before ∷ places (before ++ start_tag n) f ≡ (t.places ++ size before ∷ []) ++ places (before ++ start_tag n) f =
-      sym (append_assoc t.places (size before ∷ []) (places (before ++ start_tag n) f)) in
+    sym (append_assoc t.places (size before ∷ []) (places (before ++ start_tag n) f)) in
     ap (reads total (between t)) whole
     ∙ (start_tag_on total t n rest i (omega (arith, high)) (few_of t.places (places (before ++ start_tag n) f) (size before) few)
     ∙ (ap (λ x. reads total (between (opened (tree t.stack t.done (t.places ++ x ∷ [])) n)) rest) begins
@@ -222,7 +222,7 @@ node_then_on n f apart first now later_on total t before cs at high few e =
     let whole : (spelling_node n ++ spelling f) ++ cs ≡ spelling_node n ++ rest = append_assoc (spelling_node n) (spelling f) cs in
     let here : total ≡ size (before ++ (spelling_node n ++ rest)) = e ∙ ap (λ x. size (before ++ x)) whole in
     let more : t.places ++ (node_places before n ++ places (before ++ spelling_node n) f) ≡ (t.places ++ node_places before n) ++ places (before ++ spelling_node n) f =
-      sym (append_assoc t.places (node_places before n) (places (before ++ spelling_node n) f)) in
+    sym (append_assoc t.places (node_places before n) (places (before ++ spelling_node n) f)) in
     let all : length ((t.places ++ node_places before n) ++ places (before ++ spelling_node n) f) ≤ node_limit = subst (λ (ps : List ℕ). length ps ≤ node_limit) more few in
     let parts = length-append (t.places ++ node_places before n) (places (before ++ spelling_node n) f) in
     let u = tree t.stack (with_node t.done n) (t.places ++ node_places before n) in

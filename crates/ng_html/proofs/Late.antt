@@ -8,8 +8,7 @@ use Rattle.ng_markup.specs.Forest.{Forest, element, with_node, text}
 use Rattle.ng_markup.specs.FirstPath.{is_element_char, is_element_name, is_text, open_limit, node_limit}
 use Rattle.ng_html.specs.Free.{is_free}
 use Rattle.ng_html.specs.Laws.{Rest}
-use Rattle.ng_html.specs.Reading.{Around, Tree, State, between, noted, opened, started, closed, ended, with_text, is_nil, in_between, in_text, in_start, in_end, step_in, finished, finish_in, reads, read_chars, read_bytes, no_tree, later}
-use Rattle.ng_html.specs.Seen.{forest_of}
+use Rattle.ng_html.specs.Reading.{Around, Tree, State, between, noted, opened, started, closed, ended, with_text, is_nil, step_in, finished, finish_in, reads, read_chars, read_bytes, no_tree, later}
 use Rattle.ng_html.specs.TreeSeen.{source_of}
 use Rattle.ng_html.specs.declared.fault.HtmlFault.{HtmlFault}
 use Rattle.ng_html.specs.declared.source.Source.{Source}

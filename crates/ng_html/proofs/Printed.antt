@@ -4,11 +4,10 @@ use Rattle.std.proofs.lemmas.Bool.Decides.{nat_tests}
 use Rattle.std.proofs.lemmas.Str.{encodes-chars}
 use Rattle.std.specs.Prelude.{if◌then◌else◌, encode_utf8_all, codes}
 use Rattle.std.specs.List.{list_all, flat_map}
-use Rattle.std.specs.Str.{chars, IsUtf8}
 use Rattle.ng_base.proofs.Binds.{if_false}
 use Rattle.ng_markup.specs.Tables.{is_void, is_left_out, is_raw, is_omittable, is_line_dropping}
 use Rattle.ng_markup.specs.Forest.{Node, Forest, element, text, comment, no_nodes, node, text_char, print_start, print_end, print_node, print}
-use Rattle.ng_markup.specs.FirstPath.{is_small_letter, is_element_char, is_special, is_element_name, is_text_char, is_text, is_bare, start_tag, end_tag, spelling_node, spelling, IsFirstNode, IsFirst, FirstHtml, HasBareNode, HasBareTexts}
+use Rattle.ng_markup.specs.FirstPath.{is_small_letter, is_element_char, is_special, is_element_name, is_text_char, is_bare, start_tag, end_tag, spelling_node, spelling, IsFirstNode, IsFirst, HasBareNode, HasBareTexts}
 use Rattle.ng_html.specs.Laws.{PrintsBack}
 
 both_true : (a b : Bool) → (a && b) ≡ true → (a ≡ true) × (b ≡ true)

@@ -1,22 +1,21 @@
 -- What is read is spelled so.
-use Rattle.std.proofs.Common.{◌≡◌, ◌≢◌, ◌≤◌, ◌<◌, ℕ, zero, suc, ◌+◌, ◌-◌, Bool, true, false, ◌&&◌, ◌==◌, nat_lt, List, [], ◌∷◌, ◌++◌, length, refl, ap, ◌∙◌, sym, subst, arith, inl, inr, append_assoc, append-nil}
+use Rattle.std.proofs.Common.{◌≡◌, ◌≢◌, ◌≤◌, ◌<◌, ℕ, ◌-◌, Bool, true, false, ◌&&◌, ◌==◌, nat_lt, List, [], ◌∷◌, ◌++◌, length, refl, ap, ◌∙◌, sym, subst, arith, inl, inr, append_assoc, append-nil}
 use Rattle.std.proofs.lemmas.Bool.Decides.{nat_tests}
 use Rattle.std.proofs.lemmas.List.{length-append}
 use Rattle.std.proofs.lemmas.Slice.Eq.{bytes_eq-Decides}
-use Rattle.std.specs.Prelude.{Result, Ok, Err, if◌then◌else◌, ◌⊎◌, encode_utf8_all}
+use Rattle.std.specs.Prelude.{Result, Ok, Err, if◌then◌else◌}
 use Rattle.std.specs.Str.{bytes_eq}
 use Rattle.ng_base.specs.Cells.{place}
 use Rattle.ng_base.specs.Meets.{◌>>=◌}
 use Rattle.ng_base.proofs.Binds.{bind_ok, chosen, guarded}
-use Rattle.ng_markup.specs.Forest.{Node, Forest, element, text, comment, no_nodes, node, with_node}
-use Rattle.ng_markup.specs.FirstPath.{is_element_name, is_element_char, is_text, start_tag, end_tag, spelling, IsFirst, height, size, places, open_limit, node_limit, FirstSpells}
+use Rattle.ng_markup.specs.Forest.{Forest, element, text, no_nodes, with_node}
+use Rattle.ng_markup.specs.FirstPath.{is_element_name, is_element_char, is_text, start_tag, end_tag, spelling, height, size, places, open_limit, node_limit, FirstSpells}
 use Rattle.ng_html.specs.Reading.{Around, Tree, State, between, noted, opened, started, closed, ended, with_text, is_nil, in_between, in_text, in_start, in_end, step_in, finished, finish_in, reads, read_chars, no_tree, later}
-use Rattle.ng_html.specs.Reached.{IsEnded, stack_text, stack_places, IsStack, Stood, Reached}
+use Rattle.ng_html.specs.Reached.{IsEnded, stack_text, stack_places, Stood, Reached}
 use Rattle.ng_html.specs.declared.fault.HtmlFault.{HtmlFault}
 use Rattle.ng_html.specs.declared.step.Mode.{Mode}
 use Rattle.ng_html.specs.declared.step.Mode.TheVariants as mode
 use Rattle.ng_html.proofs.Spelled.{size-append, spelling-with, places-with, height-with, first-with, element_follows, text_follows, element_ends}
-
 
 pub ok_same : {A : Type 0} (x y : A) → (let r : Result A HtmlFault = Ok x in r) ≡ Ok y → x ≡ y
 ok_same x y h = cc
@@ -92,7 +91,7 @@ stood_end xs qs o os done s = record {
   first = first-with o.before (element o.name [] done) s.stack.2 (s.stack.1, refl, s.first) (element_follows o.before o.name [] done);
   high =
       let k : height (with_node o.before (element o.name [] done)) ≤ open_limit - length os =
-        height-with (open_limit - length os) o.before (element o.name [] done) (omega (arith, s.stack.3)) (omega (arith, s.high)) in
+      height-with (open_limit - length os) o.before (element o.name [] done) (omega (arith, s.stack.3)) (omega (arith, s.high)) in
       omega (arith, k, s.stack.4);
   text =
       ap (λ ys. ys ++ end_tag o.name) s.text
@@ -123,7 +122,7 @@ between_reached xs t c p r s e h =
           let n = noted_is t b.0 p b.1 in
           let v : Tree = record { stack = t.stack; done = t.done; places = t.places ++ p ∷ [] } in
           let q : Reaches (xs ++ c ∷ []) (record { tree = v; mode = mode.Text (c ∷ []) }) =
-            (xs, t.places, s.0, s.1, refl, ap (λ d. t.places ++ d ∷ []) e, length-push t.places p node_limit n.few, not_nil c []) in
+          (xs, t.places, s.0, s.1, refl, ap (λ d. t.places ++ d ∷ []) e, length-push t.places p node_limit n.few, not_nil c []) in
           subst (Reaches (xs ++ c ∷ [])) (ap (λ (u : Tree). let z : State = record { tree = u; mode = mode.Text (c ∷ []) } in z) n.made ∙ ok_same (record { tree = b.0; mode = mode.Text (c ∷ []) }) r b.2) q
     ]
 
@@ -135,9 +134,9 @@ text_reached xs t u c p r s e h =
           let v : Tree = record { stack = t.stack; done = with_node t.done (text u); places = t.places } in
           let d = guarded (is_text u) (Ok v) later b.0 b.1 in
           let w : Stood (s.0 ++ u) (s.1 ++ size s.0 ∷ []) t.stack (with_node t.done (text u)) =
-            stood_text s.0 s.1 t.stack t.done u s.2 s.3 s.7 d.0 (subst (λ (ps : List ℕ). length ps ≤ node_limit) s.5 s.6) in
+          stood_text s.0 s.1 t.stack t.done u s.2 s.3 s.7 d.0 (subst (λ (ps : List ℕ). length ps ≤ node_limit) s.5 s.6) in
           let q : Reaches (xs ++ c ∷ []) (record { tree = v; mode = mode.Start [] p }) =
-            (xs, subst (λ (ys : List ℕ). Stood ys t.places t.stack (with_node t.done (text u))) (sym s.4) (subst (λ (ps : List ℕ). Stood (s.0 ++ u) ps t.stack (with_node t.done (text u))) (sym s.5) w), ap (λ d. xs ++ d ∷ []) (is_code c 60 g.0), e) in
+          (xs, subst (λ (ys : List ℕ). Stood ys t.places t.stack (with_node t.done (text u))) (sym s.4) (subst (λ (ps : List ℕ). Stood (s.0 ++ u) ps t.stack (with_node t.done (text u))) (sym s.5) w), ap (λ d. xs ++ d ∷ []) (is_code c 60 g.0), e) in
           subst (Reaches (xs ++ c ∷ [])) (ap (λ (a : Tree). let z : State = record { tree = a; mode = mode.Start [] p } in z) (ok_same v b.0 d.1) ∙ ok_same (record { tree = b.0; mode = mode.Start [] p }) r b.2) q
       | inr g ↦
           subst (Reaches (xs ++ c ∷ [])) (ok_same (record { tree = t; mode = mode.Text (u ++ c ∷ []) }) r g.1)
@@ -170,9 +169,11 @@ start_reached xs t n p c r s h =
         let few : length (t.places ++ size s.0 ∷ []) ≤ node_limit = length-push t.places (size s.0) node_limit m.few in
         let w : Stood (s.0 ++ start_tag n) (t.places ++ size s.0 ∷ []) (record { name = n; before = t.done } ∷ t.stack) no_nodes = stood_start s.0 t.places t.stack t.done n s.1 i.0 (is_below (length t.stack) open_limit i.1) few in
         let e : xs ++ c ∷ [] ≡ s.0 ++ start_tag n = ap (λ ys. ys ++ c ∷ []) s.2 ∙ (append_assoc s.0 (60 ∷ n) (c ∷ []) ∙ ap (λ x. s.0 ++ 60 ∷ (n ++ x ∷ [])) (is_code c 62 g.0)) in
-        let q : Reaches (xs ++ c ∷ []) (between (opened v n)) =
-          (subst (λ (ys : List ℕ). Stood ys (t.places ++ p ∷ []) (record { name = n; before = t.done } ∷ t.stack) no_nodes) (sym e)
-          (subst (λ (x : ℕ). Stood (s.0 ++ start_tag n) (t.places ++ x ∷ []) (record { name = n; before = t.done } ∷ t.stack) no_nodes) (sym s.3) w), tt) in
+        let q : Reaches (xs ++ c ∷ []) (between (opened v n)) = (
+          subst (λ (ys : List ℕ). Stood ys (t.places ++ p ∷ []) (record { name = n; before = t.done } ∷ t.stack) no_nodes) (sym e)
+              (subst (λ (x : ℕ). Stood (s.0 ++ start_tag n) (t.places ++ x ∷ []) (record { name = n; before = t.done } ∷ t.stack) no_nodes) (sym s.3) w),
+          tt,
+        ) in
         subst (Reaches (xs ++ c ∷ [])) (ap (λ (u : Tree). between (opened u n)) m.made ∙ ok_same (between (opened b.0 n)) r b.2) q
 
 pub record Closed (xs ps : List ℕ) (u : Tree) : Type 0 where
@@ -197,7 +198,7 @@ end_reached xs t n c r s h =
           let k = closed_is s.0 t.places n t.stack t.done b.0 s.1 b.1 in
           let e : xs ++ c ∷ [] ≡ s.0 ++ end_tag n = ap (λ ys. ys ++ c ∷ []) s.2 ∙ (append_assoc s.0 (60 ∷ 47 ∷ n) (c ∷ []) ∙ ap (λ x. s.0 ++ 60 ∷ 47 ∷ (n ++ x ∷ [])) (is_code c 62 g.0)) in
           let q : Reaches (xs ++ c ∷ []) (between b.0) =
-            (subst (λ (ys : List ℕ). Stood ys b.0.places b.0.stack b.0.done) (sym e) (subst (λ (ps : List ℕ). Stood (s.0 ++ end_tag n) ps b.0.stack b.0.done) (sym k.nodes) k.stood), k.ended) in
+          (subst (λ (ys : List ℕ). Stood ys b.0.places b.0.stack b.0.done) (sym e) (subst (λ (ps : List ℕ). Stood (s.0 ++ end_tag n) ps b.0.stack b.0.done) (sym k.nodes) k.stood), k.ended) in
           subst (Reaches (xs ++ c ∷ [])) (ok_same (between b.0) r b.2) q
       | inr g ↦
           let k = guarded (is_element_char c) (Ok (record { tree = t; mode = mode.End (n ++ c ∷ []) })) later r g.1 in
@@ -237,9 +238,9 @@ finish_spelled xs t (mode.Text u) f qs s h =
     let v : Tree = record { stack = t.stack; done = with_node t.done (text u); places = t.places } in
     let d = guarded (is_text u) (Ok v) later b.0 b.1 in
     let w : Stood (s.0 ++ u) (s.1 ++ size s.0 ∷ []) t.stack (with_node t.done (text u)) =
-      stood_text s.0 s.1 t.stack t.done u s.2 s.3 s.7 d.0 (subst (λ (ps : List ℕ). length ps ≤ node_limit) s.5 s.6) in
+    stood_text s.0 s.1 t.stack t.done u s.2 s.3 s.7 d.0 (subst (λ (ps : List ℕ). length ps ≤ node_limit) s.5 s.6) in
     let q : Stood xs t.places t.stack (with_node t.done (text u)) =
-      subst (λ (ys : List ℕ). Stood ys t.places t.stack (with_node t.done (text u))) (sym s.4) (subst (λ (ps : List ℕ). Stood (s.0 ++ u) ps t.stack (with_node t.done (text u))) (sym s.5) w) in
+    subst (λ (ys : List ℕ). Stood ys t.places t.stack (with_node t.done (text u))) (sym s.4) (subst (λ (ps : List ℕ). Stood (s.0 ++ u) ps t.stack (with_node t.done (text u))) (sym s.5) w) in
     finished_spelled xs t.places t.stack (with_node t.done (text u)) f qs q (subst (λ (a : Tree). finished a.stack a.done a.places ≡ answer f qs) (sym (ok_same v b.0 d.1)) b.2)
 finish_spelled xs t (mode.Start n p) f qs s h = absurd (cc)
 finish_spelled xs t (mode.End n) f qs s h = absurd (cc)

@@ -1,8 +1,8 @@
 -- The spelling of a forest with one node more.
-use Rattle.std.proofs.Common.{◌≡◌, ◌≤◌, ℕ, zero, suc, ◌+◌, Bool, true, false, List, [], ◌∷◌, ◌++◌, length, refl, ap, ◌∙◌, sym, subst, arith, append_assoc, append-nil}
+use Rattle.std.proofs.Common.{◌≡◌, ◌≤◌, ℕ, ◌+◌, List, ◌++◌, length, ap, ◌∙◌, sym, arith, append_assoc, append-nil}
 use Rattle.std.proofs.lemmas.Str.{encodes-append}
 use Rattle.std.proofs.lemmas.List.{length-append}
-use Rattle.std.specs.Prelude.{max, encode_utf8_all}
+use Rattle.std.specs.Prelude.{encode_utf8_all}
 use Rattle.ng_markup.specs.Forest.{Node, Forest, element, text, comment, no_nodes, node, with_node}
 use Rattle.ng_markup.specs.FirstPath.{spelling_node, spelling, AreApart, IsFirstNode, IsFirst, node_height, height, size, node_places, places}
 use Rattle.ng_html.specs.Reached.{IsEnded}

@@ -1,24 +1,21 @@
 -- Reading is exactly the form, and printing goes back.
-use Rattle.std.proofs.Common.{◌≡◌, ℕ, Bool, true, false, ◌&&◌, ◌||◌, not, ◌==◌, List, [], ◌∷◌, ◌++◌, length, refl, ap, ◌∙◌, sym, subst, arith, append_assoc, append-nil}
-use Rattle.std.proofs.lemmas.Bool.Decides.{nat_tests}
-use Rattle.std.proofs.lemmas.Str.{is_utf8-from_IsUtf8, IsUtf8-from_is_utf8, encodes-chars}
-use Rattle.std.specs.Prelude.{Result, Ok, Err, if◌then◌else◌, encode_utf8_all, codes}
-use Rattle.std.specs.List.{list_all, flat_map}
+use Rattle.std.proofs.Common.{◌≡◌, ℕ, List, length, ap, ◌∙◌, sym}
+use Rattle.std.proofs.lemmas.Str.{IsUtf8-from_is_utf8, encodes-chars}
+use Rattle.std.specs.Prelude.{Result, Ok, Err}
 use Rattle.std.specs.Str.{chars, IsUtf8, is_utf8}
-use Rattle.ng_base.specs.Meets.{◌>>=◌, Gives}
-use Rattle.ng_base.proofs.Binds.{bind_err, chosen, guarded, if_false}
-use Rattle.ng_markup.specs.Tables.{is_void, is_left_out, is_raw, is_omittable, is_line_dropping}
-use Rattle.ng_markup.specs.Forest.{Node, Forest, element, text, comment, no_nodes, node, text_char, print_start, print_end, print_node, print}
-use Rattle.ng_markup.specs.FirstPath.{is_small_letter, is_element_char, is_special, is_element_name, is_text_char, is_text, is_bare, start_tag, end_tag, spelling_node, spelling, IsFirstNode, IsFirst, size, FirstSpells, FirstHtml, HasBareNode, HasBareTexts}
+use Rattle.ng_base.specs.Meets.{Gives}
+use Rattle.ng_base.proofs.Binds.{guarded}
+use Rattle.ng_markup.specs.Forest.{Forest}
+use Rattle.ng_markup.specs.FirstPath.{size, FirstHtml}
 use Rattle.ng_html.specs.Free.{is_free}
-use Rattle.ng_html.specs.Laws.{Found, Only, Rest, PrintsBack}
+use Rattle.ng_html.specs.Laws.{Found, Only}
 use Rattle.ng_html.specs.Reading.{read_chars, read_bytes, later}
 use Rattle.ng_html.specs.Seen.{forest_of}
 use Rattle.ng_html.specs.TreeSeen.{source_of}
 use Rattle.ng_html.specs.declared.fault.HtmlFault.{HtmlFault}
 use Rattle.ng_html.specs.declared.source.Source.{Source}
 use Rattle.ng_html.proofs.Bytes.{is_text_of}
-use Rattle.ng_html.proofs.Sound.{Answer, answer, read_spelled}
+use Rattle.ng_html.proofs.Sound.{answer, read_spelled}
 use Rattle.ng_html.proofs.Complete.{spelled_read}
 
 size_is : (bs : List ℕ) → IsUtf8 bs → length bs ≡ size (chars bs)

@@ -1,5 +1,5 @@
 -- Parts of a text as contracts see them.
-use Rattle.std.specs.Prelude.{◌≡◌, ℕ, Bool, true, false, List, [], ◌∷◌, Option, option_map, map, ⊤}
+use Rattle.std.specs.Prelude.{◌≡◌, ℕ, Bool, true, false, List, [], ◌∷◌, ⊤}
 use Rattle.ng_markup.specs.Holes.{Part, plain, hole, is_pair}
 use Rattle.ng_html.specs.declared.holes.Piece.{Piece}
 use Rattle.ng_html.specs.declared.holes.Piece.TheVariants as piece

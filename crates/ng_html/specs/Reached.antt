@@ -1,6 +1,6 @@
 -- What the characters that were read are, where these elements are open.
 use Rattle.std.specs.Prelude.{◌≡◌, ◌≢◌, ◌≤◌, ⊤, ℕ, suc, ◌+◌, true, List, [], ◌∷◌, ◌++◌, length}
-use Rattle.ng_markup.specs.Forest.{Node, Forest, element, text, comment, no_nodes, node}
+use Rattle.ng_markup.specs.Forest.{Forest, text, no_nodes, node}
 use Rattle.ng_markup.specs.FirstPath.{is_element_name, start_tag, spelling, IsFirst, height, size, places, open_limit, node_limit}
 use Rattle.ng_html.specs.Reading.{Around, Tree}
 use Rattle.ng_html.specs.declared.step.Mode.{Mode}

@@ -1,5 +1,5 @@
 -- What the reader's types stand for.
-use Rattle.std.specs.Prelude.{ℕ, List, [], ◌∷◌, map, reverse}
+use Rattle.std.specs.Prelude.{ℕ, List, map, reverse}
 use Rattle.ng_markup.specs.Forest.{Forest}
 use Rattle.ng_html.specs.Seen.{forest_of}
 use Rattle.ng_html.specs.Reading.{Around, Tree, State}

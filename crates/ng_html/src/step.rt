@@ -61,7 +61,13 @@ fn step_between(alloc: Global, tree: Tree, c: char, place: u64) -> Result<State,
     })
 }
 
-fn step_text(alloc: Global, tree: Tree, mut text: Txt, c: char, place: u64) -> Result<State, HtmlFault>
+fn step_text(
+    alloc: Global,
+    tree: Tree,
+    mut text: Txt,
+    c: char,
+    place: u64,
+) -> Result<State, HtmlFault>
     ensures { Gives is_free state_of (in_text (tree_of tree) text c place) result }
 {
     if c == '<' {
@@ -78,7 +84,13 @@ fn step_text(alloc: Global, tree: Tree, mut text: Txt, c: char, place: u64) -> R
     })
 }
 
-fn step_start(alloc: Global, tree: Tree, mut name: Txt, place: u64, c: char) -> Result<State, HtmlFault>
+fn step_start(
+    alloc: Global,
+    tree: Tree,
+    mut name: Txt,
+    place: u64,
+    c: char,
+) -> Result<State, HtmlFault>
     ensures { Gives is_free state_of (in_start (tree_of tree) name place c) result }
 {
     if c == '>' {

@@ -1,10 +1,10 @@
 -- Documents of the first path: elements without attributes between their two tags, and texts as they are.
-use Rattle.std.specs.Prelude.{◌≡◌, ◌≢◌, ◌≤◌, ⊤, ℕ, suc, ◌+◌, max, ◌==◌, ◌&&◌, ◌||◌, nat_le, not, Bool, true, false, List, [], ◌∷◌, ◌++◌, length, Option, None, Some, codes, encode_utf8_all}
+use Rattle.std.specs.Prelude.{◌≡◌, ◌≢◌, ◌≤◌, ⊤, ℕ, suc, max, ◌==◌, ◌&&◌, ◌||◌, nat_le, not, Bool, true, false, List, [], ◌∷◌, ◌++◌, length, Option, None, Some, encode_utf8_all}
 use Rattle.std.specs.List.{list_all}
 use Rattle.std.specs.Str.{chars, IsUtf8}
 use Rattle.ng_markup.specs.Tables.{is_void, is_left_out, is_raw, is_omittable, is_line_dropping}
 use Rattle.ng_markup.specs.Forest.{Node, Forest, element, text, comment, no_nodes, node}
-use Rattle.ng_markup.specs.Holes.{Part, parts_of}
+use Rattle.ng_markup.specs.Holes.{parts_of}
 
 abbrev pub is_small_letter : ℕ → Bool
 is_small_letter c = nat_le 97 c && nat_le c 122

@@ -1,6 +1,6 @@
 use Rattle.std.proofs.Common.{◌≡◌, length}
 use Rattle.std.specs.List.{list_all}
-use Rattle.ng_markup.specs.FirstPath.{is_element_char, is_text_char}
+use Rattle.ng_markup.specs.FirstPath.{is_text_char}
 use Rattle.ng_html.proofs.form.all_text_chars.Given as goal
 
 abbrev pub invariant-loop-c : goal.invariant-loop-c

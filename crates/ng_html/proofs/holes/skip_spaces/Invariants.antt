@@ -1,6 +1,5 @@
 use Rattle.std.proofs.Common.{◌≡◌, length}
-use Rattle.std.specs.List.{list_all}
-use Rattle.ng_markup.specs.Holes.{is_name_char, is_space, past_spaces}
+use Rattle.ng_markup.specs.Holes.{past_spaces}
 use Rattle.ng_html.proofs.holes.skip_spaces.Given as goal
 
 abbrev pub invariant-loop-c : goal.invariant-loop-c

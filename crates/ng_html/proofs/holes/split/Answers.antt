@@ -1,6 +1,5 @@
-use Rattle.std.proofs.Common.{rules, ◌≡◌, ◌∷◌, ◌++◌, ap, sym, ◌∙◌, List, ℕ}
-use Rattle.std.specs.Prelude.{option_map, Some}
-use Rattle.ng_markup.specs.Holes.{parts_from}
+use Rattle.std.proofs.Common.{rules, ap, sym, ◌∙◌}
+use Rattle.std.specs.Prelude.{option_map}
 use Rattle.ng_html.specs.Pieces.{piece_of}
 use Rattle.ng_html.proofs.HoleSteps.{one_more, pair_more}
 use Rattle.ng_html.proofs.holes.split.Goals as goal

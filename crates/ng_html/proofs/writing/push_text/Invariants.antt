@@ -2,7 +2,7 @@ use Rattle.std.proofs.Common.{◌≡◌, ◌++◌, length}
 use Rattle.std.specs.Prelude.{encode_utf8_all}
 use Rattle.std.specs.List.{flat_map}
 use Rattle.ng_markup.specs.Forest.{text_char}
-use Rattle.ng_html.proofs.write.push_text.Given as goal
+use Rattle.ng_html.proofs.writing.push_text.Given as goal
 
 abbrev pub invariant-loop-c : goal.invariant-loop-c
 invariant-loop-c l = l.into.items ++ encode_utf8_all (flat_map text_char l.reader) ≡ l.initial.into.items ++ encode_utf8_all (flat_map text_char l.initial.reader)

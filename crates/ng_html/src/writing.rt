@@ -198,5 +198,4 @@ pub fn write(f: &Forest, into: &mut Vec<u8>) -> Result<(), Memory>
 /// the same forest.
 pub fn prints_back()
     ensures { PrintsBack }
-{
-}
+{}

@@ -1,4 +1,4 @@
-use Rattle.std.proofs.Common.{rules, ◌≡◌, length, ap, sym, ◌∙◌}
+use Rattle.std.proofs.Common.{rules}
 use Rattle.std.specs.Prelude.{Err, Result}
 use Rattle.ng_base.specs.Meets.{Gives}
 use Rattle.ng_html.specs.Free.{is_free}
@@ -9,7 +9,7 @@ use Rattle.ng_html.specs.declared.source.Source.{Source}
 use Rattle.ng_html.proofs.Bytes.{no_text, is_text_of}
 use Rattle.ng_html.proofs.Whole.{found, only}
 use Rattle.ng_html.proofs.Late.{rest}
-use Rattle.ng_html.proofs.read.read.Goals as goal
+use Rattle.ng_html.proofs.reading.read.Goals as goal
 
 pub returns-in-Err : goal.returns-in-Err
 returns-in-Err c =

@@ -3,7 +3,7 @@ use Rattle.std.specs.Prelude.{encode_utf8_all}
 use Rattle.std.specs.List.{flat_map}
 use Rattle.ng_markup.specs.Forest.{print_attribute}
 use Rattle.ng_html.specs.Attrs.{attr_of}
-use Rattle.ng_html.proofs.write.push_attributes.Given as goal
+use Rattle.ng_html.proofs.writing.push_attributes.Given as goal
 
 abbrev pub invariant-loop-a : goal.invariant-loop-a
 invariant-loop-a l =

@@ -3,7 +3,7 @@ use Rattle.std.proofs.lemmas.Grind.{common_steps}
 use Rattle.ng_html.proofs.Prints.{print_steps, printed_element}
 use Rattle.std.proofs.lemmas.Result.{on_ok_weaker}
 use Rattle.ng_html.specs.Seen.{forest_of}
-use Rattle.ng_html.proofs.write.+write.Goals as goal
+use Rattle.ng_html.proofs.writing.+write.Goals as goal
 
 pub push_forest-loop-n-preserved : goal.push_forest-loop-n-preserved
 push_forest-loop-n-preserved t c = grind (arith, common_steps, print_steps)
