@@ -1,0 +1,5 @@
+//! Values: operators, texts and snapshots.
+#![tactic(auto)]
+
+pub mod numbers;
+pub mod operators;
