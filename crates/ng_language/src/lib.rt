@@ -7,3 +7,4 @@
 //! It comes from AngularJS's guide, "Expressions". It holds no reader, no evaluator and no table in code.
 #![tactic(auto)]
 pub mod syntax;
+pub mod unfolding;
