@@ -5,5 +5,8 @@ mod index;
 pub mod numbers;
 pub mod operators;
 mod ordering;
+mod parts;
+pub mod snapping;
+pub mod snapshot;
 mod tables;
 mod unfolding;

@@ -7,7 +7,7 @@ ghost use Rattle.ng_base.specs.Objects.{object_at, StandsAmong};
 ghost use Rattle.ng_base.specs.Views.{ViewTree, prim, list, rec, views_from, views_list, fields_from, fields_list};
 ghost use Rattle.ng_base.specs.ViewOf.{view_of, views_of, fields_of, field_of};
 ghost use Rattle.ng_base.specs.declared.value.Value.TheVariants.{Obj};
-ghost use Rattle.ng_language.specs.Unfolding.{unfold_within, unfold_object, unfold_items, unfold_fields, prims, own_entries, below_object, unfold_list, unfold_record, unfolded, name_mode, item_mode, Field};
+ghost use Rattle.ng_language.specs.Unfolding.{unfold_within, unfold_object, unfold_items, unfold_fields, prims, own_entries, below_object, unfold_list, unfold_record, unfolded, name_mode, item_mode, level_limit, node_limit, Field};
 ghost use Rattle.ng_language.specs.Views.{ViewStands, ViewsStand, FieldsStand};
 ghost use Rattle.ng_value.specs.Seen.{view_spent, views_spent, fields_spent};
 
@@ -262,4 +262,27 @@ fn unfold_fields<H: Heap>(
         }
     }
     Ok((done, left))
+}
+
+/// The levels that are unfolded, the value's own counted.
+fn levels() -> u32
+    ensures { result ≡ level_limit }
+{
+    101
+}
+
+/// The nodes that are unfolded.
+fn nodes() -> u32
+    ensures { result ≡ node_limit }
+{
+    100_000
+}
+
+/// A view without what its mode leaves out, or TooBig.
+pub(crate) fn unfolded<H: Heap>(alloc: Global, h: &H, mode: Mode, v: &View) -> Result<View, Fault>
+    requires { ViewStands (length (H.objects h.now)) (view_of v.now) }
+    ensures { Gives is_memory view_of (unfolded mode (H.objects h.now) (view_of v.now)) result }
+{
+    let (view, _) = unfold_view(alloc, h, mode, levels(), v, nodes())?;
+    Ok(view)
 }
