@@ -1,5 +1,5 @@
 -- What reads and changes the objects of a page.
-use Rattle.std.specs.Prelude.{◌≡◌, ◌<◌, ◌^◌, ℕ, zero, suc, List, [], ◌∷◌, ◌++◌, length, Option, None, Some, bytes_eq}
+use Rattle.std.specs.Prelude.{◌≡◌, ◌<◌, ◌^◌, ℕ, zero, suc, List, [], ◌∷◌, ◌++◌, ◌-◌, length, slice_index_or, Option, None, Some, bytes_eq}
 use Rattle.std.specs.List.{AllByRecursion, IsDistinct}
 use Rattle.std.specs.Map.{keys_of}
 use Rattle.std.specs.Option.{IfSome}
@@ -7,6 +7,7 @@ use Rattle.indexmap.specs.IndexMap.{insert_entry}
 use Rattle.ng_base.specs.Objects.{Object, object_at, own, StandsAmong}
 use Rattle.ng_base.specs.declared.heap.ObjKind.{ObjKind}
 use Rattle.ng_base.specs.declared.value.Value.{Value}
+use Rattle.ng_base.specs.declared.value.Value.TheVariants as value
 
 abbrev pub proto_of : List Object → ℕ → Option ℕ
 proto_of objects o = (object_at objects o).proto
@@ -42,6 +43,15 @@ set_name objects o name v = update_at objects o (with_property name v)
 
 abbrev pub with_items : List Value → Object → Object
 with_items items x = record { kind = x.kind; proto = x.proto; items = items; properties = x.properties }
+
+abbrev pub items_at : List Object → ℕ → List Value
+items_at objects o = (object_at objects o).items
+
+abbrev pub first_item : List Value → Value
+first_item items = slice_index_or items 0 value.Undefined
+
+abbrev pub last_item : List Value → Value
+last_item items = slice_index_or items (length items - 1) value.Undefined
 
 -- an array has other items
 abbrev pub set_items : List Object → ℕ → List Value → List Object

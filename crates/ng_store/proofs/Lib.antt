@@ -5,3 +5,4 @@ pub mod Looks
 pub mod Sound
 pub mod JsonLists
 pub mod PlacedSound
+pub mod ArraySound

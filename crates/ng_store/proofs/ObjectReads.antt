@@ -2,7 +2,9 @@
 use Rattle.std.proofs.Common.{◌≡◌, ◌<◌, ◌+◌, ℕ, zero, suc, List, [], ◌∷◌, ◌++◌, length, get_or, map, sym, ap, ◌∙◌, arith, refl, subst, Option, Some, None, add-zero, add-suc}
 use Rattle.ng_base.specs.Objects.{Object, object_at, own_of, own}
 use Rattle.ng_base.specs.declared.value.Value.{Value}
-use Rattle.ng_language.specs.Objects.{proto_of, IsObjectAt, AreObjectsFrom, AreObjects}
+use Rattle.ng_language.specs.Objects.{proto_of, IsObjectAt, AreObjectsFrom, AreObjects, with_items, set_items, items_at}
+use Rattle.std.proofs.Math.ListN.{set}
+use Rattle.ng_store.proofs.Changes.{objects_of-set}
 use Rattle.ng_store.specs.ObjectOf.{object_of, objects_of}
 use Rattle.ng_store.specs.declared.stored.Stored.{Stored}
 
@@ -27,3 +29,10 @@ object_is objects o h a = let e : 0 + o ≡ o = omega arith in subst (λ n. IsOb
 pub objects_of-push : (xs : List Stored) (x : Stored) → objects_of (xs ++ x ∷ []) ≡ objects_of xs ++ object_of x ∷ []
 objects_of-push [] x = refl
 objects_of-push (y ∷ ys) x = ap (λ os. object_of y ∷ os) (objects_of-push ys x)
+
+-- an object whose items were changed in its place
+pub items_changed : (xs : List Stored) (i : ℕ) (s new : Stored) (f : List Value → List Value) → i < length xs → s ≡ get_or xs i s → object_of new ≡ with_items (f s.items.items) (object_of s) → objects_of (set xs i new) ≡ set_items (objects_of xs) i (f (items_at (objects_of xs) i))
+items_changed xs i s new f h e n =
+    let at : s.items.items ≡ items_at (objects_of xs) i = ap (λ x. x.items) (sym (stored_at xs i s h e)) in
+    objects_of-set xs i s new (with_items (f (items_at (objects_of xs) i))) h
+    (n ∙ (ap (λ vs. with_items (f vs) (object_of s)) at ∙ ap (λ x. with_items (f (items_at (objects_of xs) i)) (object_of x)) e))

@@ -12,6 +12,10 @@ abbrev pub is_refused : Memory → Bool
 is_refused Refused = true
 is_refused Worn = false
 
+-- an answer of a call that leaves an array with so many items: fewer than 2^32 are kept
+abbrev pub where_short : {A : Type 0} → ℕ → A → Result A Memory
+where_short count x = if nat_lt count 4294967296 then Ok x else Err Worn
+
 abbrev pub is_want : StoreFault → Bool
 is_want (OfMemory m) = is_refused m
 is_want Full = false

@@ -1,6 +1,7 @@
 //! Objects with prototypes: what scopes, arrays, events and records of a page are made of.
 #![tactic(auto)]
 
+mod arrays;
 mod heap;
 mod index;
 mod objects;

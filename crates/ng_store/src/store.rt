@@ -1,15 +1,17 @@
 //! The store.
-ghost use Rattle.std.specs.Prelude.{◌≡◌, ◌<◌, ◌++◌, ◌∷◌, [], length, slice_get, Some, true, is_some, option_copied, IfOk, option_map, OnOk, OnErr, IsOk, IfErr, IfSome, bytes_eq};
+ghost use Rattle.std.specs.Prelude.{◌≡◌, ◌<◌, ◌≤◌, ◌+◌, ◌-◌, take, drop, reverse, slice_set, slice_range, ◌++◌, ◌∷◌, [], length, slice_get, Some, true, is_some, option_copied, IfOk, option_map, OnOk, OnErr, IsOk, IfErr, IfSome, bytes_eq};
+ghost use Rattle.std.specs.List.{splice, AllByRecursion};
 ghost use Rattle.std.specs.Map.{lookup};
 ghost use Rattle.ng_base.specs.Meets.{Meets};
 ghost use Rattle.ng_base.specs.Objects.{own, object_at, names_of, StandsAmong};
 ghost use Rattle.ng_base.specs.declared.fault.Memory.TheVariants.{Refused};
-ghost use Rattle.ng_language.specs.Objects.{AreObjects, look, set_name, new_object};
+ghost use Rattle.ng_language.specs.Objects.{AreObjects, look, set_name, set_items, items_at, first_item, last_item, new_object};
 ghost use Rattle.serde_json.specs.View.{view};
 ghost use Rattle.ng_store.specs.Json.{is_json_want, json_value, with_json};
-ghost use Rattle.ng_store.specs.Answers.{is_refused, is_want, next_name};
+ghost use Rattle.ng_store.specs.Answers.{is_refused, is_want, next_name, where_short};
 ghost use Rattle.ng_store.specs.declared.store.StoreFault.TheVariants.{Memory as OfMemory};
 
+use crate::arrays;
 use crate::json::{is_long, is_whole, JsonFault};
 use crate::objects;
 use crate::placing::{add, overfills};
@@ -17,7 +19,7 @@ use crate::stored::Stored;
 use indexmap::IndexMap;
 use ng_base::fault::Memory;
 use ng_base::heap::ObjKind;
-use ng_base::lists::Names;
+use ng_base::lists::{Names, Values};
 use ng_base::name::Oid;
 use ng_base::txt::Txt;
 use ng_base::value::Value;
@@ -185,6 +187,82 @@ impl Store {
     {
         objects::set(&mut self.objects, o, name, v)?;
         Ok(())
+    }
+
+    /// Adds an item at the end of an array, and gives its length.
+    pub fn push(&mut self, o: Oid, v: Value) -> Result<u32, Memory>
+        requires object { o.0 < length self.old }
+        requires stands { StandsAmong (length self.old) v }
+        ensures length { Meets is_refused (where_short (length (items_at self.old o.0) + 1) (length (items_at self.old o.0) + 1)) result }
+        ensures pushed { OnOk result (self.new ≡ set_items self.old o.0 (items_at self.old o.0 ++ v ∷ [])) }
+        ensures unchanged { OnErr result (self.new ≡ self.old) }
+    {
+        let count = arrays::push(&mut self.objects, o, v)?;
+        Ok(count)
+    }
+
+    /// Adds an item at the front of an array, and gives its length.
+    pub fn unshift(&mut self, o: Oid, v: Value) -> Result<u32, Memory>
+        requires object { o.0 < length self.old }
+        requires stands { StandsAmong (length self.old) v }
+        ensures length { Meets is_refused (where_short (length (items_at self.old o.0) + 1) (length (items_at self.old o.0) + 1)) result }
+        ensures pushed { OnOk result (self.new ≡ set_items self.old o.0 (v ∷ items_at self.old o.0)) }
+        ensures unchanged { OnErr result (self.new ≡ self.old) }
+    {
+        let count = arrays::unshift(&mut self.objects, o, v)?;
+        Ok(count)
+    }
+
+    /// Takes the last item of an array, Undefined where there is none.
+    pub fn pop(&mut self, o: Oid) -> Value
+        requires { o.0 < length self.old }
+        ensures value { result ≡ last_item (items_at self.old o.0) }
+        ensures popped { self.new ≡ set_items self.old o.0 (take (length (items_at self.old o.0) - 1) (items_at self.old o.0)) }
+        ensures stands { StandsAmong (length self.new) result }
+    {
+        arrays::pop(&mut self.objects, o)
+    }
+
+    /// Takes the first item of an array, Undefined where there is none.
+    pub fn shift(&mut self, o: Oid) -> Value
+        requires { o.0 < length self.old }
+        ensures value { result ≡ first_item (items_at self.old o.0) }
+        ensures shifted { self.new ≡ set_items self.old o.0 (drop 1 (items_at self.old o.0)) }
+        ensures stands { StandsAmong (length self.new) result }
+    {
+        arrays::shift(&mut self.objects, o)
+    }
+
+    /// Turns the items of an array round.
+    pub fn reverse(&mut self, o: Oid)
+        requires { o.0 < length self.old }
+        ensures { self.new ≡ set_items self.old o.0 (reverse (items_at self.old o.0)) }
+    {
+        arrays::reverse(&mut self.objects, o);
+    }
+
+    /// Puts a value in the place of an item of an array.
+    pub fn put_item(&mut self, o: Oid, i: u32, v: Value)
+        requires object { o.0 < length self.old }
+        requires below { i < length (items_at self.old o.0) }
+        requires stands { StandsAmong (length self.old) v }
+        ensures { self.new ≡ set_items self.old o.0 (slice_set (items_at self.old o.0) i v) }
+    {
+        arrays::put_item(&mut self.objects, o, i, v);
+    }
+
+    /// Takes items of an array out, puts values in their place, and gives what was taken.
+    pub fn splice(&mut self, o: Oid, from: u32, count: u32, new: &[Value]) -> Result<Values, Memory>
+        requires object { o.0 < length self.old }
+        requires within { from + count ≤ length (items_at self.old o.0) }
+        requires stands { AllByRecursion (StandsAmong (length self.old)) new.now }
+        ensures taken { Meets is_refused (where_short (length (items_at self.old o.0) - count + length new.now) (slice_range (items_at self.old o.0) from (from + count))) result }
+        ensures spliced { OnOk result (self.new ≡ set_items self.old o.0 (splice (items_at self.old o.0) from (from + count) new.now)) }
+        ensures stands { IfOk result (λ taken. AllByRecursion (StandsAmong (length self.new)) taken) }
+        ensures unchanged { OnErr result (self.new ≡ self.old) }
+    {
+        let taken = arrays::splice(self.alloc, &mut self.objects, o, from, count, new)?;
+        Ok(taken)
     }
 
     /// Puts JSON into the store: the objects in it behind those that stand, names in the order of their bytes.

@@ -1,0 +1,16 @@
+use Rattle.std.proofs.Common.{◌≡◌, ◌<◌, ◌+◌, ◌-◌, ◌∙◌, ◌^◌, sym, ap, subst, List, length, take, drop, reverse, set}
+use Rattle.ng_base.specs.Objects.{Object, StandsAmong}
+use Rattle.ng_base.specs.declared.value.Value.TheVariants as value
+use Rattle.ng_language.specs.Objects.{AreObjects, items_at, set_items}
+use Rattle.ng_store.specs.ObjectOf.{objects_of}
+use Rattle.ng_store.proofs.ArraySound.{are_items, sound_items, items_set}
+use Rattle.ng_store.proofs.store.Store.put_item.Goals as goal
+
+pub invariant_of-self : goal.invariant_of-self
+invariant_of-self c =
+    let old : List Object = objects_of c.self.inside.objects.items in
+    let n : length c.args.self.now ≡ length old = ap length (sym c.self.view_is) in
+    let w : c.args.o.0 < length old = subst (λ k. c.args.o.0 < k) n c.requires.object in
+    let items = are_items old c.args.o.0 w c.self.invariant in
+    let stands : StandsAmong (length old) c.args.v = subst (λ k. StandsAmong k c.args.v) n c.requires.stands in
+    subst AreObjects (sym c.put_item.ensures) (sound_items old c.args.o.0 _ c.self.invariant (items_set (length old) c.args.i (items_at old c.args.o.0) c.args.v items stands))

@@ -1,0 +1,23 @@
+use Rattle.std.proofs.Common.{◌≡◌, ◌<◌, ◌+◌, ◌-◌, ◌∙◌, ◌^◌, sym, ap, subst, List, length, take, drop, reverse, set}
+use Rattle.ng_base.specs.Objects.{Object, StandsAmong}
+use Rattle.ng_base.specs.declared.value.Value.TheVariants as value
+use Rattle.ng_language.specs.Objects.{AreObjects, items_at, set_items}
+use Rattle.ng_store.specs.ObjectOf.{objects_of}
+use Rattle.ng_store.proofs.ArraySound.{are_items, sound_items, item_or_stands, length-set_items, items_dropped}
+use Rattle.ng_store.proofs.store.Store.shift.Goals as goal
+
+pub invariant_of-self : goal.invariant_of-self
+invariant_of-self c =
+    let old : List Object = objects_of c.self.inside.objects.items in
+    let n : length c.args.self.now ≡ length old = ap length (sym c.self.view_is) in
+    let w : c.args.o.0 < length old = subst (λ k. c.args.o.0 < k) n c.requires in
+    let items = are_items old c.args.o.0 w c.self.invariant in
+    subst AreObjects (sym c.shift.ensures.shifted) (sound_items old c.args.o.0 _ c.self.invariant (items_dropped (length old) 1 (items_at old c.args.o.0) items))
+
+pub returns-clause-stands : goal.returns-clause-stands
+returns-clause-stands c =
+    let old : List Object = objects_of c.self.inside.objects.items in
+    let n : length c.args.self.now ≡ length old = ap length (sym c.self.view_is) in
+    let w : c.args.o.0 < length old = subst (λ k. c.args.o.0 < k) n c.requires in
+    let items = are_items old c.args.o.0 w c.self.invariant in
+    rw (c.shift.ensures.value, c.shift.ensures.shifted, length-set_items) (item_or_stands (StandsAmong (length old)) (items_at old c.args.o.0) 0 value.Undefined items.stand tt)

@@ -1,0 +1,12 @@
+//! Values: operators, texts and snapshots.
+#![tactic(auto)]
+
+mod index;
+pub mod numbers;
+pub mod operators;
+mod ordering;
+mod parts;
+pub mod snapping;
+pub mod snapshot;
+mod tables;
+mod unfolding;
