@@ -1,0 +1,95 @@
+//! The lexer.
+ghost use Rattle.ng_base.specs.Cells.{place};
+ghost use Rattle.ng_base.specs.Meets.{Gives};
+ghost use Rattle.ng_language.specs.Lexing.{token_at, digit_next, signed_token, sign_at, lexed, is_free};
+ghost use Rattle.ng_lex.specs.TokensOf.{tokens_of};
+ghost use Rattle.std.specs.Prelude.{◌≡◌, ◌∷◌, ◌≤◌, [], length, IfOk, true};
+ghost use Rattle.std.specs.Str.{chars};
+
+use crate::letters::{begins_name, digit, quote, space};
+use crate::number::{read_name, read_number};
+use crate::sign::read_sign;
+use crate::text::{place_of, read_text};
+use ng_base::reader::Plain;
+use ng_language::syntax::{LexFault, LexKind, Token};
+use std::alloc::Global;
+
+/// The tokens of a text, the place of each, and the length of the text in bytes.
+#[derive(Drop)]
+pub struct Tokens {
+    pub tokens: Vec<Token>,
+    pub places: Vec<u64>,
+    pub end: u64,
+}
+
+/// Whether a digit stands next.
+fn before_digit(reader: &Plain<'_>) -> bool
+    ensures { result ≡ digit_next reader.now }
+{
+    match reader.first() {
+        None => false,
+        Some((c, _)) => digit(c),
+    }
+}
+
+fn read_signed<'a>(place: u64, c: char, reader: Plain<'a>) -> Result<(Token, Plain<'a>), LexFault>
+    ensures read { Gives is_free (λ r. r) (signed_token place (sign_at c reader.entry)) result }
+    ensures less { IfOk result (λ r. length r.1 ≤ length reader.entry) }
+{
+    match read_sign(c, reader) {
+        Some((sign, rest)) => Ok((Token::Sign(sign), rest)),
+        None => Err(LexFault {
+            place,
+            kind: LexKind::BadChar,
+        }),
+    }
+}
+
+/// The token that begins with a character at a place.
+fn read_token<'a>(alloc: Global, total: usize, place: u64, c: char, reader: Plain<'a>) -> Result<(Token, Plain<'a>), LexFault>
+    ensures read { Gives is_free (λ r. r) (token_at total place c reader.entry) result }
+    ensures less { IfOk result (λ r. length r.1 ≤ length reader.entry) }
+{
+    if begins_name(c) {
+        let (name, rest) = read_name(alloc, c, reader)?;
+        Ok((Token::Name(name), rest))
+    } else if digit(c) {
+        read_number(place, c, reader)
+    } else if quote(c) {
+        read_text(alloc, total, place, c, reader)
+    } else if c == '.' && before_digit(&reader) {
+        Err(LexFault {
+            place,
+            kind: LexKind::Fraction,
+        })
+    } else {
+        read_signed(place, c, reader)
+    }
+}
+
+/// The tokens of a text, or its first refusal from the left.
+pub fn lex(alloc: Global, text: &str) -> Result<Tokens, LexFault>
+    ensures exact { Gives is_free tokens_of (lexed (length text.now) (chars text.now)) result }
+    ensures end { IfOk result (λ t. t.end ≡ length text.now) }
+{
+    let total = text.len();
+    let mut reader = Plain::new(text);
+    let mut tokens = Vec::new(alloc);
+    let mut places = Vec::new(alloc);
+    while let Some((c, rest)) = reader.first() {
+        if space(c) {
+            reader = rest;
+        } else {
+            let place = place_of(total, &reader);
+            let (token, rest) = read_token(alloc, total, place, c, rest)?;
+            tokens.push(token)?;
+            places.push(place)?;
+            reader = rest;
+        }
+    }
+    Ok(Tokens {
+        tokens,
+        places,
+        end: total as u64,
+    })
+}
