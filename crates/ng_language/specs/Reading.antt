@@ -1,5 +1,5 @@
 -- A reader of the grammar from the left. Each call has room for so many more calls.
-use Rattle.std.specs.Prelude.{ℕ, zero, suc, ◌+◌, ◌*◌, Bool, true, false, List, [], ◌∷◌, ◌++◌, length, Option, Some, None, Result, Ok, Err, codes, if◌then◌else◌}
+use Rattle.std.specs.Prelude.{ℕ, zero, suc, nat_eq, ◌+◌, ◌*◌, Bool, true, false, List, [], ◌∷◌, ◌++◌, length, Option, Some, None, Result, Ok, Err, codes, if◌then◌else◌}
 use Rattle.std.specs.Str.{bytes_eq}
 use Rattle.ng_base.specs.Meets.{◌>>=◌}
 use Rattle.ng_language.specs.Choice.{when_some}
@@ -30,6 +30,9 @@ is_wanting _ = false
 -- the first of these tokens fits nothing
 abbrev pub unfit : {A : Type 0} → List Token → Result A Refusal
 unfit ts = Err (refusals.Unfit (length ts))
+
+abbrev pub is_empty : List Token → Bool
+is_empty ts = nat_eq (length ts) 0
 
 -- the tokens behind a sign that must stand here
 abbrev pub expect : Sign → List Token → Result (List Token) Refusal
@@ -197,12 +200,10 @@ abbrev mutual
 abbrev mutual
   pub statements : ℕ → List Tree → List Token → Result (List Tree) Refusal
   statements zero bs ts = unfit ts
-  statements (suc k) bs [] = Ok bs
-  statements (suc k) bs (t ∷ ts) =
-      when_some (after sign.Semicolon (t ∷ ts)) (λ us. statements k bs us)
-      (statement k (t ∷ ts) >>= λ r. separated k (bs ++ r.0 ∷ []) r.1)
+  statements (suc k) bs ts =
+      if is_empty ts then Ok bs
+      else when_some (after sign.Semicolon ts) (λ us. statements k bs us) (statement k ts >>= λ r. separated k (bs ++ r.0 ∷ []) r.1)
 
   pub separated : ℕ → List Tree → List Token → Result (List Tree) Refusal
   separated zero bs ts = unfit ts
-  separated (suc k) bs [] = Ok bs
-  separated (suc k) bs (t ∷ ts) = when_some (after sign.Semicolon (t ∷ ts)) (λ us. statements k bs us) (unfit (t ∷ ts))
+  separated (suc k) bs ts = if is_empty ts then Ok bs else when_some (after sign.Semicolon ts) (λ us. statements k bs us) (unfit ts)

@@ -6,7 +6,7 @@ use Rattle.ng_language.specs.Lexing.{token_at, lexes, lexed, is_free}
 use Rattle.ng_language.specs.declared.syntax.LexFault.{LexFault}
 use Rattle.ng_language.specs.declared.syntax.Token.{Token}
 use Rattle.ng_lex.proofs.Rooms.{LexRoom, token_on, token_err}
-use Rattle.ng_lex.proofs.tokens.lex.Goals as goal
+use Rattle.ng_lex.proofs.lexing.lex.Goals as goal
 
 pub returns-in_err-token-clause-exact : goal.returns-in_err-token-clause-exact
 returns-in_err-token-clause-exact c =
