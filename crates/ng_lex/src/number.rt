@@ -76,17 +76,27 @@ fn ended(reader: &Plain<'_>) -> bool
 }
 
 /// A number that begins so.
-pub fn read_number<'a>(place: u64, first: char, reader: Plain<'a>) -> Result<(Token, Plain<'a>), LexFault>
+pub fn read_number<'a>(
+    place: u64,
+    first: char,
+    reader: Plain<'a>,
+) -> Result<(Token, Plain<'a>), LexFault>
     requires { is_digit first ≡ true }
     ensures read { Gives is_free (λ r. r) (number place (digit_run (first - 48) reader.entry)) result }
     ensures less { IfOk result (λ r. length r.1 ≤ length reader.entry) }
 {
     let (n, rest) = read_digits(first, reader);
     if n > LARGEST {
-        return Err(LexFault { place, kind: LexKind::BigNumber });
+        return Err(LexFault {
+            place,
+            kind: LexKind::BigNumber,
+        });
     }
     if !ended(&rest) {
-        return Err(LexFault { place, kind: LexKind::Fraction });
+        return Err(LexFault {
+            place,
+            kind: LexKind::Fraction,
+        });
     }
     Ok((Token::Number(n), rest))
 }

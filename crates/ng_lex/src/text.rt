@@ -113,7 +113,12 @@ pub fn place_of(total: usize, reader: &Plain<'_>) -> u64
 }
 
 /// The characters of a text up to its end, of which there is one.
-fn read_characters<'a>(alloc: Global, total: usize, quote: char, mut reader: Plain<'a>) -> Result<(Token, Plain<'a>), LexFault>
+fn read_characters<'a>(
+    alloc: Global,
+    total: usize,
+    quote: char,
+    mut reader: Plain<'a>,
+) -> Result<(Token, Plain<'a>), LexFault>
     ensures read { Gives is_free (λ r. r) (text_run total (suc (length reader.entry)) quote [] reader.entry) result }
     ensures less { IfOk result (λ r. length r.1 ≤ length reader.entry) }
 {
@@ -134,7 +139,13 @@ fn read_characters<'a>(alloc: Global, total: usize, quote: char, mut reader: Pla
 }
 
 /// A text that begins with this quote.
-pub fn read_text<'a>(alloc: Global, total: usize, place: u64, quote: char, reader: Plain<'a>) -> Result<(Token, Plain<'a>), LexFault>
+pub fn read_text<'a>(
+    alloc: Global,
+    total: usize,
+    place: u64,
+    quote: char,
+    reader: Plain<'a>,
+) -> Result<(Token, Plain<'a>), LexFault>
     ensures read { Gives is_free (λ r. r) (text_at total place quote reader.entry) result }
     ensures less { IfOk result (λ r. length r.1 ≤ length reader.entry) }
 {

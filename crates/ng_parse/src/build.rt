@@ -17,12 +17,7 @@ pub fn on_heap(alloc: Global, e: Expr) -> Result<Box<Expr>, AllocError>
 }
 
 /// Two operands and what stands between them.
-pub fn join(
-    alloc: Global,
-    by: Joint,
-    a: Box<Expr>,
-    b: Box<Expr>,
-) -> Result<Box<Expr>, AllocError>
+pub fn join(alloc: Global, by: Joint, a: Box<Expr>, b: Box<Expr>) -> Result<Box<Expr>, AllocError>
     ensures { IfOk result (λ x. tree x.value ≡ joined by (tree a.value) (tree b.value)) }
 {
     match by {

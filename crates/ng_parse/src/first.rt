@@ -2,8 +2,8 @@
 ghost use Rattle.ng_language.specs.Tokens.{sign_number, same_sign, after, name_at, unary_of, unary_at, joint_of, joint_at};
 ghost use Rattle.std.specs.Prelude.{◌≡◌, ◌<◌, ◌∷◌, [], length, MatchOption, IfSome, Some, None};
 
-use ng_language::syntax::{Binary, Joint, Level, Sign, Token, Unary};
 use ng_base::txt::Txt;
+use ng_language::syntax::{Binary, Joint, Level, Sign, Token, Unary};
 
 /// The first token and those behind it.
 pub fn first(tokens: &[Token]) -> Option<(&Token, &[Token])>

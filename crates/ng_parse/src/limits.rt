@@ -14,13 +14,19 @@ const MOST_OPEN: usize = 100;
 fn opening(t: &Token) -> bool
     ensures { result ≡ is_opening t.now }
 {
-    matches!(t, Token::Sign(Sign::OpenRound | Sign::OpenSquare | Sign::OpenCurly))
+    matches!(
+        t,
+        Token::Sign(Sign::OpenRound | Sign::OpenSquare | Sign::OpenCurly)
+    )
 }
 
 fn closing(t: &Token) -> bool
     ensures { result ≡ is_closing t.now }
 {
-    matches!(t, Token::Sign(Sign::CloseRound | Sign::CloseSquare | Sign::CloseCurly))
+    matches!(
+        t,
+        Token::Sign(Sign::CloseRound | Sign::CloseSquare | Sign::CloseCurly)
+    )
 }
 
 /// How many brackets are open behind a token.

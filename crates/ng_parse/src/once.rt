@@ -1,20 +1,59 @@
 //! One-time bindings.
 ghost use Rattle.ng_language.specs.Lexing as lexing;
 ghost use Rattle.ng_language.specs.OneTime as spec;
-ghost use Rattle.std.specs.Prelude.{◌≡◌, ◌++◌, ◌∷◌, [], ◌<◌, length, MatchOption, IfSome, Some, None};
+ghost use Rattle.std.specs.Prelude.{◌≡◌, ◌++◌, ◌∷◌, [], MatchOption, Some, None};
 ghost use Rattle.std.specs.Str.{chars};
 
 use ng_base::reader::Plain;
 use ng_lex::letters::space;
+use std::marker::Model;
 
 /// The last character of a text, and what stands before it.
-fn last(text: &str) -> Option<(char, &str)>
-    ensures parts { MatchOption result (chars text.now ≡ []) (λ p. chars text.now ≡ chars p.1.now ++ p.0 ∷ []) }
-    ensures less { IfSome result (λ p. length p.1.now < length text.now) }
+fn last_of(text: &str) -> Option<(char, &str)>
+    ensures { MatchOption result (chars text.now ≡ []) (λ p. chars text.now ≡ chars p.1.now ++ p.0 ∷ []) }
 {
     let mut all = text.chars();
     let c = all.next_back()?;
     Some((c, all.as_str()))
+}
+
+/// A text that is read from its back.
+#[derive(Drop)]
+struct Back<'a> {
+    text: &'a str,
+}
+
+impl<'a> Model for Back<'a> {
+    ghost use Rattle.std.specs.Prelude.{ℕ, List};
+    ghost use Rattle.std.specs.Str.{chars, IsUtf8};
+
+    ghost Value = { List ℕ };
+
+    ghost view = { λ b. chars b.text.now };
+
+    ghost invariant = { λ b. IsUtf8 b.text.now };
+}
+
+impl<'a> Back<'a> {
+    fn new(text: &'a str) -> Back<'a>
+        ensures { result ≡ chars text.now }
+    {
+        Back { text }
+    }
+
+    /// The last character, and what stands before it.
+    fn last(&self) -> Option<(char, Back<'a>)>
+        ensures { MatchOption result (self.now ≡ []) (λ p. self.now ≡ p.1 ++ p.0 ∷ []) }
+    {
+        let (c, text) = last_of(self.text)?;
+        Some((c, Back { text }))
+    }
+
+    fn rest(&self) -> &'a str
+        ensures { chars result.now ≡ self.now }
+    {
+        self.text
+    }
 }
 
 /// Without the white space in front.
@@ -35,14 +74,14 @@ fn without_front(text: &str) -> &str
 fn without_back(text: &str) -> &str
     ensures { chars result.now ≡ spec.without_back (chars text.now) }
 {
-    let mut left = text;
-    while let Some((c, before)) = last(left) {
+    let mut back = Back::new(text);
+    while let Some((c, before)) = back.last() {
         if !space(c) {
-            return left;
+            return back.rest();
         }
-        left = before;
+        back = before;
     }
-    left
+    back.rest()
 }
 
 /// What stands behind a colon.

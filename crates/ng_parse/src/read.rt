@@ -5,7 +5,10 @@ ghost use Rattle.ng_language.specs.Tokens.{tightness};
 ghost use Rattle.ng_parse.specs.TreeOf.{tree, pair_tree};
 ghost use Rattle.std.specs.Prelude.{◌≡◌, ◌<◌, ◌≤◌, ◌+◌, ◌-◌, ◌*◌, ℕ, length, map, IfOk};
 
-use crate::build::{bracketed, call, chosen, computed_pair, filter, item, join, labelled_pair, member, on_heap, with_expr, with_pair};
+use crate::build::{
+    bracketed, call, chosen, computed_pair, filter, item, join, labelled_pair, member, on_heap,
+    with_expr, with_pair,
+};
 use crate::first::{behind, first_name, first_operator, first_unary};
 use crate::leaf::{can_assign, lone, read_label, read_leaf, wanted};
 use crate::tree::{Expr, Pair};
@@ -33,7 +36,11 @@ pub fn read_statement(alloc: Global, tokens: &[Token]) -> Result<(Box<Expr>, &[T
 }
 
 #[cycle(descent)]
-fn read_filters(alloc: Global, e: Box<Expr>, tokens: &[Token]) -> Result<(Box<Expr>, &[Token]), Refusal>
+fn read_filters(
+    alloc: Global,
+    e: Box<Expr>,
+    tokens: &[Token],
+) -> Result<(Box<Expr>, &[Token]), Refusal>
     ensures read { (k : ℕ) → 32 * length tokens.now + 2 ≤ k → Gives is_wanting (λ r. (tree r.0.value, r.1.now)) (filters k (tree e.value) tokens.now) result }
     ensures less { IfOk result (λ r. length r.1.now ≤ length tokens.now) }
 {
@@ -44,7 +51,11 @@ fn read_filters(alloc: Global, e: Box<Expr>, tokens: &[Token]) -> Result<(Box<Ex
 }
 
 #[cycle(descent)]
-fn read_named_filter(alloc: Global, e: Box<Expr>, tokens: &[Token]) -> Result<(Box<Expr>, &[Token]), Refusal>
+fn read_named_filter(
+    alloc: Global,
+    e: Box<Expr>,
+    tokens: &[Token],
+) -> Result<(Box<Expr>, &[Token]), Refusal>
     ensures read { (k : ℕ) → 32 * length tokens.now + 1 ≤ k → Gives is_wanting (λ r. (tree r.0.value, r.1.now)) (named_filter k (tree e.value) tokens.now) result }
     ensures less { IfOk result (λ r. length r.1.now < length tokens.now) }
 {
@@ -60,7 +71,11 @@ fn read_named_filter(alloc: Global, e: Box<Expr>, tokens: &[Token]) -> Result<(B
 
 /// The arguments of a filter, behind those that are read.
 #[cycle(descent)]
-fn read_arguments(alloc: Global, done: Vec<Expr>, tokens: &[Token]) -> Result<(Vec<Expr>, &[Token]), Refusal>
+fn read_arguments(
+    alloc: Global,
+    done: Vec<Expr>,
+    tokens: &[Token],
+) -> Result<(Vec<Expr>, &[Token]), Refusal>
     ensures read { (k : ℕ) → 32 * length tokens.now + 1 ≤ k → Gives is_wanting (λ r. (map tree r.0.items, r.1.now)) (arguments k (map tree done.items) tokens.now) result }
     ensures less { IfOk result (λ r. length r.1.now ≤ length tokens.now) }
 {
@@ -84,7 +99,11 @@ fn read_expression(alloc: Global, tokens: &[Token]) -> Result<(Box<Expr>, &[Toke
 }
 
 #[cycle(descent)]
-fn read_assignment(alloc: Global, e: Box<Expr>, tokens: &[Token]) -> Result<(Box<Expr>, &[Token]), Refusal>
+fn read_assignment(
+    alloc: Global,
+    e: Box<Expr>,
+    tokens: &[Token],
+) -> Result<(Box<Expr>, &[Token]), Refusal>
     ensures read { (k : ℕ) → 32 * length tokens.now + 1 ≤ k → Gives is_wanting (λ r. (tree r.0.value, r.1.now)) (assignment k (tree e.value) tokens.now) result }
     ensures less { IfOk result (λ r. length r.1.now ≤ length tokens.now) }
 {
@@ -111,7 +130,11 @@ fn read_ternary(alloc: Global, tokens: &[Token]) -> Result<(Box<Expr>, &[Token])
 }
 
 #[cycle(descent)]
-fn read_choice(alloc: Global, e: Box<Expr>, tokens: &[Token]) -> Result<(Box<Expr>, &[Token]), Refusal>
+fn read_choice(
+    alloc: Global,
+    e: Box<Expr>,
+    tokens: &[Token],
+) -> Result<(Box<Expr>, &[Token]), Refusal>
     ensures read { (k : ℕ) → 32 * length tokens.now + 1 ≤ k → Gives is_wanting (λ r. (tree r.0.value, r.1.now)) (choice k (tree e.value) tokens.now) result }
     ensures less { IfOk result (λ r. length r.1.now ≤ length tokens.now) }
 {
@@ -129,7 +152,11 @@ fn read_choice(alloc: Global, e: Box<Expr>, tokens: &[Token]) -> Result<(Box<Exp
 
 /// Operands of a level and the operators between them.
 #[cycle(descent)]
-fn read_operators(alloc: Global, level: Level, tokens: &[Token]) -> Result<(Box<Expr>, &[Token]), Refusal>
+fn read_operators(
+    alloc: Global,
+    level: Level,
+    tokens: &[Token],
+) -> Result<(Box<Expr>, &[Token]), Refusal>
     ensures read { (k : ℕ) → 32 * length tokens.now + 2 * (9 - tightness level) + 8 ≤ k → Gives is_wanting (λ r. (tree r.0.value, r.1.now)) (operators k level tokens.now) result }
     ensures less { IfOk result (λ r. length r.1.now < length tokens.now) }
 {
@@ -138,7 +165,11 @@ fn read_operators(alloc: Global, level: Level, tokens: &[Token]) -> Result<(Box<
 }
 
 #[cycle(descent)]
-fn read_operand(alloc: Global, level: Level, tokens: &[Token]) -> Result<(Box<Expr>, &[Token]), Refusal>
+fn read_operand(
+    alloc: Global,
+    level: Level,
+    tokens: &[Token],
+) -> Result<(Box<Expr>, &[Token]), Refusal>
     ensures read { (k : ℕ) → 32 * length tokens.now + 2 * (9 - tightness level) + 7 ≤ k → Gives is_wanting (λ r. (tree r.0.value, r.1.now)) (operand k level tokens.now) result }
     ensures less { IfOk result (λ r. length r.1.now < length tokens.now) }
 {
@@ -153,7 +184,12 @@ fn read_operand(alloc: Global, level: Level, tokens: &[Token]) -> Result<(Box<Ex
 }
 
 #[cycle(descent)]
-fn read_operations(alloc: Global, level: Level, e: Box<Expr>, tokens: &[Token]) -> Result<(Box<Expr>, &[Token]), Refusal>
+fn read_operations(
+    alloc: Global,
+    level: Level,
+    e: Box<Expr>,
+    tokens: &[Token],
+) -> Result<(Box<Expr>, &[Token]), Refusal>
     ensures read { (k : ℕ) → 32 * length tokens.now + 1 ≤ k → Gives is_wanting (λ r. (tree r.0.value, r.1.now)) (operations k level (tree e.value) tokens.now) result }
     ensures less { IfOk result (λ r. length r.1.now ≤ length tokens.now) }
 {
@@ -192,7 +228,11 @@ fn read_primary(alloc: Global, tokens: &[Token]) -> Result<(Box<Expr>, &[Token])
 }
 
 #[cycle(descent)]
-fn read_postfix(alloc: Global, e: Box<Expr>, tokens: &[Token]) -> Result<(Box<Expr>, &[Token]), Refusal>
+fn read_postfix(
+    alloc: Global,
+    e: Box<Expr>,
+    tokens: &[Token],
+) -> Result<(Box<Expr>, &[Token]), Refusal>
     ensures read { (k : ℕ) → 32 * length tokens.now + 1 ≤ k → Gives is_wanting (λ r. (tree r.0.value, r.1.now)) (postfix k (tree e.value) tokens.now) result }
     ensures less { IfOk result (λ r. length r.1.now ≤ length tokens.now) }
 {
@@ -232,7 +272,11 @@ fn read_called(alloc: Global, tokens: &[Token]) -> Result<(Vec<Expr>, &[Token]),
 }
 
 #[cycle(descent)]
-fn read_values(alloc: Global, done: Vec<Expr>, tokens: &[Token]) -> Result<(Vec<Expr>, &[Token]), Refusal>
+fn read_values(
+    alloc: Global,
+    done: Vec<Expr>,
+    tokens: &[Token],
+) -> Result<(Vec<Expr>, &[Token]), Refusal>
     ensures read { (k : ℕ) → 32 * length tokens.now + 22 ≤ k → Gives is_wanting (λ r. (map tree r.0.items, r.1.now)) (values k (map tree done.items) tokens.now) result }
     ensures less { IfOk result (λ r. length r.1.now < length tokens.now) }
 {
@@ -249,7 +293,11 @@ fn read_values(alloc: Global, done: Vec<Expr>, tokens: &[Token]) -> Result<(Vec<
 
 /// The items of a list, up to its closing bracket.
 #[cycle(descent)]
-fn read_items(alloc: Global, done: Vec<Expr>, tokens: &[Token]) -> Result<(Vec<Expr>, &[Token]), Refusal>
+fn read_items(
+    alloc: Global,
+    done: Vec<Expr>,
+    tokens: &[Token],
+) -> Result<(Vec<Expr>, &[Token]), Refusal>
     ensures read { (k : ℕ) → 32 * length tokens.now + 22 ≤ k → Gives is_wanting (λ r. (map tree r.0.items, r.1.now)) (items k (map tree done.items) tokens.now) result }
     ensures less { IfOk result (λ r. length r.1.now < length tokens.now) }
 {
@@ -269,7 +317,11 @@ fn read_items(alloc: Global, done: Vec<Expr>, tokens: &[Token]) -> Result<(Vec<E
 
 /// The pairs of a record, up to its closing bracket.
 #[cycle(descent)]
-fn read_pairs(alloc: Global, done: Vec<Pair>, tokens: &[Token]) -> Result<(Vec<Pair>, &[Token]), Refusal>
+fn read_pairs(
+    alloc: Global,
+    done: Vec<Pair>,
+    tokens: &[Token],
+) -> Result<(Vec<Pair>, &[Token]), Refusal>
     ensures read { (k : ℕ) → 32 * length tokens.now + 23 ≤ k → Gives is_wanting (λ r. (map pair_tree r.0.items, r.1.now)) (pairs k (map pair_tree done.items) tokens.now) result }
     ensures less { IfOk result (λ r. length r.1.now < length tokens.now) }
 {

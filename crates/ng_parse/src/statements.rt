@@ -13,7 +13,11 @@ use std::alloc::Global;
 
 /// The statements behind those that are read.
 #[cycle(statements)]
-pub fn read_statements(alloc: Global, done: Vec<Expr>, tokens: &[Token]) -> Result<Vec<Expr>, Refusal>
+pub fn read_statements(
+    alloc: Global,
+    done: Vec<Expr>,
+    tokens: &[Token],
+) -> Result<Vec<Expr>, Refusal>
     ensures { (k : ℕ) → 32 * length tokens.now + 23 ≤ k → Gives is_wanting (λ v. map tree v.items) (statements k (map tree done.items) tokens.now) result }
 {
     if tokens.is_empty() {

@@ -16,8 +16,8 @@ returns-in_err-token-clause-exact c =
     let no : is_space c.in-Some.c ≡ false = sym c.if-space.ensures in
     let at : c.place_of-place.result ≡ place total (c.in-Some.c ∷ c.in-Some.rest) = c.place_of-place.ensures ∙ ap (place total) c.in-Some.ensures in
     let fact : is_free c.in_err-token.field-0.0 ≡ false → whole ≡ Err c.in_err-token.field-0.0 =
-        λ free. token_err total c.loop-c.tokens.items c.loop-c.places.items c.in-Some.c c.in-Some.rest c.in_err-token.field-0.0 whole room no
-        (ap (λ (p : ℕ). token_at total p c.in-Some.c c.in-Some.rest) (sym at) ∙ c.in_err-token.ensures.read free) in
+    λ free. token_err total c.loop-c.tokens.items c.loop-c.places.items c.in-Some.c c.in-Some.rest c.in_err-token.field-0.0 whole room no
+    (ap (λ (p : ℕ). token_at total p c.in-Some.c c.in-Some.rest) (sym at) ∙ c.in_err-token.ensures.read free) in
     let same : whole ≡ lexed total c.new-reader.result = rw (c.new-tokens.ensures.items, c.new-places.ensures.items) in
     rw (← c.new-reader.ensures) (search (rules, λ (free : is_free c.in_err-token.field-0.0 ≡ false). sym same ∙ fact free))
 
@@ -29,6 +29,6 @@ loop-c-preserved c =
     let no : is_space c.in-Some.c ≡ false = sym c.if-space.ensures in
     let at : c.place_of-place.result ≡ place total (c.in-Some.c ∷ c.in-Some.rest) = c.place_of-place.ensures ∙ ap (place total) c.in-Some.ensures in
     let next : LexRoom total (c.loop-c.tokens.items ++ c.in_ok-token.token ∷ []) (c.loop-c.places.items ++ place total (c.in-Some.c ∷ c.in-Some.rest) ∷ []) c.in_ok-token.rest whole =
-        token_on total c.loop-c.tokens.items c.loop-c.places.items c.in-Some.c c.in-Some.rest c.in_ok-token.rest c.in_ok-token.token whole room no
-        (ap (λ (p : ℕ). token_at total p c.in-Some.c c.in-Some.rest) (sym at) ∙ c.in_ok-token.ensures.read) c.in_ok-token.ensures.less in
+    token_on total c.loop-c.tokens.items c.loop-c.places.items c.in-Some.c c.in-Some.rest c.in_ok-token.rest c.in_ok-token.token whole room no
+    (ap (λ (p : ℕ). token_at total p c.in-Some.c c.in-Some.rest) (sym at) ∙ c.in_ok-token.ensures.read) c.in_ok-token.ensures.less in
     rw (c.in_ok-push.ensures.items, c.in_ok-push-2.ensures.items, at) next

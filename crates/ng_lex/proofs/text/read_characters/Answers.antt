@@ -23,10 +23,10 @@ returns-in_err-c-clause-read c =
     let no : nat_eq c.in-Some.c c.args.quote ≡ false = grind (arith, nat_tests) in
     let at : c.place_of-place.result ≡ place c.args.total (c.in-Some.c ∷ c.in-Some.rest) = c.place_of-place.ensures ∙ ap (place c.args.total) c.in-Some.ensures in
     let fact : is_free c.in_err-c.field-0.0 ≡ false → text_run c.args.total (suc (length c.args.reader)) c.args.quote [] c.args.reader ≡ Err c.in_err-c.field-0.0 =
-        λ free.
-        ap (λ (t : List ℕ). text_run c.args.total (suc (length c.args.reader)) c.args.quote t c.args.reader) (sym c.new-text.ensures)
-        ∙ text_err c.args.total c.args.quote c.in-Some.c c.in_err-c.field-0.0 c.loop-c.text c.in-Some.rest whole room no
-        (ap (λ (p : ℕ). character p c.in-Some.c c.in-Some.rest) (sym at) ∙ c.in_err-c.ensures.read free) in
+    λ free.
+    ap (λ (t : List ℕ). text_run c.args.total (suc (length c.args.reader)) c.args.quote t c.args.reader) (sym c.new-text.ensures)
+    ∙ text_err c.args.total c.args.quote c.in-Some.c c.in_err-c.field-0.0 c.loop-c.text c.in-Some.rest whole room no
+    (ap (λ (p : ℕ). character p c.in-Some.c c.in-Some.rest) (sym at) ∙ c.in_err-c.ensures.read free) in
     search (rules, fact)
 
 pub loop-c-preserved : goal.loop-c-preserved
@@ -36,8 +36,8 @@ loop-c-preserved c =
     let no : nat_eq c.in-Some.c c.args.quote ≡ false = grind (arith, nat_tests) in
     let at : c.place_of-place.result ≡ place c.args.total (c.in-Some.c ∷ c.in-Some.rest) = c.place_of-place.ensures ∙ ap (place c.args.total) c.in-Some.ensures in
     let next : TextRoom c.args.total c.args.quote (c.loop-c.text ++ c.in_ok-c.c ∷ []) c.in_ok-c.rest whole =
-        text_on c.args.total c.args.quote c.in-Some.c c.in_ok-c.c c.loop-c.text c.in-Some.rest c.in_ok-c.rest whole room no
-        (ap (λ (p : ℕ). character p c.in-Some.c c.in-Some.rest) (sym at) ∙ c.in_ok-c.ensures.read) c.in_ok-c.ensures.less in
+    text_on c.args.total c.args.quote c.in-Some.c c.in_ok-c.c c.loop-c.text c.in-Some.rest c.in_ok-c.rest whole room no
+    (ap (λ (p : ℕ). character p c.in-Some.c c.in-Some.rest) (sym at) ∙ c.in_ok-c.ensures.read) c.in_ok-c.ensures.less in
     (subst (λ (t : List ℕ). TextRoom c.args.total c.args.quote t c.in_ok-c.rest whole) (sym c.in_ok-push.ensures.ok) next, omega (arith, c.in_ok-c.ensures.less, ap length c.in-Some.ensures, c.loop-c.invariant.1))
 
 pub returns-clause-read : goal.returns-clause-read
