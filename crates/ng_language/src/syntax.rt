@@ -1,7 +1,9 @@
 //! Tokens, operators and refusals of the expression language.
 ghost use Rattle.ng_base.specs.declared.fault.Memory.TheVariants.{Refused};
+ghost use Rattle.ng_language.specs.Lexing.{is_free};
+ghost use Rattle.ng_language.specs.Parsing.{is_free as is_wanting};
 ghost use Rattle.ng_language.specs.declared.syntax.Refusal.TheVariants.{Memory as Wanting};
-ghost use Rattle.std.specs.Prelude.{◌≡◌};
+ghost use Rattle.std.specs.Prelude.{◌≡◌, true};
 
 use ng_base::fault::Memory;
 use ng_base::txt::Txt;
@@ -182,5 +184,38 @@ impl<T: Drop> From<AllocFailed<T>> for Refusal {
 
     fn from(_: AllocFailed<T>) -> Self {
         Refusal::Memory(Memory::Refused)
+    }
+}
+
+impl From<AllocError> for LexFault {
+    ghost from_gives = { λ _ e. is_free e ≡ true };
+
+    fn from(_: AllocError) -> Self {
+        LexFault {
+            place: 0,
+            kind: LexKind::Memory(Memory::Refused),
+        }
+    }
+}
+
+impl<T: Drop> From<AllocFailed<T>> for LexFault {
+    ghost from_gives = { λ _ e. is_free e ≡ true };
+
+    fn from(_: AllocFailed<T>) -> Self {
+        LexFault {
+            place: 0,
+            kind: LexKind::Memory(Memory::Refused),
+        }
+    }
+}
+
+impl From<AllocError> for ParseFault {
+    ghost from_gives = { λ _ e. is_wanting e ≡ true };
+
+    fn from(_: AllocError) -> Self {
+        ParseFault {
+            place: 0,
+            kind: ParseKind::Memory(Memory::Refused),
+        }
     }
 }

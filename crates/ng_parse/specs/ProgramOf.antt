@@ -2,7 +2,7 @@
 use Rattle.std.specs.Prelude.{map}
 use Rattle.ng_language.specs.Trees.{Trees, trees_from}
 use Rattle.ng_parse.specs.TreeOf.{tree}
-use Rattle.ng_parse.specs.declared.program.Program.{Program}
+use Rattle.ng_parse.specs.declared.programs.Program.{Program}
 
 abbrev pub program : Program → Trees
 program p = trees_from (map tree p.statements.items)

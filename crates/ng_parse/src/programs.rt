@@ -34,4 +34,12 @@ impl Program {
         let statements = all_copied(alloc, self.statements.as_slice())?;
         Ok(Program { statements })
     }
+
+    /// The program of statements that are low enough.
+    pub(crate) fn from_low(statements: Vec<Expr>) -> Program
+        requires { heights (trees_from (map tree statements.items)) ≤ 100 }
+        ensures { program result ≡ trees_from (map tree statements.items) }
+    {
+        Program { statements }
+    }
 }
