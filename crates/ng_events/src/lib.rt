@@ -1,6 +1,6 @@
 //! Listeners.
 #![tactic(auto)]
 
-mod names;
 pub mod listeners;
+mod names;
 mod stands;

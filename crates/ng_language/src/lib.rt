@@ -6,6 +6,7 @@
 //! operators, and the refusals of the two readers.
 //! It comes from AngularJS's guide, "Expressions". It holds no reader, no evaluator and no table in code.
 #![tactic(auto)]
+
 pub mod snapshots;
 pub mod syntax;
 pub mod unfolding;

@@ -13,12 +13,7 @@ use ng_store::store::Store;
 use std::alloc::{AllocError, Global};
 
 /// The member of a value under a name, where `undefined` stands for what is nowhere.
-fn member<'a>(
-    store: &'a Store,
-    value: &'a Value,
-    name: &Txt,
-    undefined: &'a Value,
-) -> &'a Value
+fn member<'a>(store: &'a Store, value: &'a Value, name: &Txt, undefined: &'a Value) -> &'a Value
     requires undefined { undefined.now ≡ Undefined }
     requires stands { StandsAmong (length store.now) value.now }
     ensures member { result.now ≡ member_of store.now value.now name.now }
@@ -34,12 +29,7 @@ fn member<'a>(
 }
 
 /// The value that a path leads to.
-fn value_at<'a>(
-    store: &'a Store,
-    from: &'a Value,
-    path: &[Txt],
-    undefined: &'a Value,
-) -> &'a Value
+fn value_at<'a>(store: &'a Store, from: &'a Value, path: &[Txt], undefined: &'a Value) -> &'a Value
     requires undefined { undefined.now ≡ Undefined }
     requires stands { StandsAmong (length store.now) from.now }
     ensures { result.now ≡ value_at store.now from.now path.now }

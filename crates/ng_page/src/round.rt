@@ -25,7 +25,12 @@ fn is_dirty_hole(hole: &Hole, now: &Txt) -> bool
 }
 
 /// Tests a piece, and says whether it was dirty.
-fn test_piece(alloc: Global, store: &Store, root: Oid, piece: &mut Piece) -> Result<bool, AllocError>
+fn test_piece(
+    alloc: Global,
+    store: &Store,
+    root: Oid,
+    piece: &mut Piece,
+) -> Result<bool, AllocError>
     requires { root.0 < length store.now }
     ensures dirty { IfOk result (λ d. d ≡ is_dirty_piece store.now (Obj root) (piece_of piece.old)) }
     ensures tested { OnOk result (piece_of piece.new ≡ tested_piece store.now (Obj root) (piece_of piece.old)) }
@@ -42,7 +47,12 @@ fn test_piece(alloc: Global, store: &Store, root: Oid, piece: &mut Piece) -> Res
 }
 
 /// Tests the pieces of a text in order.
-fn test_pieces(alloc: Global, store: &Store, root: Oid, pieces: &mut Pieces) -> Result<bool, AllocError>
+fn test_pieces(
+    alloc: Global,
+    store: &Store,
+    root: Oid,
+    pieces: &mut Pieces,
+) -> Result<bool, AllocError>
     requires { root.0 < length store.now }
     ensures dirty { IfOk result (λ d. d ≡ list_any (is_dirty_piece store.now (Obj root)) pieces.old) }
     ensures tested { OnOk result (pieces.new ≡ map (tested_piece store.now (Obj root)) pieces.old) }
@@ -71,7 +81,12 @@ fn test_part(alloc: Global, store: &Store, root: Oid, part: &mut Part) -> Result
 
 /// Tests the parts in document order, and says whether one was dirty.
 #[cycle(round)]
-pub fn test_parts(alloc: Global, store: &Store, root: Oid, parts: &mut Parts) -> Result<bool, AllocError>
+pub fn test_parts(
+    alloc: Global,
+    store: &Store,
+    root: Oid,
+    parts: &mut Parts,
+) -> Result<bool, AllocError>
     requires { root.0 < length store.now }
     ensures dirty { IfOk result (λ d. d ≡ is_dirty store.now (Obj root) (parts_of parts.old)) }
     ensures tested { OnOk result (parts_of parts.new ≡ tested store.now (Obj root) (parts_of parts.old)) }

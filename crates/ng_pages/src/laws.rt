@@ -4,29 +4,24 @@ ghost use Rattle.ng_pages.specs.Laws.{RoundSettles, SettledShowsRendering, Round
 /// After a round over unchanged data no watcher is dirty.
 pub fn round_settles()
     ensures { RoundSettles }
-{
-}
+{}
 
 /// Where no watcher is dirty, the page shows its rendering.
 pub fn settled_shows_rendering()
     ensures { SettledShowsRendering }
-{
-}
+{}
 
 /// A round changes nothing of the rendering.
 pub fn round_keeps_rendering()
     ensures { RoundKeepsRendering }
-{
-}
+{}
 
 /// A digest of such a page never comes to its limit, and leaves no watcher dirty.
 pub fn digest_settles()
     ensures { DigestSettles }
-{
-}
+{}
 
 /// After a digest the page shows the rendering of its template.
 pub fn digest_shows_rendering()
     ensures { DigestShowsRendering }
-{
-}
+{}

@@ -47,26 +47,68 @@ const GREETING: &str = "{\"data\":{\"name\":\"Ann\"}}";
 fn rows_show_their_documents(rt: HostRuntime) {
     let alloc = rt.alloc();
     for (template, application, status, written) in [
-        ("<p>Hi {{name}}</p>", GREETING, 0, "# 0 open\n<p>Hi Ann</p>\n"),
+        (
+            "<p>Hi {{name}}</p>",
+            GREETING,
+            0,
+            "# 0 open\n<p>Hi Ann</p>\n",
+        ),
         ("", "{}", 0, "# 0 open\n\n"),
         ("<p>Hi {{name}}</p>", "{}", 0, "# 0 open\n<p>Hi </p>\n"),
         ("Hi {{name}}", GREETING, 0, "# 0 open\nHi Ann\n"),
         ("Hi {{ name }}", "{}", 0, "# 0 open\nHi \n"),
-        ("{{a.b.c}}!", "{\"data\":{\"a\":{\"b\":{\"c\":-7}}}}", 0, "# 0 open\n-7!\n"),
-        ("{{t}}{{f}}{{n}}{{u}}", "{\"data\":{\"t\":true,\"f\":false,\"n\":null}}", 0, "# 0 open\ntruefalse\n"),
-        ("<b><i>{{x}}</i></b>y", "{\"data\":{\"x\":\"<&>\"}}", 0, "# 0 open\n<b><i>&lt;&amp;&gt;</i></b>y\n"),
+        (
+            "{{a.b.c}}!",
+            "{\"data\":{\"a\":{\"b\":{\"c\":-7}}}}",
+            0,
+            "# 0 open\n-7!\n",
+        ),
+        (
+            "{{t}}{{f}}{{n}}{{u}}",
+            "{\"data\":{\"t\":true,\"f\":false,\"n\":null}}",
+            0,
+            "# 0 open\ntruefalse\n",
+        ),
+        (
+            "<b><i>{{x}}</i></b>y",
+            "{\"data\":{\"x\":\"<&>\"}}",
+            0,
+            "# 0 open\n<b><i>&lt;&amp;&gt;</i></b>y\n",
+        ),
         ("{{$id}}", "{}", 3, "template: 0 Later\n"),
-        ("{{id}}", "{\"data\":{\"$id\":1.5,\"id\":2}}", 0, "# 0 open\n2\n"),
+        (
+            "{{id}}",
+            "{\"data\":{\"$id\":1.5,\"id\":2}}",
+            0,
+            "# 0 open\n2\n",
+        ),
         ("{{a}}", "{\"data\":{\"a\":1,\"a\":2}}", 0, "# 0 open\n2\n"),
         ("<b>{{a}}", "{}", 3, "template: 0 Later\n"),
-        ("<b>{{a}}</b>", "{\"data\":{\"a\":{}}}", 3, "template: 3 Later\n"),
-        ("x<b>y</b>{{a.b}}", "{\"data\":{\"a\":\"t\"}}", 3, "template: 9 Later\n"),
-        ("{{a.b}}", "{\"data\":{\"a\":[1]}}", 3, "template: 0 Later\n"),
+        (
+            "<b>{{a}}</b>",
+            "{\"data\":{\"a\":{}}}",
+            3,
+            "template: 3 Later\n",
+        ),
+        (
+            "x<b>y</b>{{a.b}}",
+            "{\"data\":{\"a\":\"t\"}}",
+            3,
+            "template: 9 Later\n",
+        ),
+        (
+            "{{a.b}}",
+            "{\"data\":{\"a\":[1]}}",
+            3,
+            "template: 0 Later\n",
+        ),
         ("<br>", "{}", 3, "template: 0 Later\n"),
         ("a&b", "{}", 3, "template: 0 Later\n"),
         ("{{1+2}}", "{}", 3, "template: 0 Later\n"),
     ] {
-        let (found, bytes) = ran(alloc, &["t", "a"], template, application, 0, 0).expect(&rt, "memory");
+        let (found, bytes) = ran(alloc, &["t", "a"], template, application, 0, 0).expect(
+            &rt, "memory",
+        );
         assert_eq!(rt; found, status, "{template}");
         assert_eq!(rt; bytes.as_slice(), written.as_bytes(), "{template}");
     }
@@ -83,12 +125,21 @@ fn applications_are_refused_by_their_first_cause(rt: HostRuntime) {
         ("{\"x\":1}", "application: file 0 Shape\n"),
         ("{\"run\":\"\",\"y\":1}", "application: file 0 Shape\n"),
         ("{\"run\":\"\"}", "application: run 0 Later\n"),
-        ("{\"on\":[],\"watch\":[],\"data\":1}", "application: watch 0 Later\n"),
-        ("{\"format\":1,\"data\":[]}", "application: format 0 Later\n"),
+        (
+            "{\"on\":[],\"watch\":[],\"data\":1}",
+            "application: watch 0 Later\n",
+        ),
+        (
+            "{\"format\":1,\"data\":[]}",
+            "application: format 0 Later\n",
+        ),
         ("{\"data\":[]}", "application: data 0 Shape\n"),
         ("{\"data\":null}", "application: data 0 Shape\n"),
         ("{\"data\":{\"x\":1.5}}", "application: data 0 Number\n"),
-        ("{\"data\":{\"x\":[9007199254740992]}}", "application: data 0 Number\n"),
+        (
+            "{\"data\":{\"x\":[9007199254740992]}}",
+            "application: data 0 Number\n",
+        ),
     ] {
         let (status, bytes) = ran(alloc, &["t", "a"], "", application, 0, 0).expect(&rt, "memory");
         assert_eq!(rt; status, 4, "{application}");
@@ -96,7 +147,8 @@ fn applications_are_refused_by_their_first_cause(rt: HostRuntime) {
     }
 }
 
-const USAGE: &str = "usage: ngrun [--trace] [--patches] [--static] TEMPLATE APP [SCRIPT] or ngrun --load N\n";
+const USAGE: &str =
+    "usage: ngrun [--trace] [--patches] [--static] TEMPLATE APP [SCRIPT] or ngrun --load N\n";
 
 #[test]
 fn words_and_files_that_fail_have_their_line(rt: HostRuntime) {
@@ -113,7 +165,9 @@ fn words_and_files_that_fail_have_their_line(rt: HostRuntime) {
         (&["t", "other"][..], 0, 0, 6, "read: application\n"),
         (&["t", "a"][..], 0, 1, 7, ""),
     ] {
-        let (found, bytes) = ran(alloc, words, "Hi {{name}}", GREETING, fetch, put).expect(&rt, "memory");
+        let (found, bytes) = ran(alloc, words, "Hi {{name}}", GREETING, fetch, put).expect(
+            &rt, "memory",
+        );
         assert_eq!(rt; found, status, "{written}");
         assert_eq!(rt; bytes.as_slice(), written.as_bytes(), "{written}");
     }

@@ -34,7 +34,12 @@ fn a_file_one_byte_too_long_is_refused_with_its_length(rt: HostRuntime) {
         .expect(&rt, "memory");
     let mut shelf = SureShelf::new(files);
     let mut bytes = Vec::new(alloc);
-    assert!(rt; matches!(shelf.fetch("long", &mut bytes), Err(ShelfFault::TooLong(67_108_865))));
+    assert!(rt;
+        matches!(
+            shelf.fetch("long", &mut bytes),
+            Err(ShelfFault::TooLong(67_108_865))
+        )
+    );
     assert!(rt; shelf.fetch("none", &mut bytes).is_ok());
     assert!(rt; bytes.is_empty());
 }

@@ -85,7 +85,11 @@ fn read_template(alloc: Global, template: Vec<u8>) -> Result<Source, HtmlFault>
 }
 
 /// The session of a template and an application.
-pub(crate) fn session(alloc: Global, template: Vec<u8>, application: Vec<u8>) -> Result<Reply, Memory>
+pub(crate) fn session(
+    alloc: Global,
+    template: Vec<u8>,
+    application: Vec<u8>,
+) -> Result<Reply, Memory>
     ensures reply { IfOk result (λ r. reply_of r ≡ session_of template.items application.items) }
     ensures drawn { IfOk result (λ r. IsDrawn r) }
 {

@@ -79,7 +79,7 @@ items_set n i items v a s = record { few = omega (arith, length-set items i v, a
 pub items_spliced : (n from count : ℕ) (items new : List Value) → from + count ≤ length items → length items - count + length new < 2 ^ 32 → AllStand n items → AllStand n new → AreItems n (splice items from (from + count) new)
 items_spliced n from count items new w h a b =
     let e : length (splice items from (from + count) new) ≡ length items - count + length new =
-        omega (arith, length-append (take from items) (new ++ drop (from + count) items), length-append new (drop (from + count) items), length-take from items, length-drop (from + count) items) in
+    omega (arith, length-append (take from items) (new ++ drop (from + count) items), length-append new (drop (from + count) items), length-take from items, length-drop (from + count) items) in
     record {
       few = omega arith;
       stand = all_append (StandsAmong n) (take from items) (new ++ drop (from + count) items) (all_take (StandsAmong n) from items a)

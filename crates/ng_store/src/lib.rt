@@ -4,9 +4,9 @@
 mod arrays;
 mod heap;
 mod index;
-mod objects;
 pub mod json;
 mod names;
+mod objects;
 mod placing;
 pub mod store;
 mod stored;

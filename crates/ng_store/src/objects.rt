@@ -8,7 +8,7 @@ ghost use Rattle.ng_store.specs.ObjectOf.{object_of, objects_of};
 
 use crate::index::index_of;
 use crate::names::names_of;
-use crate::stored::{put_property, Stored};
+use crate::stored::{Stored, put_property};
 use ng_base::fault::Memory;
 use ng_base::heap::ObjKind;
 use ng_base::lists::Names;

@@ -6,7 +6,7 @@ ghost use Rattle.ng_store.specs.Json.{objects_in, objects_in_items, objects_in_m
 ghost use Rattle.ng_store.specs.ObjectOf.{objects_of};
 
 use crate::json::whole;
-use crate::stored::{put_property, Stored};
+use crate::stored::{Stored, put_property};
 use indexmap::IndexMap;
 use ng_base::fault::Memory;
 use ng_base::heap::ObjKind;
@@ -27,7 +27,12 @@ fn number(n: &Number) -> Value
 }
 
 /// An array behind the objects that were made.
-fn put_array(alloc: Global, base: usize, made: &mut Vec<Stored>, items: Vec<Value>) -> Result<Value, Memory>
+fn put_array(
+    alloc: Global,
+    base: usize,
+    made: &mut Vec<Stored>,
+    items: Vec<Value>,
+) -> Result<Value, Memory>
     requires { base + vec_len made.old < 1000000 }
     ensures placed { IfOk result (λ w. (w, objects_of made.new.items) ≡ last_made base (objects_of made.old.items) (array_of items.items)) }
     ensures count { OnOk result (vec_len made.new ≡ vec_len made.old + 1) }
@@ -44,7 +49,12 @@ fn put_array(alloc: Global, base: usize, made: &mut Vec<Stored>, items: Vec<Valu
 }
 
 /// An object behind those that were made.
-fn put_object(alloc: Global, base: usize, made: &mut Vec<Stored>, properties: IndexMap<Txt, Value>) -> Result<Value, Memory>
+fn put_object(
+    alloc: Global,
+    base: usize,
+    made: &mut Vec<Stored>,
+    properties: IndexMap<Txt, Value>,
+) -> Result<Value, Memory>
     requires { base + vec_len made.old < 1000000 }
     ensures placed { IfOk result (λ w. (w, objects_of made.new.items) ≡ last_made base (objects_of made.old.items) (plain_of properties.entries)) }
     ensures count { OnOk result (vec_len made.new ≡ vec_len made.old + 1) }
@@ -62,7 +72,12 @@ fn put_object(alloc: Global, base: usize, made: &mut Vec<Stored>, properties: In
 
 /// JSON as a value, with the objects that it wants.
 #[cycle(place)]
-pub(crate) fn place(alloc: Global, base: usize, made: &mut Vec<Stored>, v: &Json) -> Result<Value, Memory>
+pub(crate) fn place(
+    alloc: Global,
+    base: usize,
+    made: &mut Vec<Stored>,
+    v: &Json,
+) -> Result<Value, Memory>
     requires { base + vec_len made.old + objects_in (view v.now) ≤ 1000000 }
     ensures placed { IfOk result (λ w. (w, objects_of made.new.items) ≡ placed base (view v.now) (objects_of made.old.items)) }
     ensures count { OnOk result (vec_len made.new ≡ vec_len made.old + objects_in (view v.now)) }
@@ -85,7 +100,12 @@ pub(crate) fn place(alloc: Global, base: usize, made: &mut Vec<Stored>, v: &Json
 }
 
 #[cycle(place)]
-fn place_items(alloc: Global, base: usize, made: &mut Vec<Stored>, items: &[Json]) -> Result<Vec<Value>, Memory>
+fn place_items(
+    alloc: Global,
+    base: usize,
+    made: &mut Vec<Stored>,
+    items: &[Json],
+) -> Result<Vec<Value>, Memory>
     requires { base + vec_len made.old + objects_in_items (items_view items.now) ≤ 1000000 }
     ensures placed { IfOk result (λ w. (w.items, objects_of made.new.items) ≡ placed_items base (items_view items.now) (objects_of made.old.items) []) }
     ensures count { OnOk result (vec_len made.new ≡ vec_len made.old + objects_in_items (items_view items.now)) }
@@ -99,7 +119,12 @@ fn place_items(alloc: Global, base: usize, made: &mut Vec<Stored>, items: &[Json
 }
 
 #[cycle(place)]
-fn place_members(alloc: Global, base: usize, made: &mut Vec<Stored>, members: &Map<String, Json>) -> Result<IndexMap<Txt, Value>, Memory>
+fn place_members(
+    alloc: Global,
+    base: usize,
+    made: &mut Vec<Stored>,
+    members: &Map<String, Json>,
+) -> Result<IndexMap<Txt, Value>, Memory>
     requires { base + vec_len made.old + objects_in_members (members_view members.now.entries) ≤ 1000000 }
     ensures placed { IfOk result (λ w. (w.entries, objects_of made.new.items) ≡ placed_members base (members_view members.now.entries) (objects_of made.old.items) []) }
     ensures count { OnOk result (vec_len made.new ≡ vec_len made.old + objects_in_members (members_view members.now.entries)) }

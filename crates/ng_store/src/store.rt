@@ -11,11 +11,10 @@ ghost use Rattle.ng_store.specs.Json.{is_json_want, json_value, with_json};
 ghost use Rattle.ng_store.specs.Answers.{is_refused, is_want, next_name, where_short};
 ghost use Rattle.ng_store.specs.declared.store.StoreFault.TheVariants.{Memory as OfMemory};
 
-use crate::arrays;
-use crate::json::{is_long, is_whole, JsonFault};
-use crate::objects;
+use crate::json::{JsonFault, is_long, is_whole};
 use crate::placing::{add, overfills};
 use crate::stored::Stored;
+use crate::{arrays, objects};
 use indexmap::IndexMap;
 use ng_base::fault::Memory;
 use ng_base::heap::ObjKind;

@@ -21,7 +21,11 @@ pub(crate) struct Stored {
 }
 
 /// Writes a property that is there.
-fn replace_property(properties: &mut IndexMap<Txt, Value>, name: &Txt, v: Value) -> Result<(), Value>
+fn replace_property(
+    properties: &mut IndexMap<Txt, Value>,
+    name: &Txt,
+    v: Value,
+) -> Result<(), Value>
     ensures ok { OnOk result (properties.new.entries ≡ insert_entry bytes_eq properties.old.entries name.now v) }
     ensures there { is_some (lookup (bytes_eq name.now) properties.old.entries) ≡ true → IsOk result }
     ensures absent { IfErr result (λ w. (w ≡ v) × (properties.new.entries ≡ properties.old.entries)) }
@@ -36,7 +40,11 @@ fn replace_property(properties: &mut IndexMap<Txt, Value>, name: &Txt, v: Value)
 }
 
 /// Sets a property, in its place or at the end. One that is there takes no memory.
-pub(crate) fn put_property(properties: &mut IndexMap<Txt, Value>, name: &Txt, v: Value) -> Result<(), Memory>
+pub(crate) fn put_property(
+    properties: &mut IndexMap<Txt, Value>,
+    name: &Txt,
+    v: Value,
+) -> Result<(), Memory>
     ensures ok { OnOk result (properties.new.entries ≡ insert_entry bytes_eq properties.old.entries name.now v) }
     ensures err { OnErr result (properties.new.entries ≡ properties.old.entries) }
     ensures there { is_some (lookup (bytes_eq name.now) properties.old.entries) ≡ true → IsOk result }

@@ -51,7 +51,11 @@ struct Split {
 
 /// Puts a field at its index.
 #[tactic(auto, using(crate::proofs::Orders::orders))]
-fn insert_indexed(done: &mut BTreeMap<u32, (Txt, View)>, i: u32, field: (Txt, View)) -> Result<(), Memory>
+fn insert_indexed(
+    done: &mut BTreeMap<u32, (Txt, View)>,
+    i: u32,
+    field: (Txt, View),
+) -> Result<(), Memory>
     ensures inserted { OnOk result (map indexed_field done.new.entries ≡ insert_entry nat_cmp (map indexed_field done.old.entries) i (field_of field)) }
     ensures refused { IfErr result (λ e. e ≡ Refused) }
 {
@@ -155,7 +159,11 @@ fn record_of_map(alloc: Global, fields: BTreeMap<Txt, View>) -> Result<Fields, M
 }
 
 /// The fields of a fresh record in their order.
-pub(crate) fn record_order(alloc: Global, mode: Mode, fields: Vec<(Txt, View)>) -> Result<Fields, Memory>
+pub(crate) fn record_order(
+    alloc: Global,
+    mode: Mode,
+    fields: Vec<(Txt, View)>,
+) -> Result<Fields, Memory>
     ensures fields { IfOk result (λ r. fields_list (fields_of r) ≡ record_order mode (map field_of fields.items)) }
     ensures refused { IfErr result (λ e. e ≡ Refused) }
 {
@@ -166,7 +174,11 @@ pub(crate) fn record_order(alloc: Global, mode: Mode, fields: Vec<(Txt, View)>) 
 }
 
 /// The properties of an object in their order.
-pub(crate) fn object_order(alloc: Global, mode: Mode, fields: Vec<(Txt, View)>) -> Result<Fields, Memory>
+pub(crate) fn object_order(
+    alloc: Global,
+    mode: Mode,
+    fields: Vec<(Txt, View)>,
+) -> Result<Fields, Memory>
     ensures fields { IfOk result (λ r. fields_list (fields_of r) ≡ object_order mode (map field_of fields.items)) }
     ensures refused { IfErr result (λ e. e ≡ Refused) }
 {

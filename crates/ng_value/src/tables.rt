@@ -102,8 +102,16 @@ fn is_name_left_out(mode: Mode, name: &Txt, nothing: bool) -> bool
     ensures { (t : Rattle.ng_base.specs.Views.ViewTree) → nothing ≡ is_nothing t → result ≡ is_left_out mode name.now t }
 {
     match mode {
-        Mode::Deep => if is_dollar(&Plain::new(name.as_str())) { true } else { nothing },
-        Mode::Json => if is_dollars(&Plain::new(name.as_str())) { true } else { nothing },
+        Mode::Deep => if is_dollar(&Plain::new(name.as_str())) {
+            true
+        } else {
+            nothing
+        },
+        Mode::Json => if is_dollars(&Plain::new(name.as_str())) {
+            true
+        } else {
+            nothing
+        },
         _ => false,
     }
 }

@@ -12,7 +12,10 @@ ghost use Rattle.ng_language.specs.Views.{ViewStands, ViewsStand, FieldsStand};
 ghost use Rattle.ng_value.specs.Seen.{view_spent, views_spent, fields_spent};
 
 use crate::ordering::{object_order, record_order};
-use crate::tables::{below_object, is_field_left_out, is_property_left_out, item_mode, name_mode, unfolds_lists, unfolds_records};
+use crate::tables::{
+    below_object, is_field_left_out, is_property_left_out, item_mode, name_mode, unfolds_lists,
+    unfolds_records,
+};
 use ng_base::fault::Fault;
 use ng_base::heap::Heap;
 use ng_base::name::Oid;

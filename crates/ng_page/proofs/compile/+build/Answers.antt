@@ -11,7 +11,7 @@ use Rattle.ng_page.proofs.compile.+build.Goals as goal
 pub built-loop-node-preserved : goal.built-loop-node-preserved
 built-loop-node-preserved t c =
     built-turn node_of compiled_list with_part part_from compiled-more
-        c.deref-node-items.result.now c.loop-node.node-index c.node-item.result _ _ _ (omega arith) c.node-item.is c.loop-node.invariant c.in_ok-built_part.ensures c.in_ok-push.ensures
+    c.deref-node-items.result.now c.loop-node.node-index c.node-item.result _ _ _ (omega arith) c.node-item.is c.loop-node.invariant c.in_ok-built_part.ensures c.in_ok-push.ensures
 
 pub built-returns : goal.built-returns
 built-returns t c =

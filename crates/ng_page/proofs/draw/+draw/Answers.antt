@@ -11,7 +11,7 @@ use Rattle.ng_page.proofs.draw.+draw.Goals as goal
 pub drawn-loop-part-preserved : goal.drawn-loop-part-preserved
 drawn-loop-part-preserved t c =
     built-turn part_of (drawn_list kept_look) with_node (draw_part kept_look) (drawn-more kept_look)
-        c.deref-part-items.result.now c.loop-part.part-index c.part-item.result _ _ _ (omega arith) c.part-item.is c.loop-part.invariant c.in_ok-drawn_part.ensures c.in_ok-push.ensures
+    c.deref-part-items.result.now c.loop-part.part-index c.part-item.result _ _ _ (omega arith) c.part-item.is c.loop-part.invariant c.in_ok-drawn_part.ensures c.in_ok-push.ensures
 
 pub drawn-returns : goal.drawn-returns
 drawn-returns t c =

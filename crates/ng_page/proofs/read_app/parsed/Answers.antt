@@ -9,4 +9,4 @@ returns-in-Ok c = facts_of-read c.args.bytes.now (view c.in-Ok.value) c.in-Ok.en
 pub returns-else-is_memory : goal.returns-else-is_memory
 returns-else-is_memory c h =
     rw c.fault-else-is_memory.ensures
-        (facts_of-refused c.args.bytes.now (c.in-Err.ensures.err (λ m. let t : IsTrue c.is_memory.result = c.is_memory.ensures.1 m in cc)))
+    (facts_of-refused c.args.bytes.now (c.in-Err.ensures.err (λ m. let t : IsTrue c.is_memory.result = c.is_memory.ensures.1 m in cc)))

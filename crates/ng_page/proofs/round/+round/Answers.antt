@@ -20,10 +20,10 @@ test_parts-returns-clause-dirty t c =
 pub test_parts-returns-clause-tested : goal.test_parts-returns-clause-tested
 test_parts-returns-clause-tested t c =
     let made =
-        ap parts_from (sym (made-end part_of (is_dirty_part c.args.store.now (Obj c.args.root)) (tested_part c.args.store.now (Obj c.args.root)) c.loop-part.part-items c.loop-part.part-index (omega arith))
-            ∙ (c.loop-part.invariant.made
-            ∙ ap (λ xs. map (tested_part c.args.store.now (Obj c.args.root)) (map part_of xs)) c.deref_mut-part-items.ensures.value))
-        ∙ sym (tested-items c.args.store.now (Obj c.args.root) c.args.parts.now) in
+    ap parts_from (sym (made-end part_of (is_dirty_part c.args.store.now (Obj c.args.root)) (tested_part c.args.store.now (Obj c.args.root)) c.loop-part.part-items c.loop-part.part-index (omega arith))
+    ∙ (c.loop-part.invariant.made
+    ∙ ap (λ xs. map (tested_part c.args.store.now (Obj c.args.root)) (map part_of xs)) c.deref_mut-part-items.ensures.value))
+    ∙ sym (tested-items c.args.store.now (Obj c.args.root) c.args.parts.now) in
     let whole = take_at c.loop-part.part-items (drop (length c.loop-part.part-items) c.args.parts.now.items.items) c.args.parts.now.items.len
-        (c.loop-part.invariant.unvisited.0 ∙ (ap length c.deref_mut-part-items.ensures.value ∙ sym c.args.parts.now.items.ok.0)) in
+    (c.loop-part.invariant.unvisited.0 ∙ (ap length c.deref_mut-part-items.ensures.value ∙ sym c.args.parts.now.items.ok.0)) in
     search (rules, parts_of-items, whole)
