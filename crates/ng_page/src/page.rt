@@ -23,7 +23,7 @@ use ng_base::name::Oid;
 use ng_digest::log::Report;
 use ng_digest::rounds::DigestFault;
 use ng_html::forest::Forest;
-use ng_html::write::write;
+use ng_html::writing::write;
 use ng_store::store::Store;
 use std::alloc::{AllocError, Global};
 

@@ -5,7 +5,7 @@ use ng_run::run::run;
 use std::alloc::{AllocError, Global};
 
 /// A run over two files: which calls of the shelf and of the sink fail, its status, and the bytes that it wrote.
-fn ran(
+pub(crate) fn ran(
     alloc: Global,
     words: &[&str],
     template: &str,

@@ -8,4 +8,6 @@
 #[cfg(test)]
 mod first_path;
 #[cfg(test)]
+mod limits;
+#[cfg(test)]
 mod outside;

@@ -1,7 +1,7 @@
 //! The edge: real files and a writer of std, and the shelf and sink that never fail.
 use ng_base::fault::ShelfFault;
 use ng_base::in_memory::{Kept, SureShelf, SureSink};
-use ng_base::outside::{LONGEST, Shelf, Sink, put_all};
+use ng_base::outside::{Shelf, Sink, put_all};
 use ng_base::real::{FileShelf, StdoutSink};
 use ng_base::txt::Txt;
 use std::fs;
@@ -19,29 +19,23 @@ fn files_are_fetched_whole_or_not_at_all(rt: HostRuntime) {
 }
 
 #[test]
-fn a_file_one_byte_too_long_is_refused_with_its_length(rt: HostRuntime) {
+fn a_sure_shelf_has_the_empty_file_under_other_names(rt: HostRuntime) {
     let alloc = rt.alloc();
-    let mut long = Vec::new(alloc);
-    for _ in 0..LONGEST + 1 {
-        long.push(b'a').expect(&rt, "memory");
-    }
     let mut files = Vec::new(alloc);
+    let mut kept = Vec::new(alloc);
+    kept.extend_from_slice(b"here").expect(&rt, "memory");
     files
         .push(Kept {
-            name: Txt::from_str(alloc, "long").expect(&rt, "memory"),
-            bytes: long,
+            name: Txt::from_str(alloc, "file").expect(&rt, "memory"),
+            bytes: kept,
         })
         .expect(&rt, "memory");
     let mut shelf = SureShelf::new(files);
     let mut bytes = Vec::new(alloc);
-    assert!(rt;
-        matches!(
-            shelf.fetch("long", &mut bytes),
-            Err(ShelfFault::TooLong(67_108_865))
-        )
-    );
     assert!(rt; shelf.fetch("none", &mut bytes).is_ok());
     assert!(rt; bytes.is_empty());
+    assert!(rt; shelf.fetch("file", &mut bytes).is_ok());
+    assert_eq!(rt; bytes.as_slice(), b"here");
 }
 
 #[test]

@@ -16,7 +16,7 @@ use crate::lines::{application_line, html_word, template_line, tpl_word};
 use crate::reply::Reply;
 use ng_base::fault::Memory;
 use ng_html::fault::{HtmlFault, HtmlKind};
-use ng_html::read::read;
+use ng_html::reading::read;
 use ng_html::source::Source;
 use ng_page::app::App;
 use ng_page::compile::compile;
