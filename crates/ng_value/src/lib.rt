@@ -2,6 +2,7 @@
 #![tactic(auto)]
 
 mod index;
+mod json;
 pub mod numbers;
 pub mod operators;
 mod ordering;
@@ -10,3 +11,4 @@ pub mod snapping;
 pub mod snapshot;
 mod tables;
 mod unfolding;
+mod writing;
