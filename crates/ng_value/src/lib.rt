@@ -10,5 +10,6 @@ mod parts;
 pub mod snapping;
 pub mod snapshot;
 mod tables;
+pub mod texts;
 mod unfolding;
 mod writing;
