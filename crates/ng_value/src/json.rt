@@ -65,7 +65,12 @@ fn push_more_items(
 }
 
 #[cycle(json)]
-fn push_fields(out: &mut Txt, indent: u8, margin: &Txt, fields: &[(Txt, View)]) -> Result<(), Memory>
+fn push_fields(
+    out: &mut Txt,
+    indent: u8,
+    margin: &Txt,
+    fields: &[(Txt, View)],
+) -> Result<(), Memory>
     ensures text { OnOk result (out.new ≡ out.old ++ json_fields indent margin.now (fields_from (map field_of fields.now))) }
     ensures refused { IfErr result (λ e. e ≡ Refused) }
 {
