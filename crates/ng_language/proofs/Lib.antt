@@ -1,0 +1,6 @@
+pub mod Fronts
+pub mod Climb
+pub mod Parts
+pub mod Complete
+pub mod Sound
+pub mod Whole

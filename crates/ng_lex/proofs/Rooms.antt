@@ -1,6 +1,6 @@
 -- One character or one token more, with room for it.
-use Rattle.std.proofs.Common.{◌≡◌, ◌≤◌, ◌<◌, ◌+◌, ℕ, zero, suc, Bool, true, false, nat_eq, List, [], ◌∷◌, ◌++◌, length, refl, ap, ◌∙◌, sym, arith}
-use Rattle.std.specs.Prelude.{Result, Ok, Err, if◌then◌else◌}
+use Rattle.std.proofs.Common.{◌≡◌, ◌≤◌, ◌<◌, ℕ, zero, suc, true, false, nat_eq, List, [], ◌∷◌, ◌++◌, length, ap, ◌∙◌, sym, arith}
+use Rattle.std.specs.Prelude.{Result, Ok, Err}
 use Rattle.ng_base.specs.Cells.{place}
 use Rattle.ng_base.specs.Meets.{◌>>=◌}
 use Rattle.ng_base.proofs.Binds.{if_true, if_false}

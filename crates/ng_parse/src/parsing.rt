@@ -1,8 +1,10 @@
 //! The parser's calls.
 ghost use Rattle.ng_base.specs.Meets.{Gives};
+ghost use Rattle.ng_language.specs.Grammar.{IsParsed};
 ghost use Rattle.ng_language.specs.Parsing.{parsed, fault_of, is_free};
+ghost use Rattle.ng_language.specs.Trees.{Trees};
 ghost use Rattle.ng_parse.specs.ProgramOf.{program};
-ghost use Rattle.std.specs.Prelude.{◌≡◌, slice_index_or, length};
+ghost use Rattle.std.specs.Prelude.{◌≡◌, slice_index_or, length, IfOk, Ok};
 
 use crate::height::all_low;
 use crate::limits::excess;
@@ -45,9 +47,22 @@ fn fault(t: &Tokens, refusal: Refusal) -> ParseFault
     }
 }
 
-/// The program that the tokens spell.
+/// The program that the tokens spell, within the limits.
 pub fn parse(alloc: Global, t: &Tokens) -> Result<Program, ParseFault>
+    // What is read is spelled so.
+    ensures found { IfOk result (λ p. IsParsed (program p) t.now.tokens.items) }
+
+    // What is spelled so is read, unless memory runs out.
+    ensures only { (bs : Trees) → IsParsed bs t.now.tokens.items → Gives is_free program (Ok bs) result }
+
+    // Which refusal it is, and where.
     ensures exact { Gives is_free program (parsed t.now.tokens.items t.now.places.items t.now.end) result }
+{
+    read_program(alloc, t)
+}
+
+fn read_program(alloc: Global, t: &Tokens) -> Result<Program, ParseFault>
+    ensures { Gives is_free program (parsed t.now.tokens.items t.now.places.items t.now.end) result }
 {
     if let Some(index) = excess(t.tokens.as_slice()) {
         return Err(ParseFault {

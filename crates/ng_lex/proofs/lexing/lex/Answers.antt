@@ -1,5 +1,5 @@
-use Rattle.std.proofs.Common.{rules, ◌≡◌, ◌∷◌, ◌++◌, [], List, ℕ, suc, length, ap, ◌∙◌, sym, subst, arith}
-use Rattle.std.specs.Prelude.{false, true, Ok, Err, Result}
+use Rattle.std.proofs.Common.{rules, ◌≡◌, ◌∷◌, ◌++◌, [], List, ℕ, suc, length, ap, ◌∙◌, sym, subst}
+use Rattle.std.specs.Prelude.{false, Err, Result}
 use Rattle.ng_base.specs.Cells.{place}
 use Rattle.ng_language.specs.Letters.{is_space}
 use Rattle.ng_language.specs.Lexing.{token_at, lexes, lexed, is_free}

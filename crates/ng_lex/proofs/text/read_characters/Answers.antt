@@ -1,5 +1,5 @@
 use Rattle.std.proofs.Common.{rules, ◌≡◌, ◌∷◌, ◌++◌, [], List, ℕ, suc, length, ap, ◌∙◌, sym, subst, arith, nat_eq}
-use Rattle.std.specs.Prelude.{false, true, Ok, Err, Result}
+use Rattle.std.specs.Prelude.{false, true, Err, Result}
 use Rattle.std.proofs.lemmas.Bool.Decides.{nat_tests}
 use Rattle.ng_base.specs.Cells.{place}
 use Rattle.ng_language.specs.Lexing.{character, text_run, is_free}
