@@ -1,2 +1,3 @@
 pub mod Chains
 pub mod Entered
+pub mod Entries
