@@ -1,3 +1,4 @@
 pub mod Chains
 pub mod Entered
 pub mod Entries
+pub mod Changed

@@ -47,8 +47,10 @@ pub fn push_in(stands: &mut Vec<Stand>, i: usize, listener: Listener) -> Result<
     ensures ok { IfOk result (λ t. (serial_of t ≡ (chain_at stands.old.items i).last + 1) × (stands.new.items ≡ change_chain stands.old.items i (pushed t listener))) }
     ensures err { OnErr result (stands.new.items ≡ stands.old.items) }
     ensures worn { (result ≡ Err Memory.Worn) ↔ ((chain_at stands.old.items i).last ≡ u64.MAX) }
+    ensures rising { IsRising 0 (chain_at stands.old.items i).last (chain_at stands.old.items i).entries }
 {
     let stand = &mut stands[i];
+    stand.chain.sound();
     match stand.chain.push(listener) {
         Ok(token) => Ok(token),
         Err((_, memory)) => Err(memory),
