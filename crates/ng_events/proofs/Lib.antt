@@ -2,3 +2,4 @@ pub mod Chains
 pub mod Entered
 pub mod Entries
 pub mod Changed
+pub mod Homes
