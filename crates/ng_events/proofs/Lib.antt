@@ -1,1 +1,5 @@
 pub mod Chains
+pub mod Entered
+pub mod Entries
+pub mod Changed
+pub mod Homes

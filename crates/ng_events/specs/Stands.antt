@@ -1,5 +1,5 @@
 -- What the lists of a table of listeners stand for, and the walks that are open on them.
-use Rattle.std.specs.Prelude.{ℕ, zero, suc, ◌+◌, ◌<◌, ◌≡◌, Bool, true, false, eqb, List, [], ◌∷◌, ◌++◌, length, map, Option, Some, None, IsSome, option_map, replicate, slice_set, slice_index_or, sum_by, if◌then◌else◌}
+use Rattle.std.specs.Prelude.{ℕ, zero, suc, ◌+◌, ◌<◌, ◌≡◌, Bool, true, false, eqb, List, [], ◌∷◌, ◌++◌, length, map, Option, Some, None, IsSome, option_map, replicate, slice_set, slice_index_or, if◌then◌else◌}
 use Rattle.ng_base.specs.declared.name.FunId.{FunId}
 use Rattle.ng_chain.specs.Walked.{Walked, walk_at, open_walks, serial_of, with_entries, with_walk, without}
 use Rattle.ng_chain.specs.declared.chain.Span.{Span}
@@ -81,7 +81,8 @@ abbrev pub walks_at : Table → ℕ → List (Option Span)
 walks_at t = walks_on t.stands
 
 abbrev pub open_on : List Stand → ℕ
-open_on xs = sum_by (λ x. open_walks x.chain.walks) xs
+open_on [] = 0
+open_on (x ∷ xs) = open_walks x.chain.walks + open_on xs
 
 -- how many walks are open
 abbrev pub open_of : Table → ℕ

@@ -1,10 +1,10 @@
 //! The lists of listeners, one for each scope and name.
 ghost use Rattle.std.specs.Prelude.{◌≡◌, ◌<◌, ◌+◌, ◌++◌, ◌∷◌, ◌↔◌, [], Some, None, IsSome, length, option_map, MatchOption, IfOk, OnOk, OnErr, replicate, vec_len};
-ghost use Rattle.ng_chain.specs.Walked.{value_of, found, walk_at, open_walks, serial_of, Steps, IsRising};
-ghost use Rattle.ng_events.specs.Stands.{chain_at, change_chain, pushed, removed, walked, begun, quiet_first, quiet_stand, change_stand, no_chain, walks_on};
+ghost use Rattle.ng_chain.specs.Walked.{value_of, found, walk_at, with_walk, open_walks, serial_of, IsRising};
+ghost use Rattle.ng_events.specs.Stands.{chain_at, change_chain, pushed, removed, walked, begun, quiet_first, quiet_stand, change_stand, entries_of, Hears, no_chain, walks_on};
 
 use ng_base::fault::Memory;
-use ng_base::name::{FunId, Serial};
+use ng_base::name::FunId;
 use ng_base::txt::Txt;
 use ng_chain::chain::{Chain, Token, Walk};
 use ng_parse::program::Program;
@@ -47,8 +47,10 @@ pub fn push_in(stands: &mut Vec<Stand>, i: usize, listener: Listener) -> Result<
     ensures ok { IfOk result (λ t. (serial_of t ≡ (chain_at stands.old.items i).last + 1) × (stands.new.items ≡ change_chain stands.old.items i (pushed t listener))) }
     ensures err { OnErr result (stands.new.items ≡ stands.old.items) }
     ensures worn { (result ≡ Err Memory.Worn) ↔ ((chain_at stands.old.items i).last ≡ u64.MAX) }
+    ensures rising { IsRising 0 (chain_at stands.old.items i).last (chain_at stands.old.items i).entries }
 {
     let stand = &mut stands[i];
+    stand.chain.sound();
     match stand.chain.push(listener) {
         Ok(token) => Ok(token),
         Err((_, memory)) => Err(memory),
@@ -112,15 +114,32 @@ pub fn walk_in(stands: &mut Vec<Stand>, i: usize) -> Option<Walk>
 
 /// Goes to the next listener of a walk over a list.
 #[tactic(auto, using(crate::proofs::Chains::writes))]
-pub fn step_in(stands: &mut Vec<Stand>, i: usize, w: &mut Walk) -> Option<Serial>
+pub fn hear_in(stands: &mut Vec<Stand>, i: usize, w: &mut Walk) -> Option<FunId>
     requires within { i < vec_len stands.old }
     requires open { IsSome (walk_at (walks_on stands.old.items i) w.old.slot) }
-    ensures step { Steps (chain_at stands.old.items i).entries (walk_at (walks_on stands.old.items i) w.old.slot) result (walk_at (walks_on stands.new.items i) w.old.slot) }
+    ensures hears { Hears (entries_of (chain_at stands.old.items i).entries) (walk_at (walks_on stands.old.items i) w.old.slot) result (walk_at (walks_on stands.new.items i) w.old.slot) }
     ensures new { stands.new.items ≡ change_chain stands.old.items i (walked w.old.slot (walk_at (walks_on stands.new.items i) w.old.slot)) }
     ensures walk { w.new ≡ w.old }
 {
     let stand = &mut stands[i];
-    stand.chain.step(w)
+    hear(&mut stand.chain, w)
+}
+
+/// Goes to the next listener of a walk.
+#[tactic(auto, using(crate::proofs::Entries::hears))]
+fn hear(chain: &mut Chain<Listener>, w: &mut Walk) -> Option<FunId>
+    requires open { IsSome (walk_at chain.old.walks w.old.slot) }
+    ensures hears { Hears (entries_of chain.old.entries) (walk_at chain.old.walks w.old.slot) result (walk_at chain.new.walks w.old.slot) }
+    ensures chain { chain.new ≡ with_walk chain.old w.old.slot (walk_at chain.new.walks w.old.slot) }
+    ensures walk { w.new ≡ w.old }
+{
+    match chain.step(w) {
+        None => None,
+        Some(_) => match chain.value(w) {
+            Some(listener) => Some(listener.id),
+            None => unreachable!(),
+        },
+    }
 }
 
 /// Ends a walk over a list.

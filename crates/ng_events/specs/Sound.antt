@@ -1,0 +1,36 @@
+-- What holds of a table of listeners and its maps.
+use Rattle.std.specs.Prelude.{ℕ, ◌+◌, ◌<◌, ◌≤◌, ◌≡◌, List, length, Some, slice_get}
+use Rattle.std.specs.BTreeMap.{BTreeMap, get}
+use Rattle.std.specs.Ordering.{nat_cmp}
+use Rattle.ng_chain.specs.Walked.{value_of}
+use Rattle.ng_chain.specs.declared.chain.Token.{Token}
+use Rattle.ng_behaviour.specs.Listeners.{place_of}
+use Rattle.ng_events.specs.declared.stands.Listener.{Listener as Registered}
+use Rattle.ng_events.specs.declared.stands.Stand.{Stand}
+use Rattle.ng_events.specs.declared.stands.Home.{Home}
+use Rattle.ng_events.specs.Stands.{chain_at, all_heard, open_on}
+use Rattle.ng_events.specs.Names.{named}
+
+-- a listener stands where its home says
+pub record IsThere (xs : List Stand) (id : ℕ) (h : Home) : Type 0 where
+  pub within : h.list < length xs
+  pub listener : Registered
+  pub stands : value_of (chain_at xs h.list).entries h.token ≡ Some listener
+  pub called : id ≡ listener.id.0
+
+abbrev pub AreThere : List Stand → BTreeMap ℕ Home → Type 0
+AreThere xs homes = (id : ℕ) (h : Home) → get nat_cmp homes id ≡ Some h → IsThere xs id h
+
+-- each listener has its home
+abbrev pub HaveHomes : List Stand → BTreeMap ℕ Home → Type 0
+HaveHomes xs homes = (l k : ℕ) (e : Token × Registered) → slice_get (chain_at xs l).entries k ≡ Some e → get nat_cmp homes e.1.id.0 ≡ Some (record { list = l; token = e.0 })
+
+abbrev pub HavePlaces : List Stand → BTreeMap ℕ (BTreeMap (List ℕ) ℕ) → Type 0
+HavePlaces xs names = (s : ℕ) (n : List ℕ) → named names s n ≡ place_of (all_heard xs) s n
+
+pub record IsSound (xs : List Stand) (names : BTreeMap ℕ (BTreeMap (List ℕ) ℕ)) (homes : BTreeMap ℕ Home) (open_walks bare : ℕ) : Type 0 where
+  pub places : HavePlaces xs names
+  pub there : AreThere xs homes
+  pub known : HaveHomes xs homes
+  pub counted : open_walks ≡ open_on xs + bare
+  pub few : open_walks ≤ 64
