@@ -33,5 +33,6 @@ entered m k s n i names outer inner r w = elim (eqb_tells r s) [
   where
     flipped : (r s : ℕ) → eqb r s ≡ true → r ≡ s → eqb s r ≡ true
     flipped r s e q = elim (eqb_tells s r) [ inl y ↦ y.0 | inr z ↦ absurd (z.1 (sym q)) ]
+
     apart : (r s : ℕ) → (r ≡ s → ⊥) → eqb s r ≡ false
     apart r s n = elim (eqb_tells s r) [ inl y ↦ absurd (n (sym y.1)) | inr z ↦ z.0 ]

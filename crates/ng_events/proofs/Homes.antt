@@ -114,8 +114,10 @@ known-remove xs homes new id h w f u k j m e g = elim (eqb_tells j h.list) [
   where
     kept : get nat_cmp homes e.1.id.0 ≡ Some (record { list = j; token = e.0 }) → (id ≡ e.1.id.0 → ⊥) → get nat_cmp new e.1.id.0 ≡ Some (record { list = j; token = e.0 })
     kept old n = home-other homes new id e.1.id.0 None u n ∙ old
+
     was : (i : ℕ) → j ≡ h.list → slice_get (chain_at xs h.list).entries i ≡ Some e → get nat_cmp homes e.1.id.0 ≡ Some (record { list = j; token = e.0 })
     was i y a = k j i e (ap (λ (n : ℕ). slice_get (chain_at xs n).entries i) y ∙ a)
+
     here : j ≡ h.list → slice_get (without (serial_of h.token) (chain_at xs h.list).entries) m ≡ Some e → get nat_cmp new e.1.id.0 ≡ Some (record { list = j; token = e.0 })
     here y l =
         let a = get-without (chain_at xs h.list).entries (serial_of h.token) m e l in

@@ -5,7 +5,10 @@ ghost use Rattle.ng_events.specs.Stands.{lists_of, walks_at, open_of, IsOpen, Be
 ghost use Rattle.ng_parse.specs.ProgramOf.{program};
 
 use crate::names::{enter, place_in};
-use crate::stands::{EventWalk, Home, Listener, Stand, add_stand, close_in, hear_in, listener_in, push_in, quiet_in, remove_in, walk_in};
+use crate::stands::{
+    EventWalk, Home, Listener, Stand, add_stand, close_in, hear_in, listener_in, push_in, quiet_in,
+    remove_in, walk_in,
+};
 use ng_base::fault::Memory;
 use ng_base::name::{FunId, ScopeId};
 use ng_base::txt::Txt;

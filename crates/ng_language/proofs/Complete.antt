@@ -24,7 +24,6 @@ use Rattle.ng_language.specs.declared.syntax.Level.TheVariants as levels
 use Rattle.ng_language.specs.declared.syntax.Joint.{Joint}
 use Rattle.ng_language.specs.declared.syntax.Joint.TheVariants as joints
 use Rattle.ng_language.proofs.Fronts.{after_here, after_other, after_nothing, after_name, after_number, after_text, after_label, name_here, label_here, unary_here, joint_here, joint_strength, strength, front, not_after, not_joint, begins, begins_primary, begins_not, not_unary}
-
 use Rattle.ng_language.specs.Parsing.{one_too_many, located, low, parsed, parse_fault}
 use Rattle.ng_language.specs.declared.syntax.ParseKind.TheVariants as kinds
 use Rattle.ng_language.specs.Heights.{heights}
@@ -99,9 +98,9 @@ choice_read c a b rc ra rb us rest (suc (suc k)) s d h =
     let last : List Token = token.Sign sign.Colon ∷ (xs ++ rest) in
     let tail : List Token = token.Sign sign.Question ∷ (ws ++ last) in
     let flat : us ++ rest ≡ vs ++ tail =
-        ap (λ ts. ts ++ rest) s.6
-        ∙ (append_assoc vs (token.Sign sign.Question ∷ (ws ++ token.Sign sign.Colon ∷ xs)) rest
-        ∙ ap (λ ts. vs ++ token.Sign sign.Question ∷ ts) (append_assoc ws (token.Sign sign.Colon ∷ xs) rest)) in
+    ap (λ ts. ts ++ rest) s.6
+    ∙ (append_assoc vs (token.Sign sign.Question ∷ (ws ++ token.Sign sign.Colon ∷ xs)) rest
+    ∙ ap (λ ts. vs ++ token.Sign sign.Question ∷ ts) (append_assoc ws (token.Sign sign.Colon ∷ xs) rest)) in
     let first = rc.ops levels.Or s.3.0 vs tail (suc k) s.3.1 (lit< tt) (omega (arith, ap length flat)) in
     let one : operators (suc k) levels.Or (vs ++ tail) ≡ Ok (c, tail) = first.2 ∙ operations_end first.0 levels.Or c tail (lit< tt) (omega (arith, first.1)) in
     let yes : expression k (ws ++ last) ≡ Ok (a, last) = ra.expressions s.4.0 ws last k s.4.1 (lit< tt) (omega (arith, ap length flat, length-append vs tail)) in
@@ -177,9 +176,9 @@ call_read e ts p r us rest k s h =
     let vs = s.0 in let ws = s.1 in
     let tail : List Token = token.Sign sign.OpenRound ∷ (ws ++ token.Sign sign.CloseRound ∷ rest) in
     let flat : us ++ rest ≡ vs ++ tail =
-        ap (λ xs. xs ++ rest) s.4
-        ∙ (append_assoc vs (token.Sign sign.OpenRound ∷ (ws ++ token.Sign sign.CloseRound ∷ [])) rest
-        ∙ ap (λ xs. vs ++ token.Sign sign.OpenRound ∷ xs) (append_assoc ws (token.Sign sign.CloseRound ∷ []) rest)) in
+    ap (λ xs. xs ++ rest) s.4
+    ∙ (append_assoc vs (token.Sign sign.OpenRound ∷ (ws ++ token.Sign sign.CloseRound ∷ [])) rest
+    ∙ ap (λ xs. vs ++ token.Sign sign.OpenRound ∷ xs) (append_assoc ws (token.Sign sign.CloseRound ∷ []) rest)) in
     let inner = p s.2.0 vs tail k s.2.1 (subst (λ (xs : List Token). 32 * length xs + 5 ≤ k) flat h) in
     let one = one_call inner.0 ws s.3 (omega (arith, inner.1)) in
     (one.0, one.1, ap (primary k) flat ∙ (inner.2 ∙ one.2))
@@ -189,8 +188,7 @@ call_read e ts p r us rest k s h =
     one_call zero ws q l = absurd (omega arith)
     one_call (suc j) ws q l =
         let close : List Token = token.Sign sign.CloseRound ∷ rest in
-        let read : called j (ws ++ close) ≡ got rest (list_of ts) = r ws rest j q (omega arith) in
-        (
+        let read : called j (ws ++ close) ≡ got rest (list_of ts) = r ws rest j q (omega arith) in (
           j,
           omega (arith, length-append ws close),
           rw (after_other sign.Dot sign.OpenRound (ws ++ close) refl, after_other sign.OpenSquare sign.OpenRound (ws ++ close) refl, after_here sign.OpenRound (ws ++ close), read) (ap (λ x. postfix j (call_of e x) rest) (trees_back ts)),
@@ -357,7 +355,7 @@ record_read ps r us rest (suc (suc k)) s h =
     let flat : us ++ rest ≡ token.Sign sign.OpenCurly ∷ (vs ++ tail) = ap (λ xs. xs ++ rest) s.2 ∙ ap (λ xs. token.Sign sign.OpenCurly ∷ xs) (append_assoc vs (token.Sign sign.CloseCurly ∷ []) rest) in
     let inner : pairs k [] (vs ++ tail) ≡ got rest (pair_list ps) = r vs rest k [] s.1 (omega (arith, ap length flat)) in
     let read : head (suc k) (token.Sign sign.OpenCurly ∷ (vs ++ tail)) ≡ Ok (a_record ps, rest) =
-        rw (after_other sign.OpenRound sign.OpenCurly (vs ++ tail) refl, after_other sign.OpenSquare sign.OpenCurly (vs ++ tail) refl, after_here sign.OpenCurly (vs ++ tail), inner) (ap (λ x. got rest (a_record x)) (pairs_back ps)) in
+    rw (after_other sign.OpenRound sign.OpenCurly (vs ++ tail) refl, after_other sign.OpenSquare sign.OpenCurly (vs ++ tail) refl, after_here sign.OpenCurly (vs ++ tail), inner) (ap (λ x. got rest (a_record x)) (pairs_back ps)) in
     (suc k, omega (arith, ap length flat, length-append vs tail), ap (primary (suc (suc k))) flat ∙ rw read)
 
 mutual

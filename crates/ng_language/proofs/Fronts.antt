@@ -137,6 +137,7 @@ and_then_some {A} (Some b) ts us a h = (ap (λ p. first_of p) h, ap (λ p. secon
     first_of : Option (A × List Token) → Option A
     first_of (Some p) = Some p.0
     first_of None = None
+
     second_of : Option (A × List Token) → List Token
     second_of (Some p) = p.1
     second_of None = []

@@ -23,7 +23,6 @@ use Rattle.ng_language.specs.declared.syntax.Level.TheVariants as levels
 use Rattle.ng_language.specs.declared.syntax.Joint.{Joint}
 use Rattle.ng_language.specs.declared.syntax.Joint.TheVariants as joints
 use Rattle.ng_language.proofs.Fronts.{after_here, after_other, after_nothing, after_name, after_number, after_text, after_label, name_here, label_here, unary_here, joint_here, joint_strength, strength, front, not_after, not_joint, begins, begins_primary, begins_not, not_unary}
-
 use Rattle.ng_language.proofs.Climb.{Ends, postfix_ends, operations_end, choice_ends, assignment_ends, filters_end, ReadsPrimary, ReadsUnary, ReadsOps, ReadsOperand, ReadsTernary, ReadsExpression, ReadsStatement, Reads, unary_up, term_up, from_statement, from_expression, from_ternary, from_ops, from_unary, tight_low, tight_high}
 
 -- what a tree's tokens begin with
@@ -154,9 +153,9 @@ item_read e i p x us rest k s h =
     let close : List Token = token.Sign sign.CloseSquare ∷ rest in
     let tail : List Token = token.Sign sign.OpenSquare ∷ (ws ++ close) in
     let flat : us ++ rest ≡ vs ++ tail =
-        ap (λ ts. ts ++ rest) s.4
-        ∙ (append_assoc vs (token.Sign sign.OpenSquare ∷ (ws ++ token.Sign sign.CloseSquare ∷ [])) rest
-        ∙ ap (λ ts. vs ++ token.Sign sign.OpenSquare ∷ ts) (append_assoc ws (token.Sign sign.CloseSquare ∷ []) rest)) in
+    ap (λ ts. ts ++ rest) s.4
+    ∙ (append_assoc vs (token.Sign sign.OpenSquare ∷ (ws ++ token.Sign sign.CloseSquare ∷ [])) rest
+    ∙ ap (λ ts. vs ++ token.Sign sign.OpenSquare ∷ ts) (append_assoc ws (token.Sign sign.CloseSquare ∷ []) rest)) in
     let inner = p s.2.0 vs tail k s.2.1 (subst (λ (ts : List Token). 32 * length ts + 5 ≤ k) flat h) in
     let one = one_item inner.0 ws s.3 (omega (arith, inner.1)) in
     (one.0, one.1, ap (primary k) flat ∙ (inner.2 ∙ one.2))

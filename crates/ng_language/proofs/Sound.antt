@@ -26,7 +26,6 @@ use Rattle.ng_language.specs.declared.syntax.Level.TheVariants as levels
 use Rattle.ng_language.specs.declared.syntax.Joint.{Joint}
 use Rattle.ng_language.specs.declared.syntax.Joint.TheVariants as joints
 use Rattle.ng_language.proofs.Fronts.{after_some, name_some, label_some, unary_some, joint_some}
-
 use Rattle.ng_language.specs.Parsing.{one_too_many, located, low, parsed, parse_fault}
 use Rattle.ng_language.specs.declared.syntax.ParseKind.TheVariants as kinds
 use Rattle.ng_language.specs.Heights.{heights}
@@ -34,7 +33,6 @@ use Rattle.std.specs.Prelude.{nat_eq, nat_le, if◌then◌else◌}
 use Rattle.std.proofs.lemmas.Bool.Decides.{nat_tests}
 use Rattle.ng_base.proofs.Binds.{bind_ok, chosen, guarded}
 use Rattle.ng_language.proofs.Complete.{list_of, pair_list, trees_back, pairs_back}
-
 
 abbrev pub got : {A : Type 0} → List Token → A → Read A
 got rest a = Ok (a, rest)
@@ -207,7 +205,7 @@ named_sound k ih a e us ts rest s h =
           let all : List Token = us ++ token.Sign sign.Bar ∷ token.Name n ∷ x.us in
           let spelled : Spells (filtered a n (trees_from b.0.0)) all = subst (λ (q : Trees). Spells (filtered a n q) all) (sym same) (us, x.us, s, x.spells, refl) in
           let whole : us ++ token.Sign sign.Bar ∷ ts ≡ all ++ b.0.1 =
-              ap (λ xs. us ++ token.Sign sign.Bar ∷ xs) (name_some ts p.0.1 n p.1 ∙ ap (λ xs. token.Name n ∷ xs) x.whole) ∙ sym (append_assoc us (token.Sign sign.Bar ∷ token.Name n ∷ x.us) b.0.1) in
+          ap (λ xs. us ++ token.Sign sign.Bar ∷ xs) (name_some ts p.0.1 n p.1 ∙ ap (λ xs. token.Name n ∷ xs) x.whole) ∙ sym (append_assoc us (token.Sign sign.Bar ∷ token.Name n ∷ x.us) b.0.1) in
           moved 1 e (all ++ b.0.1) (us ++ token.Sign sign.Bar ∷ ts) rest whole (ih.filterings (filtered a n (trees_from b.0.0)) e all b.0.1 rest spelled b.2)
       | inr p ↦ absurd (cc)
     ]
@@ -387,14 +385,14 @@ round_sound k ih a e us ts xs rest low s is h =
 pub postfix_sound : (k : ℕ) → IsSound k → (a e : Tree) (us ts rest : List Token) → 11 ≤ rank a → Spells a us → postfix (suc k) a ts ≡ Ok (e, rest) → Spelled 11 e (us ++ ts) rest
 postfix_sound k ih a e us ts rest low s h =
     elim (some_or (after sign.Dot ts) (λ xs. when_some (name_at xs) (λ n. postfix k (member_of a n.0) n.1) (unfit xs)) (
-      when_some (after sign.OpenSquare ts) (λ xs. expression k xs >>= λ r. expect sign.CloseSquare r.1 >>= λ vs. postfix k (item_of a r.0) vs) (
-        when_some (after sign.OpenRound ts) (λ xs. called k xs >>= λ r. postfix k (call_of a (trees_from r.0)) r.1) (Ok (a, ts))
-      )
+    when_some (after sign.OpenSquare ts) (λ xs. expression k xs >>= λ r. expect sign.CloseSquare r.1 >>= λ vs. postfix k (item_of a r.0) vs) (
+    when_some (after sign.OpenRound ts) (λ xs. called k xs >>= λ r. postfix k (call_of a (trees_from r.0)) r.1) (Ok (a, ts))
+    )
     ) (Ok (e, rest)) h) [
       | inl p ↦ dot_sound k ih a e us ts p.0 rest low s (after_some sign.Dot ts p.0 p.1) p.2
       | inr p ↦
           elim (some_or (after sign.OpenSquare ts) (λ xs. expression k xs >>= λ r. expect sign.CloseSquare r.1 >>= λ vs. postfix k (item_of a r.0) vs) (
-            when_some (after sign.OpenRound ts) (λ xs. called k xs >>= λ r. postfix k (call_of a (trees_from r.0)) r.1) (Ok (a, ts))
+          when_some (after sign.OpenRound ts) (λ xs. called k xs >>= λ r. postfix k (call_of a (trees_from r.0)) r.1) (Ok (a, ts))
           ) (Ok (e, rest)) p.1) [
             | inl q ↦ square_sound k ih a e us ts q.0 rest low s (after_some sign.OpenSquare ts q.0 q.1) q.2
             | inr q ↦

@@ -28,7 +28,6 @@ use Rattle.ng_language.specs.declared.syntax.Joint.{Joint}
 use Rattle.ng_language.specs.declared.syntax.Joint.TheVariants as joints
 use Rattle.ng_language.proofs.Sound.{got, ok_first, ok_rest, some_or, expected, Spelled, moved, loose, here, rank_one, SpelledArguments, SpelledValues, SpelledCalled, SpelledItems, SpelledPairs, SpelledPair, IsSound, statement_sound, filters_sound, named_sound, arguments_sound, expression_sound, assignment_sound, ternary_sound, choice_sound, operators_sound, operand_sound, operations_sound, unary_sound, primary_sound, postfix_sound}
 use Rattle.ng_language.proofs.Fronts.{after_some, name_some, label_some, unary_some, joint_some}
-
 use Rattle.ng_language.specs.Parsing.{one_too_many, located, low, parsed, parse_fault}
 use Rattle.ng_language.specs.declared.syntax.ParseFault.{ParseFault}
 use Rattle.ng_language.specs.declared.syntax.ParseKind.TheVariants as kinds
@@ -288,8 +287,10 @@ valued_sound k ih l p ts rest h =
 -- heads
 abbrev in_round : ℕ → List Token → Read Tree
 in_round k us = statement k us >>= λ r. expect sign.CloseRound r.1 >>= λ vs. Ok (in_brackets r.0, vs)
+
 abbrev in_square : ℕ → List Token → Read Tree
 in_square k us = items k [] us >>= λ r. Ok (a_list (trees_from r.0), r.1)
+
 abbrev in_curly : ℕ → List Token → Read Tree
 in_curly k us = pairs k [] us >>= λ r. Ok (a_record (pairs_from r.0), r.1)
 
