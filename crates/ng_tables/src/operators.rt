@@ -28,7 +28,8 @@ fn bit(b: bool) -> char {
 #[test]
 fn loose_equality_has_its_table(rt: HostRuntime) -> Result<(), Fail> {
     let rows = [
-        "11000000", "11000000", "00110100", "00110100", "00000000", "00110100", "00000010", "00000001",
+        "11000000", "11000000", "00110100", "00110100", "00000000", "00110100", "00000010",
+        "00000001",
     ];
     let alloc = rt.alloc();
     for (i, row) in rows.iter().enumerate() {
@@ -44,7 +45,8 @@ fn loose_equality_has_its_table(rt: HostRuntime) -> Result<(), Fail> {
 #[test]
 fn strict_equality_has_its_table(rt: HostRuntime) -> Result<(), Fail> {
     let rows = [
-        "10000000", "01000000", "00100000", "00010000", "00000000", "00000100", "00000010", "00000001",
+        "10000000", "01000000", "00100000", "00010000", "00000000", "00000100", "00000010",
+        "00000001",
     ];
     let alloc = rt.alloc();
     for (i, row) in rows.iter().enumerate() {
@@ -60,7 +62,8 @@ fn strict_equality_has_its_table(rt: HostRuntime) -> Result<(), Fail> {
 #[test]
 fn order_has_its_table(rt: HostRuntime) -> Result<(), Fail> {
     let rows = [
-        "00000000", "00110100", "00000000", "00000000", "00000000", "00000000", "00000000", "00000000",
+        "00000000", "00110100", "00000000", "00000000", "00000000", "00000000", "00000000",
+        "00000000",
     ];
     let alloc = rt.alloc();
     for (i, row) in rows.iter().enumerate() {
@@ -84,36 +87,53 @@ fn truth_has_its_table(rt: HostRuntime) -> Result<(), Fail> {
     Ok(())
 }
 
-fn text(alloc: Global, s: &str) -> Result<View, Fail> {
-    Ok(View::of_value(Value::Text(Txt::from_str(alloc, s)?)))
-}
-
-fn int(n: i64) -> View {
-    View::of_value(Value::Int(n))
+/// A value by its text: `undefined`, `NaN`, `#8` and the like for numbers, and any other as a text.
+fn operand(alloc: Global, s: &str) -> Result<View, Fail> {
+    Ok(View::of_value(match s {
+        "undefined" => Value::Undefined,
+        "NaN" => Value::Nan,
+        "#1" => Value::Int(1),
+        "#8" => Value::Int(8),
+        "#10" => Value::Int(10),
+        _ => Value::Text(Txt::from_str(alloc, s)?),
+    }))
 }
 
 #[test]
 fn texts_are_ordered_by_their_characters(rt: HostRuntime) -> Result<(), Fail> {
     let alloc = rt.alloc();
     let rows = [
-        ("10", "9", true),
-        ("9", "10", false),
-        ("a", "ab", true),
-        ("ab", "ab", false),
-        ("\u{ffff}", "\u{10000}", true),
-        ("Z", "a", true),
+        ("10", "9", false, true),
+        ("9", "10", false, false),
+        ("a", "ab", false, true),
+        ("ab", "ab", false, false),
+        ("ab", "ab", true, true),
+        ("\u{ffff}", "\u{10000}", false, true),
+        ("Z", "a", false, true),
+        ("#10", " 9 ", false, false),
+        ("#8", " 9 ", false, true),
+        ("", "#1", false, true),
+        ("#1", "1x", true, false),
     ];
-    for (a, b, want) in rows {
-        assert_eq!(rt; less(&text(alloc, a)?, &text(alloc, b)?, false), want, "{a} < {b}");
+    for (a, b, or_equal, want) in rows {
+        assert_eq!(rt;
+            less(&operand(alloc, a)?, &operand(alloc, b)?, or_equal),
+            want,
+            "{a} < {b}"
+        );
     }
-    assert!(rt; less(&text(alloc, "ab")?, &text(alloc, "ab")?, true));
-    assert!(rt; !less(&int(10), &text(alloc, " 9 ")?, false));
-    assert!(rt; less(&int(8), &text(alloc, " 9 ")?, false));
-    assert!(rt; less(&text(alloc, "")?, &int(1), false));
     Ok(())
 }
 
-fn shown(alloc: Global, r: Result<Value, ng_base::fault::Fault>) -> Result<String, Fail> {
+/// What an operator gives of two values: a number, or the name of the fault.
+fn result_of(alloc: Global, sign: &str, a: &str, b: &str) -> Result<String, Fail> {
+    let (x, y) = (operand(alloc, a)?, operand(alloc, b)?);
+    let r = match sign {
+        "-" => sub(&x, &y),
+        "*" => mul(&x, &y),
+        "/" => div(&x, &y),
+        _ => rem(&x, &y),
+    };
     match r {
         Ok(Value::Int(n)) => Ok(n.to_string(alloc)?),
         Ok(Value::Nan) => Ok(String::from_str(alloc, "NaN")?),
@@ -122,27 +142,34 @@ fn shown(alloc: Global, r: Result<Value, ng_base::fault::Fault>) -> Result<Strin
     }
 }
 
-const LAST: i64 = 9_007_199_254_740_991;
-
 #[test]
 fn numbers_have_their_range(rt: HostRuntime) -> Result<(), Fail> {
     let alloc = rt.alloc();
-    assert_eq!(rt; shown(alloc, sub(&int(-LAST), &int(1)))?.as_str(), "Range");
-    assert_eq!(rt; shown(alloc, sub(&int(-LAST), &int(0)))?.as_str(), "-9007199254740991");
-    assert_eq!(rt; shown(alloc, sub(&kind(alloc, 0)?, &int(7)))?.as_str(), "-7");
-    assert_eq!(rt; shown(alloc, sub(&kind(alloc, 6)?, &int(7)))?.as_str(), "NaN");
-    assert_eq!(rt; shown(alloc, mul(&int(LAST), &int(2)))?.as_str(), "Range");
-    assert_eq!(rt; shown(alloc, mul(&int(LAST), &int(-1)))?.as_str(), "-9007199254740991");
-    assert_eq!(rt; shown(alloc, mul(&kind(alloc, 0)?, &int(2)))?.as_str(), "NaN");
-    assert_eq!(rt; shown(alloc, mul(&text(alloc, " -3 ")?, &int(2)))?.as_str(), "-6");
-    assert_eq!(rt; shown(alloc, mul(&text(alloc, "3x")?, &int(2)))?.as_str(), "NaN");
-    assert_eq!(rt; shown(alloc, mul(&text(alloc, "9007199254740992")?, &int(1)))?.as_str(), "NaN");
-    assert_eq!(rt; shown(alloc, div(&int(7), &int(2)))?.as_str(), "NotWhole");
-    assert_eq!(rt; shown(alloc, div(&int(6), &int(-2)))?.as_str(), "-3");
-    assert_eq!(rt; shown(alloc, div(&int(6), &int(0)))?.as_str(), "NotWhole");
-    assert_eq!(rt; shown(alloc, div(&kind(alloc, 4)?, &int(0)))?.as_str(), "NaN");
-    assert_eq!(rt; shown(alloc, rem(&int(-7), &int(2)))?.as_str(), "-1");
-    assert_eq!(rt; shown(alloc, rem(&int(7), &int(-2)))?.as_str(), "1");
-    assert_eq!(rt; shown(alloc, rem(&int(7), &int(0)))?.as_str(), "NotWhole");
+    let rows = [
+        ("-", "-9007199254740991", "1", "Range"),
+        ("-", "-9007199254740991", "0", "-9007199254740991"),
+        ("-", "undefined", "7", "-7"),
+        ("-", "x", "7", "NaN"),
+        ("*", "9007199254740991", "2", "Range"),
+        ("*", "9007199254740991", "-1", "-9007199254740991"),
+        ("*", "undefined", "2", "NaN"),
+        ("*", " -3 ", "+2", "-6"),
+        ("*", "3x", "2", "NaN"),
+        ("*", "9007199254740992", "1", "NaN"),
+        ("/", "7", "2", "NotWhole"),
+        ("/", "6", "-2", "-3"),
+        ("/", "6", "0", "NotWhole"),
+        ("/", "NaN", "0", "NaN"),
+        ("%", "-7", "2", "-1"),
+        ("%", "7", "-2", "1"),
+        ("%", "7", "0", "NotWhole"),
+    ];
+    for (sign, a, b, want) in rows {
+        assert_eq!(rt;
+            result_of(alloc, sign, a, b)?.as_str(),
+            want,
+            "{a} {sign} {b}"
+        );
+    }
     Ok(())
 }
