@@ -6,3 +6,5 @@ pub mod Sound
 pub mod JsonLists
 pub mod PlacedSound
 pub mod ArraySound
+pub mod Kept
+pub mod Indices

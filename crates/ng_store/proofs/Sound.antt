@@ -128,7 +128,7 @@ apart_inserted k (e ∷ es) name v a s = by (bytes_eq name e.0) (apart_inserted 
     by true rest = a
     by false rest = (a.0, rest)
 
-unequal : (x y : List ℕ) → bytes_eq x y ≡ false → bytes_eq y x ≡ false
+pub unequal : (x y : List ℕ) → bytes_eq x y ≡ false → bytes_eq y x ≡ false
 unequal x y h = by (bytes_eq y x) refl
   where
     by : (b : Bool) → bytes_eq y x ≡ b → bytes_eq y x ≡ false

@@ -21,6 +21,7 @@ mod arrays;
 mod heap;
 mod index;
 pub mod json;
+pub mod laws;
 mod names;
 mod objects;
 mod placing;

@@ -86,6 +86,13 @@ impl Store {
         }
     }
 
+    /// The number of objects.
+    pub fn count(&self) -> usize
+        ensures { result ≡ length self.now }
+    {
+        self.objects.len()
+    }
+
     /// What holds of the objects of every store: prototypes stand earlier, values name objects that stand.
     pub fn sound(&self)
         ensures { AreObjects self.now }

@@ -1,3 +1,4 @@
 pub mod Orders
 pub mod ViewParts
 pub mod Unfolds
+pub mod Sameness

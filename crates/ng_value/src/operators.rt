@@ -1,5 +1,5 @@
 //! The operators that read no heap: truth, equality, order.
-ghost use Rattle.std.specs.Prelude.{◌≡◌};
+ghost use Rattle.std.specs.Prelude.{◌≡◌, ◌↔◌, IsTrue};
 ghost use Rattle.ng_base.specs.ViewOf.{view_of};
 ghost use Rattle.ng_language.specs.Operators.{is_true, truthy, same, strict_same, strict_eq, loose_same, loose_eq, same_number, text_before, number_before, less, sub, mul, div, remainder_of};
 
@@ -38,6 +38,13 @@ pub fn truthy(v: &View) -> bool
 
 /// Whether two values are the same; NaN is the same as NaN.
 pub fn same(a: &Value, b: &Value) -> bool
+    ensures value { result ≡ same a.now b.now }
+    ensures equal { IsTrue result ↔ (a.now ≡ b.now) }
+{
+    same_values(a, b)
+}
+
+fn same_values(a: &Value, b: &Value) -> bool
     ensures { result ≡ same a.now b.now }
 {
     match (a, b) {

@@ -1,5 +1,5 @@
 //! Snapshots: what a watcher keeps of a value, and when two differ.
-ghost use Rattle.std.specs.Prelude.{◌≡◌, map, not};
+ghost use Rattle.std.specs.Prelude.{◌≡◌, ◌↔◌, IsTrue, map, not};
 ghost use Rattle.ng_base.specs.Views.{views_from, fields_from};
 ghost use Rattle.ng_base.specs.ViewOf.{view_of, field_of};
 ghost use Rattle.ng_language.specs.Snapshots.{same_view, same_views, same_fields, differs};
@@ -34,7 +34,8 @@ impl Snap {
 
 /// Whether two snapshots differ.
 pub fn differs(a: &Snap, b: &Snap) -> bool
-    ensures { result ≡ differs (snap_of a.now) (snap_of b.now) }
+    ensures value { result ≡ differs (snap_of a.now) (snap_of b.now) }
+    ensures unequal { IsTrue result ↔ ¬ (snap_of a.now ≡ snap_of b.now) }
 {
     !same_view(&a.view, &b.view)
 }
