@@ -4,3 +4,5 @@ pub mod Parts
 pub mod Complete
 pub mod Sound
 pub mod Whole
+pub mod LexSound
+pub mod LexComplete
