@@ -1,14 +1,12 @@
 -- What spells tokens is read as them.
 use Rattle.std.proofs.Common.{◌≡◌, ◌≤◌, ◌<◌, ◌+◌, ◌*◌, ◌-◌, ℕ, zero, suc, Bool, true, false, ◌&&◌, ◌||◌, nat_eq, nat_le, List, [], ◌∷◌, ◌++◌, length, refl, ap, ◌∙◌, sym, subst, arith, inl, inr, length-append, append_assoc, append-nil}
 use Rattle.std.proofs.lemmas.Bool.Decides.{nat_tests}
-use Rattle.std.specs.Prelude.{Option, Some, None, Result, Ok, Err, if◌then◌else◌, ◌⊎◌}
+use Rattle.std.specs.Prelude.{Some, None, Result, Ok, Err, ◌⊎◌}
 use Rattle.std.specs.List.{list_all}
 use Rattle.ng_base.specs.Cells.{place}
-use Rattle.ng_base.specs.Meets.{◌>>=◌}
 use Rattle.ng_base.proofs.Binds.{if_true, if_false}
-use Rattle.ng_language.specs.Choice.{when_some}
 use Rattle.ng_language.specs.Letters.{is_space, is_digit, begins_name, is_in_name, is_quote, goes_on, is_hex, hex_value, is_surrogate, escaped}
-use Rattle.ng_language.specs.Lexing.{refusal, name_run, with_digit, digit_run, ends_number, number, is_closed, hex_step, scalar, unicode, escape, character, text_run, text_at, next_is, longer, equal_signs, not_signs, single_sign, sign_at, digit_next, signed_token, named, token_at, lexes, lexed}
+use Rattle.ng_language.specs.Lexing.{refusal, name_run, with_digit, digit_run, ends_number, is_closed, hex_step, scalar, unicode, escape, character, text_run, text_at, next_is, digit_next, named, token_at, lexes, lexed}
 use Rattle.ng_language.specs.Spelling.{spelled, lengthens, Stops, MayFollow, value_on, four_hex, IsName, IsNumber, IsCharacter, IsText, Lexeme, Written}
 use Rattle.ng_language.specs.declared.syntax.Sign.{Sign}
 use Rattle.ng_language.specs.declared.syntax.Sign.TheVariants as sign

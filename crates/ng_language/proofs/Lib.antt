@@ -5,4 +5,5 @@ pub mod Complete
 pub mod Sound
 pub mod Whole
 pub mod LexSound
+pub mod SignSound
 pub mod LexComplete

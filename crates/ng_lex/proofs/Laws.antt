@@ -4,7 +4,7 @@ use Rattle.std.specs.Prelude.{IfOk}
 use Rattle.ng_base.specs.Meets.{Gives}
 use Rattle.ng_language.specs.Lexing.{lexed, is_free}
 use Rattle.ng_language.specs.Spelling.{Written}
-use Rattle.ng_language.proofs.LexSound.{lexed_is}
+use Rattle.ng_language.proofs.SignSound.{lexed_is}
 use Rattle.ng_language.proofs.LexComplete.{lexed_only}
 use Rattle.ng_language.specs.declared.syntax.Token.{Token}
 use Rattle.ng_language.specs.declared.syntax.LexFault.{LexFault}
