@@ -4,3 +4,4 @@
 mod names;
 pub mod listeners;
 mod stands;
+mod table;
