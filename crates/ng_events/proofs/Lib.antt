@@ -3,3 +3,5 @@ pub mod Entered
 pub mod Entries
 pub mod Changed
 pub mod Homes
+pub mod Tables
+pub mod Quiet

@@ -4,3 +4,4 @@
 pub mod listeners;
 mod names;
 mod stands;
+mod table;

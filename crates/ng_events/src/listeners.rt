@@ -1,19 +1,26 @@
 //! The listeners of all scopes.
 ghost use Rattle.std.specs.Prelude.{◌≡◌, ◌+◌, ◌<◌, ◌↔◌, [], Some, None, IsTrue, IsSome, is_some, length, option_map, IsNone, MatchOption, OnOk};
-ghost use Rattle.ng_behaviour.specs.Listeners.{with_listener, without_listener, without_listeners_of, called, place_of, heard_at};
+ghost use Rattle.ng_behaviour.specs.Listeners.{with_listener, without_listener, without_listeners_of, called, last_of};
 ghost use Rattle.ng_events.specs.Stands.{lists_of, walks_at, open_of, IsOpen, Begins, Goes, Ends};
 ghost use Rattle.ng_parse.specs.ProgramOf.{program};
 
+<<<<<<< HEAD
 use crate::names::{enter, place_in};
 use crate::stands::{
     EventWalk, Home, Listener, Stand, add_stand, close_in, hear_in, listener_in, push_in, quiet_in,
     remove_in, walk_in,
 };
+=======
+use crate::names::place_in;
+use crate::stands::{Home, Listener, Stand};
+use crate::table::{add_list, add_listener, drop_listener, find_listener, quiet_scope};
+
+>>>>>>> 338e9f572c9eb489b664d3ef2877696eab65f8c6
 use ng_base::fault::Memory;
 use ng_base::name::{FunId, ScopeId};
 use ng_base::txt::Txt;
 use ng_parse::program::Program;
-use std::alloc::{AllocError, Global};
+use std::alloc::Global;
 use std::collections::BTreeMap;
 use std::marker::Model;
 
@@ -59,5 +66,64 @@ impl Listeners {
             walks: 0,
             bare: 0,
         }
+    }
+
+    /// Registers a listener under a name that is new, at the end of its list.
+    pub fn on(
+        &mut self,
+        scope: ScopeId,
+        name: &Txt,
+        body: Program,
+        id: FunId,
+    ) -> Result<(), Memory>
+        requires { called (lists_of self.old) id.0 ≡ None }
+        ensures ok { OnOk result (lists_of self.new ≡ with_listener (lists_of self.old) scope.0 name.now (record { id = id.0; body = program body })) }
+        ensures walks { walks_at self.new ≡ walks_at self.old }
+        ensures bare { self.new.bare ≡ self.old.bare }
+        ensures open { open_of self.new ≡ open_of self.old }
+        ensures worn { (result ≡ Err Memory.Worn) ↔ (last_of (lists_of self.old) scope.0 name.now ≡ u64.MAX) }
+    {
+        let listener = Listener { id, body };
+        match place_in(&self.names, scope.0, name) {
+            Some(list) => {
+                add_listener(&mut self.stands, &mut self.homes, list, listener)
+            }
+            None => {
+                let list = self.stands.len();
+                add_list(&mut self.stands, &mut self.names, self.alloc, scope.0, name)?;
+                add_listener(&mut self.stands, &mut self.homes, list, listener)
+            }
+        }
+    }
+
+    /// Takes a listener out; whether it stood.
+    pub fn off(&mut self, id: FunId) -> bool
+        ensures stood { result ≡ is_some (called (lists_of self.old) id.0) }
+        ensures lists { lists_of self.new ≡ without_listener (lists_of self.old) id.0 }
+        ensures walks { walks_at self.new ≡ walks_at self.old }
+        ensures bare { self.new.bare ≡ self.old.bare }
+        ensures open { open_of self.new ≡ open_of self.old }
+    {
+        drop_listener(&mut self.stands, &mut self.homes, id.0)
+    }
+
+    /// The program of a listener, where it stands.
+    pub fn body(&self, id: FunId) -> Option<&Program>
+        ensures { option_map (λ p. program p.now) result ≡ option_map (λ l. l.body) (called (lists_of self.now) id.0) }
+    {
+        match find_listener(self.stands.as_slice(), &self.homes, id.0) {
+            None => None,
+            Some(listener) => Some(&listener.body),
+        }
+    }
+
+    /// Takes the listeners of a scope out.
+    pub fn drop_scope(&mut self, s: ScopeId)
+        ensures lists { lists_of self.new ≡ without_listeners_of (lists_of self.old) s.0 }
+        ensures walks { walks_at self.new ≡ walks_at self.old }
+        ensures bare { self.new.bare ≡ self.old.bare }
+        ensures open { open_of self.new ≡ open_of self.old }
+    {
+        quiet_scope(&mut self.stands, &mut self.homes, s.0);
     }
 }

@@ -28,7 +28,8 @@ fn bit(b: bool) -> char {
 #[test]
 fn loose_equality_has_its_table(rt: HostRuntime) -> Result<(), Fail> {
     let rows = [
-        "11000000", "11000000", "00110100", "00110100", "00000000", "00110100", "00000010", "00000001",
+        "11000000", "11000000", "00110100", "00110100", "00000000", "00110100", "00000010",
+        "00000001",
     ];
     let alloc = rt.alloc();
     for (i, row) in rows.iter().enumerate() {
@@ -44,7 +45,8 @@ fn loose_equality_has_its_table(rt: HostRuntime) -> Result<(), Fail> {
 #[test]
 fn strict_equality_has_its_table(rt: HostRuntime) -> Result<(), Fail> {
     let rows = [
-        "10000000", "01000000", "00100000", "00010000", "00000000", "00000100", "00000010", "00000001",
+        "10000000", "01000000", "00100000", "00010000", "00000000", "00000100", "00000010",
+        "00000001",
     ];
     let alloc = rt.alloc();
     for (i, row) in rows.iter().enumerate() {
@@ -60,7 +62,8 @@ fn strict_equality_has_its_table(rt: HostRuntime) -> Result<(), Fail> {
 #[test]
 fn order_has_its_table(rt: HostRuntime) -> Result<(), Fail> {
     let rows = [
-        "00000000", "00110100", "00000000", "00000000", "00000000", "00000000", "00000000", "00000000",
+        "00000000", "00110100", "00000000", "00000000", "00000000", "00000000", "00000000",
+        "00000000",
     ];
     let alloc = rt.alloc();
     for (i, row) in rows.iter().enumerate() {
@@ -104,7 +107,11 @@ fn texts_are_ordered_by_their_characters(rt: HostRuntime) -> Result<(), Fail> {
         ("Z", "a", true),
     ];
     for (a, b, want) in rows {
-        assert_eq!(rt; less(&text(alloc, a)?, &text(alloc, b)?, false), want, "{a} < {b}");
+        assert_eq!(rt;
+            less(&text(alloc, a)?, &text(alloc, b)?, false),
+            want,
+            "{a} < {b}"
+        );
     }
     assert!(rt; less(&text(alloc, "ab")?, &text(alloc, "ab")?, true));
     assert!(rt; !less(&int(10), &text(alloc, " 9 ")?, false));
@@ -128,19 +135,46 @@ const LAST: i64 = 9_007_199_254_740_991;
 fn numbers_have_their_range(rt: HostRuntime) -> Result<(), Fail> {
     let alloc = rt.alloc();
     assert_eq!(rt; shown(alloc, sub(&int(-LAST), &int(1)))?.as_str(), "Range");
-    assert_eq!(rt; shown(alloc, sub(&int(-LAST), &int(0)))?.as_str(), "-9007199254740991");
-    assert_eq!(rt; shown(alloc, sub(&kind(alloc, 0)?, &int(7)))?.as_str(), "-7");
-    assert_eq!(rt; shown(alloc, sub(&kind(alloc, 6)?, &int(7)))?.as_str(), "NaN");
+    assert_eq!(rt;
+        shown(alloc, sub(&int(-LAST), &int(0)))?.as_str(),
+        "-9007199254740991"
+    );
+    assert_eq!(rt;
+        shown(alloc, sub(&kind(alloc, 0)?, &int(7)))?.as_str(),
+        "-7"
+    );
+    assert_eq!(rt;
+        shown(alloc, sub(&kind(alloc, 6)?, &int(7)))?.as_str(),
+        "NaN"
+    );
     assert_eq!(rt; shown(alloc, mul(&int(LAST), &int(2)))?.as_str(), "Range");
-    assert_eq!(rt; shown(alloc, mul(&int(LAST), &int(-1)))?.as_str(), "-9007199254740991");
-    assert_eq!(rt; shown(alloc, mul(&kind(alloc, 0)?, &int(2)))?.as_str(), "NaN");
-    assert_eq!(rt; shown(alloc, mul(&text(alloc, " -3 ")?, &int(2)))?.as_str(), "-6");
-    assert_eq!(rt; shown(alloc, mul(&text(alloc, "3x")?, &int(2)))?.as_str(), "NaN");
-    assert_eq!(rt; shown(alloc, mul(&text(alloc, "9007199254740992")?, &int(1)))?.as_str(), "NaN");
+    assert_eq!(rt;
+        shown(alloc, mul(&int(LAST), &int(-1)))?.as_str(),
+        "-9007199254740991"
+    );
+    assert_eq!(rt;
+        shown(alloc, mul(&kind(alloc, 0)?, &int(2)))?.as_str(),
+        "NaN"
+    );
+    assert_eq!(rt;
+        shown(alloc, mul(&text(alloc, " -3 ")?, &int(2)))?.as_str(),
+        "-6"
+    );
+    assert_eq!(rt;
+        shown(alloc, mul(&text(alloc, "3x")?, &int(2)))?.as_str(),
+        "NaN"
+    );
+    assert_eq!(rt;
+        shown(alloc, mul(&text(alloc, "9007199254740992")?, &int(1)))?.as_str(),
+        "NaN"
+    );
     assert_eq!(rt; shown(alloc, div(&int(7), &int(2)))?.as_str(), "NotWhole");
     assert_eq!(rt; shown(alloc, div(&int(6), &int(-2)))?.as_str(), "-3");
     assert_eq!(rt; shown(alloc, div(&int(6), &int(0)))?.as_str(), "NotWhole");
-    assert_eq!(rt; shown(alloc, div(&kind(alloc, 4)?, &int(0)))?.as_str(), "NaN");
+    assert_eq!(rt;
+        shown(alloc, div(&kind(alloc, 4)?, &int(0)))?.as_str(),
+        "NaN"
+    );
     assert_eq!(rt; shown(alloc, rem(&int(-7), &int(2)))?.as_str(), "-1");
     assert_eq!(rt; shown(alloc, rem(&int(7), &int(-2)))?.as_str(), "1");
     assert_eq!(rt; shown(alloc, rem(&int(7), &int(0)))?.as_str(), "NotWhole");

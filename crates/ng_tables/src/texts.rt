@@ -48,7 +48,12 @@ fn texts_have_their_table(rt: HostRuntime) -> Result<(), Fail> {
         ("true", "true", "true", "true"),
         ("-12", "-12", "-12", "-12"),
         ("\"a\\\"b\"", "a\"b", "a\"b", "\"a\\\"b\""),
-        ("[1,null,[2,\"x\"]]", "1,,2,x", "[1,null,[2,\"x\"]]", "[\n  1,\n  null,\n  [\n    2,\n    \"x\"\n  ]\n]"),
+        (
+            "[1,null,[2,\"x\"]]",
+            "1,,2,x",
+            "[1,null,[2,\"x\"]]",
+            "[\n  1,\n  null,\n  [\n    2,\n    \"x\"\n  ]\n]",
+        ),
         ("[]", "", "[]", "[]"),
         ("{}", "[object Object]", "{}", "{}"),
         (
@@ -121,12 +126,66 @@ fn all_stand(store: &Store, v: &View) -> bool
 fn sums_have_their_table(rt: HostRuntime) -> Result<(), Fail> {
     let alloc = rt.alloc();
     let rows = [
-        ["undefined", "null", "true", "1", "NaN", "'1", "object", "fun"],
-        ["null", "0", "1", "1", "NaN", "'null1", "'null[object Object]", "'nullfunction"],
-        ["true", "1", "2", "2", "NaN", "'true1", "'true[object Object]", "'truefunction"],
-        ["1", "1", "2", "2", "NaN", "'11", "'1[object Object]", "'1function"],
-        ["NaN", "NaN", "NaN", "NaN", "NaN", "'NaN1", "'NaN[object Object]", "'NaNfunction"],
-        ["'1", "'1null", "'1true", "'11", "'1NaN", "'11", "'1[object Object]", "'1function"],
+        [
+            "undefined",
+            "null",
+            "true",
+            "1",
+            "NaN",
+            "'1",
+            "object",
+            "fun",
+        ],
+        [
+            "null",
+            "0",
+            "1",
+            "1",
+            "NaN",
+            "'null1",
+            "'null[object Object]",
+            "'nullfunction",
+        ],
+        [
+            "true",
+            "1",
+            "2",
+            "2",
+            "NaN",
+            "'true1",
+            "'true[object Object]",
+            "'truefunction",
+        ],
+        [
+            "1",
+            "1",
+            "2",
+            "2",
+            "NaN",
+            "'11",
+            "'1[object Object]",
+            "'1function",
+        ],
+        [
+            "NaN",
+            "NaN",
+            "NaN",
+            "NaN",
+            "NaN",
+            "'NaN1",
+            "'NaN[object Object]",
+            "'NaNfunction",
+        ],
+        [
+            "'1",
+            "'1null",
+            "'1true",
+            "'11",
+            "'1NaN",
+            "'11",
+            "'1[object Object]",
+            "'1function",
+        ],
         [
             "object",
             "'[object Object]null",
@@ -197,10 +256,22 @@ fn zeros(alloc: Global, count: u32) -> Result<Txt, Fail> {
 #[test]
 fn limits_are_exact(rt: HostRuntime) -> Result<(), Fail> {
     let alloc = rt.alloc();
-    assert_eq!(rt; sizes(alloc, nested(alloc, 101)?.as_str())?.as_str(), ".....");
-    assert_eq!(rt; sizes(alloc, nested(alloc, 102)?.as_str())?.as_str(), "..!!!");
-    assert_eq!(rt; sizes(alloc, zeros(alloc, 99_999)?.as_str())?.as_str(), ".....");
-    assert_eq!(rt; sizes(alloc, zeros(alloc, 100_000)?.as_str())?.as_str(), ".!!!!");
+    assert_eq!(rt;
+        sizes(alloc, nested(alloc, 101)?.as_str())?.as_str(),
+        "....."
+    );
+    assert_eq!(rt;
+        sizes(alloc, nested(alloc, 102)?.as_str())?.as_str(),
+        "..!!!"
+    );
+    assert_eq!(rt;
+        sizes(alloc, zeros(alloc, 99_999)?.as_str())?.as_str(),
+        "....."
+    );
+    assert_eq!(rt;
+        sizes(alloc, zeros(alloc, 100_000)?.as_str())?.as_str(),
+        ".!!!!"
+    );
     Ok(())
 }
 
@@ -228,12 +299,32 @@ fn compared(alloc: Global, kind: SnapKind, a: &str, b: &str) -> Result<&'static 
 fn snapshots_see_what_their_kind_says(rt: HostRuntime) -> Result<(), Fail> {
     let alloc = rt.alloc();
     let rows = [
-        (SnapKind::Deep, "{\"a\":{\"b\":1}}", "{\"a\":{\"b\":2}}", "differ"),
-        (SnapKind::Deep, "{\"a\":{\"b\":1}}", "{\"a\":{\"b\":1},\"$x\":5}", "same"),
+        (
+            SnapKind::Deep,
+            "{\"a\":{\"b\":1}}",
+            "{\"a\":{\"b\":2}}",
+            "differ",
+        ),
+        (
+            SnapKind::Deep,
+            "{\"a\":{\"b\":1}}",
+            "{\"a\":{\"b\":1},\"$x\":5}",
+            "same",
+        ),
         (SnapKind::Deep, "{\"a\":[1,2]}", "{\"a\":[1]}", "differ"),
         (SnapKind::Collection, "[1,2]", "[1,3]", "differ"),
-        (SnapKind::Collection, "{\"a\":1,\"b\":2}", "{\"a\":1,\"b\":2}", "same"),
-        (SnapKind::Collection, "{\"a\":1}", "{\"a\":1,\"$x\":2}", "differ"),
+        (
+            SnapKind::Collection,
+            "{\"a\":1,\"b\":2}",
+            "{\"a\":1,\"b\":2}",
+            "same",
+        ),
+        (
+            SnapKind::Collection,
+            "{\"a\":1}",
+            "{\"a\":1,\"$x\":2}",
+            "differ",
+        ),
         (SnapKind::Reference, "\"a\"", "\"a\"", "same"),
         (SnapKind::Reference, "1", "\"1\"", "differ"),
     ];

@@ -1,0 +1,80 @@
+-- The lists with the maps that find them.
+use Rattle.std.proofs.Common.{◌≡◌, ◌<◌, ◌≤◌, ◌+◌, ◌&&◌, ℕ, zero, suc, Bool, true, false, cond, eqb, List, [], ◌∷◌, ◌++◌, length, Option, Some, None, IsSome, refl, ap, sym, ◌∙◌, arith, inl, inr, ◌⊎◌}
+use Rattle.std.specs.Prelude.{bytes_eq}
+use Rattle.std.specs.BTreeMap.{BTreeMap, get}
+use Rattle.std.specs.Ordering.{nat_cmp}
+use Rattle.std.proofs.lemmas.Slice.Eq.{bytes_eq-Decides}
+use Rattle.std.proofs.lemmas.Bool.Decides.{eqb_tells}
+use Rattle.std.proofs.lemmas.List.{length-append}
+use Rattle.ng_chain.specs.declared.chain.Token.{Token}
+use Rattle.ng_chain.specs.Walked.{Walked, serial_of, without, open_walks, IsRising}
+use Rattle.ng_behaviour.specs.Listeners.{place_of, hear_at, listened}
+use Rattle.ng_events.specs.declared.stands.Listener.{Listener as Registered}
+use Rattle.ng_events.specs.declared.stands.Stand.{Stand}
+use Rattle.ng_events.specs.declared.stands.Home.{Home}
+use Rattle.ng_events.specs.Stands.{heard, all_heard, chain_at, change_chain, pushed, removed, seen, no_chain, walks_on, open_on, entries_of}
+use Rattle.ng_events.specs.Names.{named, Names, AreSame}
+use Rattle.ng_events.specs.Sound.{AreThere, HaveHomes, HavePlaces, LeavesWalks}
+use Rattle.ng_events.proofs.Entries.{entries-append, without-last}
+use Rattle.ng_events.proofs.Changed.{or_new, place-added, place-kept, walks-kept, open-change, change-length, change-same, change-other, heard-change}
+use Rattle.ng_events.proofs.Homes.{there-kept, known-kept}
+
+pub places-same : (xs : List Stand) (m k : BTreeMap ℕ (BTreeMap (List ℕ) ℕ)) → AreSame m k → HavePlaces xs m → HavePlaces xs k
+places-same xs m k e p s n = e s n ∙ p s n
+
+pub places-added : (xs : List Stand) (y : Stand) (m k : BTreeMap ℕ (BTreeMap (List ℕ) ℕ)) → place_of (all_heard xs) y.scope y.name ≡ None → Names m y.scope y.name (length xs) k → HavePlaces xs m → HavePlaces (xs ++ y ∷ []) k
+places-added xs y m k e h p s n = h s n ∙ (ap (cond (eqb s y.scope && bytes_eq n y.name) (Some (length xs))) (p s n) ∙ sym (place-added xs y s n ∙ by-test (eqb s y.scope && bytes_eq n y.name) (place_of (all_heard xs) s n) same))
+  where
+    both : (a b : Bool) → (a && b) ≡ true → (a ≡ true) × (b ≡ true)
+    both true true h = (refl, refl)
+    both true false h = absurd (cc)
+    both false b h = absurd (cc)
+
+    number : (a b : ℕ) → eqb a b ≡ true → a ≡ b
+    number a b h = elim (eqb_tells a b) [ inl t ↦ t.1 | inr t ↦ absurd (let z = t.0 in cc) ]
+
+    same : (eqb s y.scope && bytes_eq n y.name) ≡ true → place_of (all_heard xs) s n ≡ None
+    same q = let a = both (eqb s y.scope) (bytes_eq n y.name) q in ap (λ r. place_of (all_heard xs) r n) (number s y.scope a.0) ∙ ap (place_of (all_heard xs) y.scope) ((bytes_eq-Decides n y.name).0 a.1) ∙ e
+
+    by-test : (b : Bool) (o : Option ℕ) → (b ≡ true → o ≡ None) → or_new o b (length xs) ≡ cond b (Some (length xs)) o
+    by-test true None q = refl
+    by-test true (Some i) q = absurd (let z = q refl in cc)
+    by-test false None q = refl
+    by-test false (Some i) q = refl
+
+pub leaves-itself : (xs : List Stand) → LeavesWalks xs xs
+leaves-itself xs = record { walks = refl; places = λ s n. refl; counted = refl }
+
+pub leaves-change : (xs : List Stand) (i : ℕ) (f : Walked Registered → Walked Registered) → i < length xs → ((c : Walked Registered) → (f c).walks ≡ c.walks) → LeavesWalks xs (change_chain xs i f)
+leaves-change xs i f h k = record {
+  walks = walks-kept xs i f k;
+  places = λ s n. place-kept xs i s n f;
+  counted = (let e = open-change xs i f h in let d = ap open_walks (k (chain_at xs i)) in omega arith);
+}
+
+pub leaves-through : (xs ys zs : List Stand) → LeavesWalks xs ys → LeavesWalks ys zs → LeavesWalks xs zs
+leaves-through xs ys zs a b = record { walks = b.walks ∙ a.walks; places = λ s n. b.places s n ∙ a.places s n; counted = b.counted ∙ a.counted }
+
+-- a listener that was added and taken out again
+back-entries : (xs : List Stand) (i : ℕ) (t : Token) (l : Registered) → i < length xs → IsRising 0 (chain_at xs i).last (chain_at xs i).entries → (chain_at xs i).last < serial_of t → (j : ℕ) → (chain_at (change_chain (change_chain xs i (pushed t l)) i (removed t)) j).entries ≡ (chain_at xs j).entries
+back-entries xs i t l h r s j = elim (eqb_tells j i) [
+  | inl y ↦
+      rw (y.1, change-same (change_chain xs i (pushed t l)) i (removed t) (rw (change-length xs i (pushed t l)) h), change-same xs i (pushed t l) h)
+      (without-last (chain_at xs i).entries 0 (chain_at xs i).last t l r s)
+  | inr z ↦ rw (change-other (change_chain xs i (pushed t l)) i j (removed t) z.1, change-other xs i j (pushed t l) z.1) refl
+]
+
+pub there-back : (xs : List Stand) (homes : BTreeMap ℕ Home) (i : ℕ) (t : Token) (l : Registered) → i < length xs → IsRising 0 (chain_at xs i).last (chain_at xs i).entries → (chain_at xs i).last < serial_of t → AreThere xs homes → AreThere (change_chain (change_chain xs i (pushed t l)) i (removed t)) homes
+there-back xs homes i t l h r s a =
+    there-kept xs (change_chain (change_chain xs i (pushed t l)) i (removed t)) homes (let e = change-length (change_chain xs i (pushed t l)) i (removed t) in let d = change-length xs i (pushed t l) in omega arith) (back-entries xs i t l h r s) a
+
+pub known-back : (xs : List Stand) (homes : BTreeMap ℕ Home) (i : ℕ) (t : Token) (l : Registered) → i < length xs → IsRising 0 (chain_at xs i).last (chain_at xs i).entries → (chain_at xs i).last < serial_of t → HaveHomes xs homes → HaveHomes (change_chain (change_chain xs i (pushed t l)) i (removed t)) homes
+known-back xs homes i t l h r s k = known-kept xs (change_chain (change_chain xs i (pushed t l)) i (removed t)) homes (back-entries xs i t l h r s) k
+
+pub leaves-back : (xs : List Stand) (i : ℕ) (t : Token) (l : Registered) → i < length xs → LeavesWalks xs (change_chain (change_chain xs i (pushed t l)) i (removed t))
+leaves-back xs i t l h = leaves-through xs (change_chain xs i (pushed t l)) (change_chain (change_chain xs i (pushed t l)) i (removed t)) (leaves-change xs i (pushed t l) h (λ c. refl)) (leaves-change (change_chain xs i (pushed t l)) i (removed t) (rw (change-length xs i (pushed t l)) h) (λ c. refl))
+
+pub lists-push : (xs : List Stand) (i : ℕ) (t : Token) (l : Registered) → serial_of t ≡ (chain_at xs i).last + 1 → all_heard (change_chain xs i (pushed t l)) ≡ hear_at (all_heard xs) i (listened (seen l))
+lists-push xs i t l e =
+    heard-change xs i (pushed t l) (listened (seen l))
+    (λ s n. ap (λ es. record { scope = s; name = n; last = (chain_at xs i).last + 1; entries = es }) (entries-append (chain_at xs i).entries ((t, l) ∷ []) ∙ ap (λ (k : ℕ). entries_of (chain_at xs i).entries ++ (k, seen l) ∷ []) e))
