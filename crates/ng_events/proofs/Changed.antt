@@ -90,6 +90,9 @@ chain-added xs y e = fun_ext (λ j. chain-added_at xs y e j)
 pub walks-added : (xs : List Stand) (y : Stand) → y.chain ≡ no_chain → walks_on (xs ++ y ∷ []) ≡ walks_on xs
 walks-added xs y e = fun_ext (λ j. ap (λ c. c.walks) (chain-added_at xs y e j))
 
+pub walks-chains : (xs ys : List Stand) → chain_at ys ≡ chain_at xs → walks_on ys ≡ walks_on xs
+walks-chains xs ys e = fun_ext (λ j. ap (λ (f : ℕ → Walked Registered). (f j).walks) e)
+
 -- the places
 place-kept_from : (xs : List Stand) (i k s : ℕ) (n : List ℕ) (f : Walked Registered → Walked Registered) → place_from k (all_heard (change_chain xs i f)) s n ≡ place_from k (all_heard xs) s n
 place-kept_from [] i k s n f = refl

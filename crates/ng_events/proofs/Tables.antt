@@ -8,7 +8,7 @@ use Rattle.std.proofs.lemmas.Bool.Decides.{eqb_tells}
 use Rattle.std.proofs.lemmas.List.{length-append}
 use Rattle.ng_chain.specs.declared.chain.Token.{Token}
 use Rattle.ng_chain.specs.Walked.{Walked, serial_of, without, open_walks, IsRising}
-use Rattle.ng_behaviour.specs.Listeners.{place_of, hear_at, listened}
+use Rattle.ng_behaviour.specs.Listeners.{Listener, Heard, place_of, hear_at, listened, with_listener, last_of, nobody}
 use Rattle.ng_events.specs.declared.stands.Listener.{Listener as Registered}
 use Rattle.ng_events.specs.declared.stands.Stand.{Stand}
 use Rattle.ng_events.specs.declared.stands.Home.{Home}
@@ -16,7 +16,7 @@ use Rattle.ng_events.specs.Stands.{heard, all_heard, chain_at, change_chain, pus
 use Rattle.ng_events.specs.Names.{named, Names, AreSame}
 use Rattle.ng_events.specs.Sound.{AreThere, HaveHomes, HavePlaces, LeavesWalks}
 use Rattle.ng_events.proofs.Entries.{entries-append, without-last}
-use Rattle.ng_events.proofs.Changed.{or_new, place-added, place-kept, walks-kept, open-change, change-length, change-same, change-other, heard-change}
+use Rattle.ng_events.proofs.Changed.{or_new, place-added, place-kept, walks-kept, open-change, change-length, change-same, change-other, heard-change, heard-push, heard-length, heard-read, chain-added, place-within}
 use Rattle.ng_events.proofs.Homes.{there-kept, known-kept}
 
 pub places-same : (xs : List Stand) (m k : BTreeMap ℕ (BTreeMap (List ℕ) ℕ)) → AreSame m k → HavePlaces xs m → HavePlaces xs k
@@ -78,3 +78,38 @@ pub lists-push : (xs : List Stand) (i : ℕ) (t : Token) (l : Registered) → se
 lists-push xs i t l e =
     heard-change xs i (pushed t l) (listened (seen l))
     (λ s n. ap (λ es. record { scope = s; name = n; last = (chain_at xs i).last + 1; entries = es }) (entries-append (chain_at xs i).entries ((t, l) ∷ []) ∙ ap (λ (k : ℕ). entries_of (chain_at xs i).entries ++ (k, seen l) ∷ []) e))
+
+-- a list more, with nobody in it
+pub open-added : (xs : List Stand) (y : Stand) → y.chain ≡ no_chain → open_on (xs ++ y ∷ []) ≡ open_on xs
+open-added [] y e = ap (λ (c : Walked Registered). open_walks c.walks + 0) e
+open-added (x ∷ xs) y e = ap (λ n. open_walks x.chain.walks + n) (open-added xs y e)
+
+hear-last : (xs : List Heard) (y : Heard) (n : ℕ) (f : Heard → Heard) → n ≡ length xs → hear_at (xs ++ y ∷ []) n f ≡ xs ++ f y ∷ []
+hear-last [] y zero f e = refl
+hear-last [] y (suc n) f e = absurd (omega arith)
+hear-last (x ∷ xs) y zero f e = absurd (omega arith)
+hear-last (x ∷ xs) y (suc n) f e = ap (λ ys. x ∷ ys) (hear-last xs y n f (omega arith))
+
+pub list-new : (xs : List Stand) (s n : ℕ) (w : List ℕ) (l : Listener) → n ≡ length xs → place_of (all_heard xs) s w ≡ None → hear_at (all_heard (xs ++ record { scope = s; name = w; chain = no_chain } ∷ [])) n (listened l) ≡ with_listener (all_heard xs) s w l
+list-new xs s n w l e p =
+    ap (λ ys. hear_at ys n (listened l)) (heard-push xs (record { scope = s; name = w; chain = no_chain }))
+    ∙ (hear-last (all_heard xs) (nobody s w) n (listened l) (rw (heard-length xs) e) ∙ rw p refl)
+
+pub list-there : (xs : List Stand) (s i : ℕ) (w : List ℕ) (l : Listener) → place_of (all_heard xs) s w ≡ Some i → hear_at (all_heard xs) i (listened l) ≡ with_listener (all_heard xs) s w l
+list-there xs s i w l p = rw p refl
+
+pub last-there : (xs : List Stand) (s i : ℕ) (w : List ℕ) → place_of (all_heard xs) s w ≡ Some i → (chain_at xs i).last ≡ last_of (all_heard xs) s w
+last-there xs s i w p = rw p (sym (heard-read xs i).1)
+
+pub last-none : (xs : List Stand) (s : ℕ) (w : List ℕ) → place_of (all_heard xs) s w ≡ None → last_of (all_heard xs) s w ≡ 0
+last-none xs s w p = rw p refl
+
+chain-past : (xs : List Stand) (i : ℕ) → length xs ≤ i → chain_at xs i ≡ no_chain
+chain-past [] i h = refl
+chain-past (x ∷ xs) zero h = absurd (omega arith)
+chain-past (x ∷ xs) (suc i) h = chain-past xs i (omega arith)
+
+pub last-new : (xs : List Stand) (y : Stand) (s n : ℕ) (w : List ℕ) → y.chain ≡ no_chain → n ≡ length xs → place_of (all_heard xs) s w ≡ None → (chain_at (xs ++ y ∷ []) n).last ≡ last_of (all_heard xs) s w
+last-new xs y s n w e k p = ap (λ (f : ℕ → Walked Registered). (f n).last) (chain-added xs y e) ∙ (ap (λ (c : Walked Registered). c.last) (chain-past xs n (omega arith)) ∙ sym (last-none xs s w p))
+
+pub ruleset lists = (list-new, list-there, last-there, last-none, last-new, place-within)

@@ -4,18 +4,8 @@ ghost use Rattle.ng_behaviour.specs.Listeners.{with_listener, without_listener, 
 ghost use Rattle.ng_events.specs.Stands.{lists_of, walks_at, open_of, IsOpen, Begins, Goes, Ends};
 ghost use Rattle.ng_parse.specs.ProgramOf.{program};
 
-<<<<<<< HEAD
-use crate::names::{enter, place_in};
-use crate::stands::{
-    EventWalk, Home, Listener, Stand, add_stand, close_in, hear_in, listener_in, push_in, quiet_in,
-    remove_in, walk_in,
-};
-=======
-use crate::names::place_in;
 use crate::stands::{Home, Listener, Stand};
-use crate::table::{add_list, add_listener, drop_listener, find_listener, quiet_scope};
-
->>>>>>> 338e9f572c9eb489b664d3ef2877696eab65f8c6
+use crate::table::{add_listener, drop_listener, find_listener, list_of, quiet_scope};
 use ng_base::fault::Memory;
 use ng_base::name::{FunId, ScopeId};
 use ng_base::txt::Txt;
@@ -69,13 +59,7 @@ impl Listeners {
     }
 
     /// Registers a listener under a name that is new, at the end of its list.
-    pub fn on(
-        &mut self,
-        scope: ScopeId,
-        name: &Txt,
-        body: Program,
-        id: FunId,
-    ) -> Result<(), Memory>
+    pub fn on(&mut self, scope: ScopeId, name: &Txt, body: Program, id: FunId) -> Result<(), Memory>
         requires { called (lists_of self.old) id.0 ≡ None }
         ensures ok { OnOk result (lists_of self.new ≡ with_listener (lists_of self.old) scope.0 name.now (record { id = id.0; body = program body })) }
         ensures walks { walks_at self.new ≡ walks_at self.old }
@@ -84,16 +68,8 @@ impl Listeners {
         ensures worn { (result ≡ Err Memory.Worn) ↔ (last_of (lists_of self.old) scope.0 name.now ≡ u64.MAX) }
     {
         let listener = Listener { id, body };
-        match place_in(&self.names, scope.0, name) {
-            Some(list) => {
-                add_listener(&mut self.stands, &mut self.homes, list, listener)
-            }
-            None => {
-                let list = self.stands.len();
-                add_list(&mut self.stands, &mut self.names, self.alloc, scope.0, name)?;
-                add_listener(&mut self.stands, &mut self.homes, list, listener)
-            }
-        }
+        let list = list_of(&mut self.stands, &mut self.names, self.alloc, scope.0, name)?;
+        add_listener(&mut self.stands, &mut self.homes, list, listener)
     }
 
     /// Takes a listener out; whether it stood.

@@ -1,13 +1,13 @@
 //! The lists of listeners with the maps that find them.
-ghost use Rattle.std.specs.Prelude.{◌≡◌, ◌<◌, ◌++◌, ◌∷◌, ◌↔◌, [], Some, None, not, is_some, length, option_map, OnOk, OnErr, vec_len};
+ghost use Rattle.std.specs.Prelude.{◌≡◌, ◌<◌, ◌≤◌, ◌++◌, ◌∷◌, ◌↔◌, [], Some, None, not, is_some, length, option_map, IfOk, OnOk, OnErr, vec_len};
 ghost use Rattle.std.specs.BTreeMap.{get, IsOrdered};
 ghost use Rattle.std.specs.List.{filter};
 ghost use Rattle.std.specs.Ordering.{nat_cmp};
-ghost use Rattle.ng_behaviour.specs.Listeners.{hear_at, listened, called, without_listener, without_listeners_of, place_of};
-ghost use Rattle.ng_events.specs.Stands.{all_heard, chain_at, no_chain, seen, is_of};
+ghost use Rattle.ng_behaviour.specs.Listeners.{Listener as Listened, with_listener, last_of, hear_at, listened, called, without_listener, without_listeners_of, place_of};
+ghost use Rattle.ng_events.specs.Stands.{all_heard, chain_at, no_chain, open_on, seen, is_of};
 ghost use Rattle.ng_events.specs.Sound.{AreThere, HaveHomes, HavePlaces, LeavesWalks};
 
-use crate::names::enter;
+use crate::names::{enter, place_in};
 use crate::stands::{Home, Listener, Stand, add_stand, listener_in, push_in, quiet_in, remove_in};
 use ng_base::fault::Memory;
 use ng_base::txt::Txt;
@@ -35,6 +35,34 @@ pub fn add_list(
         Err(refused) => {
             let _ = stands.pop();
             Err(refused)
+        }
+    }
+}
+
+/// The list for a scope and a name, which is made where there is none.
+pub fn list_of(
+    stands: &mut Vec<Stand>,
+    names: &mut BTreeMap<u32, BTreeMap<Txt, usize>>,
+    alloc: Global,
+    scope: u32,
+    name: &Txt,
+) -> Result<usize, AllocError>
+    requires places { HavePlaces stands.old.items names.old }
+    ensures within { IfOk result (λ i. i < vec_len stands.new) }
+    ensures lists { IfOk result (λ i. (l : Listened) → hear_at (all_heard stands.new.items) i (listened l) ≡ with_listener (all_heard stands.old.items) scope name.now l) }
+    ensures last { IfOk result (λ i. (chain_at stands.new.items i).last ≡ last_of (all_heard stands.old.items) scope name.now) }
+    ensures none { OnErr result (last_of (all_heard stands.old.items) scope name.now ≡ 0) }
+    ensures places { HavePlaces stands.new.items names.new }
+    ensures chains { chain_at stands.new.items ≡ chain_at stands.old.items }
+    ensures open { open_on stands.new.items ≡ open_on stands.old.items }
+    ensures longer { vec_len stands.old ≤ vec_len stands.new }
+{
+    match place_in(names, scope, name) {
+        Some(list) => Ok(list),
+        None => {
+            let list = stands.len();
+            add_list(stands, names, alloc, scope, name)?;
+            Ok(list)
         }
     }
 }
