@@ -9,7 +9,7 @@ use crate::table::{add_listener, drop_listener, find_listener, list_of, quiet_sc
 use ng_base::fault::Memory;
 use ng_base::name::{FunId, ScopeId};
 use ng_base::txt::Txt;
-use ng_parse::program::Program;
+use ng_parse::Program;
 use std::alloc::Global;
 use std::collections::BTreeMap;
 use std::marker::Model;
