@@ -1,5 +1,5 @@
 -- What a call of the lexer gave, against the spelling of tokens.
-use Rattle.std.proofs.Common.{◌≡◌, ℕ, List, ◌∙◌, sym, Result, Ok, Err}
+use Rattle.std.proofs.Common.{ℕ, List, ◌∙◌, sym, Result, Ok, Err}
 use Rattle.std.specs.Prelude.{IfOk}
 use Rattle.ng_base.specs.Meets.{Gives}
 use Rattle.ng_language.specs.Lexing.{lexed, is_free}
