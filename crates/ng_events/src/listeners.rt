@@ -6,6 +6,10 @@ ghost use Rattle.ng_parse.specs.ProgramOf.{program};
 
 use crate::stands::{Home, Listener, Stand};
 use crate::table::{add_listener, drop_listener, find_listener, list_of, quiet_scope};
+<<<<<<< HEAD
+=======
+
+>>>>>>> 310a57e (Listeners: on, off, body, drop_scope)
 use ng_base::fault::Memory;
 use ng_base::name::{FunId, ScopeId};
 use ng_base::txt::Txt;
@@ -68,7 +72,17 @@ impl Listeners {
         ensures worn { (result ≡ Err Memory.Worn) ↔ (last_of (lists_of self.old) scope.0 name.now ≡ u64.MAX) }
     {
         let listener = Listener { id, body };
+<<<<<<< HEAD
         let list = list_of(&mut self.stands, &mut self.names, self.alloc, scope.0, name)?;
+=======
+        let list = list_of(
+            &mut self.stands,
+            &mut self.names,
+            self.alloc,
+            scope.0,
+            name,
+        )?;
+>>>>>>> 310a57e (Listeners: on, off, body, drop_scope)
         add_listener(&mut self.stands, &mut self.homes, list, listener)
     }
 
