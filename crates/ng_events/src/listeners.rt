@@ -8,17 +8,10 @@ use crate::names::place_in;
 pub use crate::stands::EventWalk;
 use crate::stands::{Home, Listener, Stand, close_in, hear_in, walk_in};
 use crate::table::{add_listener, drop_listener, find_listener, list_of, quiet_scope};
-<<<<<<< HEAD
-<<<<<<< HEAD
-=======
-
->>>>>>> 310a57e (Listeners: on, off, body, drop_scope)
-=======
->>>>>>> e1de8f7 (Listeners: walks; the crate's page)
 use ng_base::fault::Memory;
 use ng_base::name::{FunId, ScopeId};
 use ng_base::txt::Txt;
-use ng_parse::program::Program;
+use ng_parse::Program;
 use std::alloc::Global;
 use std::collections::BTreeMap;
 use std::marker::Model;
@@ -77,21 +70,7 @@ impl Listeners {
         ensures worn { (result ≡ Err Memory.Worn) ↔ (last_of (lists_of self.old) scope.0 name.now ≡ u64.MAX) }
     {
         let listener = Listener { id, body };
-<<<<<<< HEAD
-<<<<<<< HEAD
         let list = list_of(&mut self.stands, &mut self.names, self.alloc, scope.0, name)?;
-=======
-        let list = list_of(
-            &mut self.stands,
-            &mut self.names,
-            self.alloc,
-            scope.0,
-            name,
-        )?;
->>>>>>> 310a57e (Listeners: on, off, body, drop_scope)
-=======
-        let list = list_of(&mut self.stands, &mut self.names, self.alloc, scope.0, name)?;
->>>>>>> e1de8f7 (Listeners: walks; the crate's page)
         add_listener(&mut self.stands, &mut self.homes, list, listener)
     }
 
