@@ -1,5 +1,5 @@
 -- A list that is changed in its place.
-use Rattle.std.proofs.Common.{◌≡◌, ◌<◌, ◌≤◌, ◌+◌, ℕ, zero, suc, Bool, true, false, eqb, List, [], ◌∷◌, ◌++◌, length, get_or, set, Option, Some, None, refl, ap, sym, ◌∙◌, arith}
+use Rattle.std.proofs.Common.{◌≡◌, ◌<◌, ◌≤◌, ◌+◌, ℕ, zero, suc, false, eqb, List, [], ◌∷◌, length, get_or, set, refl, ap, sym, ◌∙◌, arith}
 use Rattle.ng_chain.specs.Walked.{Walked}
 use Rattle.ng_events.specs.declared.stands.Listener.{Listener as Registered}
 use Rattle.ng_events.specs.declared.stands.Stand.{Stand}

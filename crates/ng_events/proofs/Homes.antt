@@ -1,7 +1,6 @@
 -- Each listener has its home, whatever is done to the lists.
-use Rattle.std.proofs.Common.{◌≡◌, ◌<◌, ◌≤◌, ◌+◌, ◌&&◌, ℕ, zero, suc, Bool, true, false, not, cond, eqb, List, [], ◌∷◌, ◌++◌, length, map, Option, Some, None, IsSome, refl, ap, sym, ◌∙◌, subst, arith, inl, inr, ◌⊎◌}
-use Rattle.std.specs.Prelude.{option_map, slice_get, is_some}
-use Rattle.std.specs.List.{filter}
+use Rattle.std.proofs.Common.{◌≡◌, ◌<◌, ◌≤◌, ℕ, zero, suc, true, false, cond, eqb, List, [], ◌∷◌, ◌++◌, length, Option, Some, None, refl, ap, sym, ◌∙◌, subst, arith, inl, inr, ◌⊎◌}
+use Rattle.std.specs.Prelude.{slice_get}
 use Rattle.std.specs.Map.{lookup}
 use Rattle.std.specs.BTreeMap.{BTreeMap, get, is_at}
 use Rattle.std.specs.Ordering.{is_eq, nat_cmp}
@@ -10,11 +9,11 @@ use Rattle.std.proofs.lemmas.Bool.{ne_eqb, eq-eqb}
 use Rattle.std.proofs.lemmas.Bool.Decides.{eqb_tells}
 use Rattle.ng_chain.specs.declared.chain.Token.{Token}
 use Rattle.ng_chain.specs.Walked.{Walked, found, value_of, serial_of, without, IsRising}
-use Rattle.ng_behaviour.specs.Listeners.{Listener, Heard, called, called_in, is_called, first_of, dropped, without_listener}
+use Rattle.ng_behaviour.specs.Listeners.{called, without_listener}
 use Rattle.ng_events.specs.declared.stands.Listener.{Listener as Registered}
 use Rattle.ng_events.specs.declared.stands.Stand.{Stand}
 use Rattle.ng_events.specs.declared.stands.Home.{Home}
-use Rattle.ng_events.specs.Stands.{heard, all_heard, chain_at, change_chain, pushed, removed, seen, entries_of}
+use Rattle.ng_events.specs.Stands.{heard, all_heard, chain_at, change_chain, pushed, removed, seen}
 use Rattle.ng_events.specs.Sound.{IsThere, AreThere, HaveHomes}
 use Rattle.ng_events.proofs.Entries.{get-found, value-serial, value-append, value-last, value-without, get-without, filter-called, filter-none, called-none, called-value}
 use Rattle.ng_events.proofs.Changed.{change-length, change-same, change-other}

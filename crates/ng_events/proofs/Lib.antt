@@ -5,3 +5,4 @@ pub mod Changed
 pub mod Homes
 pub mod Tables
 pub mod Quiet
+pub mod Walks

@@ -1,5 +1,5 @@
 -- The listeners of a scope are gone.
-use Rattle.std.proofs.Common.{◌≡◌, ◌<◌, ◌≤◌, ◌+◌, ◌&&◌, ℕ, zero, suc, Bool, true, false, not, cond, eqb, List, [], ◌∷◌, ◌++◌, length, Option, Some, None, IsSome, refl, ap, sym, ◌∙◌, arith, inl, inr, ◌⊎◌}
+use Rattle.std.proofs.Common.{◌≡◌, ◌+◌, ◌&&◌, ℕ, zero, suc, Bool, true, false, not, cond, eqb, List, [], ◌∷◌, length, Option, Some, None, refl, ap, sym, ◌∙◌, arith}
 use Rattle.std.specs.Prelude.{slice_get, bytes_eq}
 use Rattle.std.proofs.Math.Path.{fun_ext}
 use Rattle.std.specs.List.{filter}
@@ -10,14 +10,12 @@ use Rattle.std.specs.Cmp.{nat_cmp_total}
 use Rattle.std.proofs.lemmas.Cmp.{eq_by_cmp_equiv}
 use Rattle.std.proofs.lemmas.Map.Keys.{IsDistinct-from_sorted}
 use Rattle.std.proofs.lemmas.Map.Entries.{lookup-filter-values, option_filter}
-use Rattle.ng_chain.specs.declared.chain.Token.{Token}
-use Rattle.ng_chain.specs.Walked.{Walked, value_of, with_entries, open_walks}
-use Rattle.ng_behaviour.specs.Listeners.{place_of, place_from, quiet, without_listeners_of}
-use Rattle.ng_events.specs.declared.stands.Listener.{Listener as Registered}
+use Rattle.ng_chain.specs.Walked.{with_entries, open_walks}
+use Rattle.ng_behaviour.specs.Listeners.{place_from, quiet, without_listeners_of}
 use Rattle.ng_events.specs.declared.stands.Stand.{Stand}
 use Rattle.ng_events.specs.declared.stands.Home.{Home}
 use Rattle.ng_events.specs.Stands.{heard, all_heard, chain_at, walks_on, open_on, quiet_first, quiet_stand, is_of, entries_of}
-use Rattle.ng_events.specs.Sound.{IsThere, AreThere, HaveHomes, LeavesWalks}
+use Rattle.ng_events.specs.Sound.{AreThere, HaveHomes, LeavesWalks}
 
 -- all lists, each quiet if it is of the scope
 abbrev pub quieted : ℕ → List Stand → List Stand

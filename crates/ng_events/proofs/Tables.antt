@@ -1,19 +1,17 @@
 -- The lists with the maps that find them.
-use Rattle.std.proofs.Common.{◌≡◌, ◌<◌, ◌≤◌, ◌+◌, ◌&&◌, ℕ, zero, suc, Bool, true, false, cond, eqb, List, [], ◌∷◌, ◌++◌, length, Option, Some, None, IsSome, refl, ap, sym, ◌∙◌, arith, inl, inr, ◌⊎◌}
+use Rattle.std.proofs.Common.{◌≡◌, ◌<◌, ◌≤◌, ◌+◌, ◌&&◌, ℕ, zero, suc, Bool, true, false, cond, eqb, List, [], ◌∷◌, ◌++◌, length, Option, Some, None, refl, ap, sym, ◌∙◌, arith, inl, inr}
 use Rattle.std.specs.Prelude.{bytes_eq}
-use Rattle.std.specs.BTreeMap.{BTreeMap, get}
-use Rattle.std.specs.Ordering.{nat_cmp}
+use Rattle.std.specs.BTreeMap.{BTreeMap}
 use Rattle.std.proofs.lemmas.Slice.Eq.{bytes_eq-Decides}
 use Rattle.std.proofs.lemmas.Bool.Decides.{eqb_tells}
-use Rattle.std.proofs.lemmas.List.{length-append}
 use Rattle.ng_chain.specs.declared.chain.Token.{Token}
-use Rattle.ng_chain.specs.Walked.{Walked, serial_of, without, open_walks, IsRising}
+use Rattle.ng_chain.specs.Walked.{Walked, serial_of, open_walks, IsRising}
 use Rattle.ng_behaviour.specs.Listeners.{Listener, Heard, place_of, hear_at, listened, with_listener, last_of, nobody}
 use Rattle.ng_events.specs.declared.stands.Listener.{Listener as Registered}
 use Rattle.ng_events.specs.declared.stands.Stand.{Stand}
 use Rattle.ng_events.specs.declared.stands.Home.{Home}
-use Rattle.ng_events.specs.Stands.{heard, all_heard, chain_at, change_chain, pushed, removed, seen, no_chain, walks_on, open_on, entries_of}
-use Rattle.ng_events.specs.Names.{named, Names, AreSame}
+use Rattle.ng_events.specs.Stands.{all_heard, chain_at, change_chain, pushed, removed, seen, no_chain, open_on, entries_of}
+use Rattle.ng_events.specs.Names.{Names, AreSame}
 use Rattle.ng_events.specs.Sound.{AreThere, HaveHomes, HavePlaces, LeavesWalks}
 use Rattle.ng_events.proofs.Entries.{entries-append, without-last}
 use Rattle.ng_events.proofs.Changed.{or_new, place-added, place-kept, walks-kept, open-change, change-length, change-same, change-other, heard-change, heard-push, heard-length, heard-read, chain-added, place-within}

@@ -1,5 +1,5 @@
 -- What the lists of a table of listeners stand for, and the walks that are open on them.
-use Rattle.std.specs.Prelude.{ℕ, zero, suc, ◌+◌, ◌<◌, ◌≡◌, Bool, true, false, eqb, List, [], ◌∷◌, ◌++◌, length, map, Option, Some, None, IsSome, option_map, replicate, slice_set, slice_index_or, if◌then◌else◌}
+use Rattle.std.specs.Prelude.{ℕ, zero, suc, ◌+◌, ◌<◌, ◌≡◌, Bool, true, false, eqb, List, [], ◌∷◌, ◌++◌, length, map, Option, Some, None, IsSome, option_map, replicate, slice_set, if◌then◌else◌}
 use Rattle.ng_base.specs.declared.name.FunId.{FunId}
 use Rattle.ng_chain.specs.Walked.{Walked, walk_at, open_walks, serial_of, with_entries, with_walk, without}
 use Rattle.ng_chain.specs.declared.chain.Span.{Span}

@@ -1,10 +1,12 @@
 //! The listeners of all scopes.
-ghost use Rattle.std.specs.Prelude.{◌≡◌, ◌+◌, ◌<◌, ◌↔◌, [], Some, None, IsTrue, IsSome, is_some, length, option_map, IsNone, MatchOption, OnOk};
+ghost use Rattle.std.specs.Prelude.{◌≡◌, ◌+◌, ◌<◌, ◌↔◌, [], Some, None, IsTrue, IsSome, is_some, length, option_map, IsNone, IfNone, IfSome, OnOk};
 ghost use Rattle.ng_behaviour.specs.Listeners.{with_listener, without_listener, without_listeners_of, called, last_of};
 ghost use Rattle.ng_events.specs.Stands.{lists_of, walks_at, open_of, IsOpen, Begins, Goes, Ends};
 ghost use Rattle.ng_parse.specs.ProgramOf.{program};
 
-use crate::stands::{Home, Listener, Stand};
+use crate::names::place_in;
+pub use crate::stands::EventWalk;
+use crate::stands::{Home, Listener, Stand, close_in, hear_in, walk_in};
 use crate::table::{add_listener, drop_listener, find_listener, list_of, quiet_scope};
 use ng_base::fault::Memory;
 use ng_base::name::{FunId, ScopeId};
@@ -90,6 +92,60 @@ impl Listeners {
         match find_listener(self.stands.as_slice(), &self.homes, id.0) {
             None => None,
             Some(listener) => Some(&listener.body),
+        }
+    }
+
+    /// Begins a walk over the listeners that stand at a scope for a name (guide: Scopes, "Scope Events Propagation").
+    pub fn begin(&mut self, scope: ScopeId, name: &Txt) -> Option<EventWalk>
+        ensures full { IsNone result ↔ (open_of self.old ≡ 64) }
+        ensures unchanged { IfNone result (self.new ≡ self.old) }
+        ensures lists { lists_of self.new ≡ lists_of self.old }
+        ensures walk { IfSome result (λ w. Begins self.old scope.0 name.now w self.new) }
+        ensures open { IfSome result (λ _. open_of self.new ≡ open_of self.old + 1) }
+    {
+        if self.walks >= 64 {
+            return None;
+        }
+        self.walks += 1;
+        match place_in(&self.names, scope.0, name) {
+            None => {
+                self.bare += 1;
+                Some(EventWalk::Bare)
+            }
+            Some(list) => match walk_in(&mut self.stands, list) {
+                None => unreachable!(),
+                Some(walk) => Some(EventWalk::On(list, walk)),
+            },
+        }
+    }
+
+    /// The next of the listeners that stood when the walk began and still stand.
+    pub fn next(&mut self, w: &mut EventWalk) -> Option<FunId>
+        requires open { IsOpen self.old w.old }
+        ensures lists { lists_of self.new ≡ lists_of self.old }
+        ensures goes { Goes self.old w.old result self.new }
+        ensures bare { self.new.bare ≡ self.old.bare }
+        ensures open { open_of self.new ≡ open_of self.old }
+        ensures still { IsOpen self.new w.new }
+        ensures walk { w.new ≡ w.old }
+    {
+        match w {
+            EventWalk::Bare => None,
+            EventWalk::On(list, walk) => hear_in(&mut self.stands, *list, walk),
+        }
+    }
+
+    /// Ends a walk.
+    pub fn end(&mut self, w: EventWalk)
+        requires open { IsOpen self.old w }
+        ensures lists { lists_of self.new ≡ lists_of self.old }
+        ensures ends { Ends self.old w self.new }
+        ensures open { open_of self.new + 1 ≡ open_of self.old }
+    {
+        self.walks -= 1;
+        match w {
+            EventWalk::Bare => self.bare -= 1,
+            EventWalk::On(list, walk) => close_in(&mut self.stands, list, walk),
         }
     }
 

@@ -1,5 +1,4 @@
-use Rattle.std.proofs.Common.{◌≡◌, length, arith, ap, ◌∙◌, sym}
-use Rattle.ng_events.specs.Names.{Names}
+use Rattle.std.proofs.Common.{◌≡◌, length, arith}
 use Rattle.ng_events.proofs.Tables.{places-added}
 use Rattle.ng_events.proofs.table.add_list.Goals as goal
 

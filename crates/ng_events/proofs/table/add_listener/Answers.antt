@@ -1,5 +1,5 @@
-use Rattle.std.proofs.Common.{◌≡◌, ◌<◌, ◌+◌, List, length, Some, IsSome, arith, refl, ap, ◌∙◌, sym}
-use Rattle.ng_chain.specs.Walked.{value_of, serial_of}
+use Rattle.std.proofs.Common.{◌≡◌, ◌<◌, ◌+◌, length, arith, refl, ap, ◌∙◌}
+use Rattle.ng_chain.specs.Walked.{serial_of}
 use Rattle.ng_events.specs.Stands.{all_heard, chain_at, change_chain, pushed, removed}
 use Rattle.ng_events.proofs.Changed.{change-length, change-same}
 use Rattle.ng_events.proofs.Entries.{value-last}

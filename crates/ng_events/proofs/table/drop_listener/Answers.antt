@@ -1,6 +1,6 @@
-use Rattle.std.proofs.Common.{◌≡◌, ◌<◌, List, length, Some, None, IsSome, arith, refl, ap, ◌∙◌, sym}
+use Rattle.std.proofs.Common.{arith, refl, ap, ◌∙◌, sym}
 use Rattle.std.specs.Prelude.{is_some}
-use Rattle.ng_events.specs.Stands.{all_heard, chain_at, removed}
+use Rattle.ng_events.specs.Stands.{all_heard, removed}
 use Rattle.ng_events.proofs.Homes.{there-same, there-remove, known-remove, lists-remove, lists-absent, called-absent, called-there}
 use Rattle.ng_events.proofs.Tables.{leaves-change}
 use Rattle.ng_events.proofs.table.drop_listener.Goals as goal

@@ -1,4 +1,4 @@
-use Rattle.std.proofs.Common.{◌≡◌, ◌<◌, List, length, Some, None, IsSome, arith, refl, ap, ◌∙◌, sym}
+use Rattle.std.proofs.Common.{refl, sym}
 use Rattle.ng_events.proofs.Homes.{called-absent, called-there}
 use Rattle.ng_events.proofs.table.find_listener.Goals as goal
 

@@ -1,5 +1,5 @@
-use Rattle.std.proofs.Common.{◌≡◌, ◌<◌, List, length, Some, None, arith, refl, ap, ◌∙◌, sym}
-use Rattle.ng_behaviour.specs.Listeners.{hear_at, listened, place_of}
+use Rattle.std.proofs.Common.{arith, refl, ap, ◌∙◌, sym}
+use Rattle.ng_behaviour.specs.Listeners.{hear_at, listened}
 use Rattle.ng_events.specs.Stands.{all_heard, chain_at, no_chain, open_on}
 use Rattle.ng_events.proofs.Changed.{chain-added, place-within}
 use Rattle.ng_events.proofs.Tables.{open-added, list-new, last-there, last-new}

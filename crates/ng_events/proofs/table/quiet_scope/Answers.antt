@@ -1,8 +1,6 @@
-use Rattle.std.proofs.Common.{◌≡◌, List, length, not, vec_len, arith, ap, ◌∙◌, sym}
-use Rattle.std.specs.List.{filter}
-use Rattle.ng_events.specs.Stands.{all_heard, is_of}
-use Rattle.ng_events.specs.declared.stands.Stand.{Stand}
-use Rattle.ng_events.proofs.Quiet.{quieted, quiet-all, quiet-lists, quiet-leaves, quiet-there, quiet-known}
+use Rattle.std.proofs.Common.{vec_len, arith, ap, ◌∙◌}
+use Rattle.ng_events.specs.Stands.{all_heard}
+use Rattle.ng_events.proofs.Quiet.{quiet-all, quiet-lists, quiet-leaves, quiet-there, quiet-known}
 use Rattle.ng_events.proofs.table.quiet_scope.Goals as goal
 
 pub returns-clause-lists : goal.returns-clause-lists

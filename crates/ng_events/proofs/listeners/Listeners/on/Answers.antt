@@ -1,10 +1,9 @@
-use Rattle.std.proofs.Common.{◌≡◌, ◌≤◌, ◌+◌, ℕ, List, length, arith, refl, ap, ◌∙◌, sym}
+use Rattle.std.proofs.Common.{◌+◌, ℕ, arith, ap, ◌∙◌, sym}
 use Rattle.ng_chain.specs.Walked.{Walked}
 use Rattle.ng_events.specs.declared.stands.Listener.{Listener as Registered}
-use Rattle.ng_events.specs.Stands.{Table, chain_at, lists_of}
+use Rattle.ng_events.specs.Stands.{Table, lists_of}
 use Rattle.ng_behaviour.specs.Listeners.{called}
 use Rattle.ng_events.proofs.Changed.{walks-chains}
-use Rattle.ng_events.specs.Sound.{AreThere, HaveHomes}
 use Rattle.ng_events.proofs.Homes.{there-kept, known-kept, fresh-home}
 use Rattle.ng_events.proofs.listeners.Listeners.on.Goals as goal
 
