@@ -80,6 +80,14 @@ heard_at [] i = nobody 0 []
 heard_at (x ∷ xs) zero = x
 heard_at (x ∷ xs) (suc i) = heard_at xs i
 
+abbrev pub last_at : Option ℕ → List Heard → ℕ
+last_at (Some i) xs = (heard_at xs i).last
+last_at None xs = 0
+
+-- the last serial of the list of a scope and a name
+abbrev pub last_of : List Heard → ℕ → List ℕ → ℕ
+last_of xs s n = last_at (place_of xs s n) xs
+
 abbrev pub quiet : ℕ → Heard → Heard
 quiet s x = record { scope = x.scope; name = x.name; last = x.last; entries = if eqb s x.scope then [] else x.entries }
 

@@ -1,9 +1,9 @@
 -- A list that is changed in its place.
-use Rattle.std.proofs.Common.{◌≡◌, ◌<◌, ◌≤◌, ◌+◌, ℕ, zero, suc, Bool, true, false, List, [], ◌∷◌, ◌++◌, length, get_or, set, Option, Some, None, refl, ap, sym, ◌∙◌, arith}
+use Rattle.std.proofs.Common.{◌≡◌, ◌<◌, ◌≤◌, ◌+◌, ℕ, zero, suc, false, eqb, List, [], ◌∷◌, length, get_or, set, refl, ap, sym, ◌∙◌, arith}
 use Rattle.ng_chain.specs.Walked.{Walked}
 use Rattle.ng_events.specs.declared.stands.Listener.{Listener as Registered}
 use Rattle.ng_events.specs.declared.stands.Stand.{Stand}
-use Rattle.ng_events.specs.Stands.{chain_at, change_chain, change_stand, quiet_first, quiet_stand}
+use Rattle.ng_events.specs.Stands.{chain_at, change_chain, change_stand, quiet_first, quiet_stand, is_of}
 
 pub chain-set : (xs : List Stand) (i : ℕ) (d y : Stand) (f : Walked Registered → Walked Registered) → i < length xs → y ≡ record { scope = (get_or xs i d).scope; name = (get_or xs i d).name; chain = f (get_or xs i d).chain } → set xs i y ≡ change_chain xs i f
 chain-set [] i d y f h e = absurd (omega arith)
@@ -40,3 +40,15 @@ pub quiet_step : (s : ℕ) (us vs ys : List Stand) (i : ℕ) → vs ≡ change_s
 quiet_step s us vs ys i e k = rw (let q : i + 1 ≡ suc i = omega arith in q) (e ∙ ap (λ zs. change_stand zs i (quiet_stand s)) k ∙ sym (quiet-more s ys i))
 
 pub ruleset writes = (chain-set, stand-set, stand-same, chain-read, chain-set_read)
+
+pub scope-read : (xs : List Stand) (s l : ℕ) (d : Stand) → l < length xs → is_of xs s l ≡ eqb s (get_or xs l d).scope
+scope-read [] s l d h = absurd (omega arith)
+scope-read (x ∷ xs) s zero d h = refl
+scope-read (x ∷ xs) s (suc l) d h = scope-read xs s l d (omega arith)
+
+pub scope-past : (xs : List Stand) (s l : ℕ) → length xs ≤ l → is_of xs s l ≡ false
+scope-past [] s l h = refl
+scope-past (x ∷ xs) s zero h = absurd (omega arith)
+scope-past (x ∷ xs) s (suc l) h = scope-past xs s l (omega arith)
+
+pub ruleset scopes = (scope-read, scope-past)

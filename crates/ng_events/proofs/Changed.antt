@@ -1,13 +1,11 @@
 -- What a change of one list's chain does to what the table stands for.
-use Rattle.std.proofs.Common.{◌≡◌, ◌<◌, ◌≤◌, ◌+◌, ◌&&◌, ℕ, zero, suc, Bool, true, false, cond, eqb, List, [], ◌∷◌, ◌++◌, length, get_or, set, replicate, Option, Some, None, IsSome, refl, ap, sym, ◌∙◌, arith, inl, inr, ◌⊎◌}
-use Rattle.std.specs.Prelude.{is_some, slice_get, bytes_eq}
+use Rattle.std.proofs.Common.{◌≡◌, ◌<◌, ◌≤◌, ◌+◌, ◌&&◌, ℕ, zero, suc, Bool, true, false, cond, eqb, List, [], ◌∷◌, ◌++◌, length, set, Option, Some, None, IsSome, refl, ap, sym, ◌∙◌, arith}
+use Rattle.std.specs.Prelude.{is_some, bytes_eq}
 use Rattle.std.proofs.Math.Path.{fun_ext}
-use Rattle.std.proofs.Math.ListN.{get_or-eq_default}
-use Rattle.std.proofs.lemmas.List.{get_or-replicate, length-replicate}
 use Rattle.std.proofs.lemmas.List.Sums.{sum_by-set}
 use Rattle.ng_chain.specs.Walked.{Walked, walk_at, open_walks}
 use Rattle.ng_chain.specs.declared.chain.Span.{Span}
-use Rattle.ng_behaviour.specs.Listeners.{Heard, hear_at, heard_at, place_of, place_from, is_for, nobody}
+use Rattle.ng_behaviour.specs.Listeners.{Heard, hear_at, heard_at, place_of, place_from}
 use Rattle.ng_events.specs.declared.stands.Listener.{Listener as Registered}
 use Rattle.ng_events.specs.declared.stands.Stand.{Stand}
 use Rattle.ng_events.specs.Stands.{heard, all_heard, chain_at, change_chain, walks_on, open_on, put_walk, no_chain, entries_of}
@@ -89,6 +87,9 @@ chain-added xs y e = fun_ext (λ j. chain-added_at xs y e j)
 
 pub walks-added : (xs : List Stand) (y : Stand) → y.chain ≡ no_chain → walks_on (xs ++ y ∷ []) ≡ walks_on xs
 walks-added xs y e = fun_ext (λ j. ap (λ c. c.walks) (chain-added_at xs y e j))
+
+pub walks-chains : (xs ys : List Stand) → chain_at ys ≡ chain_at xs → walks_on ys ≡ walks_on xs
+walks-chains xs ys e = fun_ext (λ j. ap (λ (f : ℕ → Walked Registered). (f j).walks) e)
 
 -- the places
 place-kept_from : (xs : List Stand) (i k s : ℕ) (n : List ℕ) (f : Walked Registered → Walked Registered) → place_from k (all_heard (change_chain xs i f)) s n ≡ place_from k (all_heard xs) s n

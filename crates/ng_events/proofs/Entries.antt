@@ -1,15 +1,14 @@
 -- The entries of a chain, as the listeners that they stand for.
-use Rattle.std.proofs.Common.{◌≡◌, ◌<◌, ◌≤◌, ◌+◌, ◌&&◌, ℕ, zero, suc, Bool, true, false, not, cond, eqb, List, [], ◌∷◌, ◌++◌, length, map, Option, Some, None, IsSome, refl, ap, sym, ◌∙◌, arith, inl, inr, ◌⊎◌}
+use Rattle.std.proofs.Common.{◌≡◌, ◌<◌, ◌≤◌, ℕ, zero, suc, Bool, true, false, not, cond, eqb, List, [], ◌∷◌, ◌++◌, Option, Some, None, IsSome, refl, ap, sym, ◌∙◌, arith, inl, inr}
 use Rattle.std.specs.Prelude.{option_map, option_and_then, slice_get}
 use Rattle.std.specs.List.{filter}
 use Rattle.std.proofs.lemmas.Bool.{ne_eqb, eq-eqb}
 use Rattle.std.proofs.lemmas.Bool.Decides.{eqb_tells}
-use Rattle.ng_base.specs.declared.name.FunId.{FunId}
 use Rattle.ng_base.specs.declared.name.Serial.{Serial}
 use Rattle.ng_chain.specs.declared.chain.Token.{Token}
 use Rattle.ng_chain.specs.declared.chain.Span.{Span}
-use Rattle.ng_chain.specs.Walked.{found, value_of, same_token, serial_of, without, IsRising, IsNext, NothingAhead, Steps}
-use Rattle.ng_behaviour.specs.Listeners.{Listener, stands_at, called_in, is_called, RiseTo, IsNextListener, NobodyAhead}
+use Rattle.ng_chain.specs.Walked.{found, value_of, same_token, serial_of, without, IsRising, IsNext, Steps}
+use Rattle.ng_behaviour.specs.Listeners.{Listener, stands_at, called_in, is_called, RiseTo, IsNextListener}
 use Rattle.ng_events.specs.declared.stands.Listener.{Listener as Registered}
 use Rattle.ng_events.specs.Stands.{entries_of, seen, Hears}
 

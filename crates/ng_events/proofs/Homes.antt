@@ -1,19 +1,19 @@
 -- Each listener has its home, whatever is done to the lists.
-use Rattle.std.proofs.Common.{◌≡◌, ◌<◌, ◌≤◌, ◌+◌, ◌&&◌, ℕ, zero, suc, Bool, true, false, not, cond, eqb, List, [], ◌∷◌, ◌++◌, length, map, Option, Some, None, IsSome, refl, ap, sym, ◌∙◌, subst, arith, inl, inr, ◌⊎◌}
-use Rattle.std.specs.Prelude.{option_map, slice_get, is_some}
-use Rattle.std.specs.List.{filter}
-use Rattle.std.specs.BTreeMap.{BTreeMap, get}
+use Rattle.std.proofs.Common.{◌≡◌, ◌<◌, ◌≤◌, ℕ, zero, suc, true, false, cond, eqb, List, [], ◌∷◌, ◌++◌, length, Option, Some, None, refl, ap, sym, ◌∙◌, subst, arith, inl, inr, ◌⊎◌}
+use Rattle.std.specs.Prelude.{slice_get}
+use Rattle.std.specs.Map.{lookup}
+use Rattle.std.specs.BTreeMap.{BTreeMap, get, is_at}
 use Rattle.std.specs.Ordering.{is_eq, nat_cmp}
 use Rattle.std.specs.Cmp.{unsigned_ties}
 use Rattle.std.proofs.lemmas.Bool.{ne_eqb, eq-eqb}
 use Rattle.std.proofs.lemmas.Bool.Decides.{eqb_tells}
 use Rattle.ng_chain.specs.declared.chain.Token.{Token}
 use Rattle.ng_chain.specs.Walked.{Walked, found, value_of, serial_of, without, IsRising}
-use Rattle.ng_behaviour.specs.Listeners.{Listener, Heard, called, called_in, is_called, first_of, dropped, without_listener}
+use Rattle.ng_behaviour.specs.Listeners.{called, without_listener}
 use Rattle.ng_events.specs.declared.stands.Listener.{Listener as Registered}
 use Rattle.ng_events.specs.declared.stands.Stand.{Stand}
 use Rattle.ng_events.specs.declared.stands.Home.{Home}
-use Rattle.ng_events.specs.Stands.{heard, all_heard, chain_at, change_chain, pushed, removed, seen, entries_of}
+use Rattle.ng_events.specs.Stands.{heard, all_heard, chain_at, change_chain, pushed, removed, seen}
 use Rattle.ng_events.specs.Sound.{IsThere, AreThere, HaveHomes}
 use Rattle.ng_events.proofs.Entries.{get-found, value-serial, value-append, value-last, value-without, get-without, filter-called, filter-none, called-none, called-value}
 use Rattle.ng_events.proofs.Changed.{change-length, change-same, change-other}
@@ -29,6 +29,16 @@ there-kept xs ys homes n e a id h g =
 
 pub known-kept : (xs ys : List Stand) (homes : BTreeMap ℕ Home) → ((l : ℕ) → (chain_at ys l).entries ≡ (chain_at xs l).entries) → HaveHomes xs homes → HaveHomes ys homes
 known-kept xs ys homes e k l i x g = k l i x (rw (e l) at g)
+
+-- the same entries of the map
+get-same : (homes new : BTreeMap ℕ Home) → new.entries ≡ homes.entries → (q : ℕ) → get nat_cmp new q ≡ get nat_cmp homes q
+get-same homes new e q = ap (λ es. lookup (is_at (nat_cmp q)) es) e
+
+pub there-same : (xs : List Stand) (homes new : BTreeMap ℕ Home) → new.entries ≡ homes.entries → AreThere xs homes → AreThere xs new
+there-same xs homes new e a id h g = a id h (sym (get-same homes new e id) ∙ g)
+
+pub known-same : (xs : List Stand) (homes new : BTreeMap ℕ Home) → new.entries ≡ homes.entries → HaveHomes xs homes → HaveHomes xs new
+known-same xs homes new e k l i x g = get-same homes new e x.1.id.0 ∙ k l i x g
 
 home-new : (homes new : BTreeMap ℕ Home) (id q : ℕ) (h : Home) → ((r : ℕ) → get nat_cmp new r ≡ cond (is_eq (nat_cmp id r)) (Some h) (get nat_cmp homes r)) → id ≡ q → get nat_cmp new q ≡ Some h
 home-new homes new id q h u e = u q ∙ ap (λ b. cond b (Some h) (get nat_cmp homes q)) (same-number id q ∙ eq-eqb id q e)

@@ -8,7 +8,7 @@ use Rattle.ng_behaviour.specs.Listeners.{place_of}
 use Rattle.ng_events.specs.declared.stands.Listener.{Listener as Registered}
 use Rattle.ng_events.specs.declared.stands.Stand.{Stand}
 use Rattle.ng_events.specs.declared.stands.Home.{Home}
-use Rattle.ng_events.specs.Stands.{chain_at, all_heard, open_on}
+use Rattle.ng_events.specs.Stands.{chain_at, all_heard, walks_on, open_on}
 use Rattle.ng_events.specs.Names.{named}
 
 -- a listener stands where its home says
@@ -34,3 +34,9 @@ pub record IsSound (xs : List Stand) (names : BTreeMap ℕ (BTreeMap (List ℕ) 
   pub known : HaveHomes xs homes
   pub counted : open_walks ≡ open_on xs + bare
   pub few : open_walks ≤ 64
+
+-- no walk and no place is touched
+pub record LeavesWalks (xs ys : List Stand) : Type 0 where
+  pub walks : walks_on ys ≡ walks_on xs
+  pub places : (s : ℕ) (n : List ℕ) → place_of (all_heard ys) s n ≡ place_of (all_heard xs) s n
+  pub counted : open_on ys ≡ open_on xs

@@ -1,5 +1,5 @@
 -- What the lists of a table of listeners stand for, and the walks that are open on them.
-use Rattle.std.specs.Prelude.{ℕ, zero, suc, ◌+◌, ◌<◌, ◌≡◌, Bool, true, false, eqb, List, [], ◌∷◌, ◌++◌, length, map, Option, Some, None, IsSome, option_map, replicate, slice_set, slice_index_or, if◌then◌else◌}
+use Rattle.std.specs.Prelude.{ℕ, zero, suc, ◌+◌, ◌<◌, ◌≡◌, Bool, true, false, eqb, List, [], ◌∷◌, ◌++◌, length, map, Option, Some, None, IsSome, option_map, replicate, slice_set, if◌then◌else◌}
 use Rattle.ng_base.specs.declared.name.FunId.{FunId}
 use Rattle.ng_chain.specs.Walked.{Walked, walk_at, open_walks, serial_of, with_entries, with_walk, without}
 use Rattle.ng_chain.specs.declared.chain.Span.{Span}
@@ -125,3 +125,9 @@ Goes t (On i w) r u = Hears (heard_at (lists_of t) i).entries (walk_at (walks_at
 abbrev pub Ends : Table → EventWalk → Table → Type 0
 Ends t Bare u = (u.bare + 1 ≡ t.bare) × (walks_at u ≡ walks_at t)
 Ends t (On i w) u = (u.bare ≡ t.bare) × (walks_at u ≡ put_walk (walks_at t) i w.slot None)
+
+-- a list is of a scope
+abbrev pub is_of : List Stand → ℕ → ℕ → Bool
+is_of [] s l = false
+is_of (x ∷ xs) s zero = eqb s x.scope
+is_of (x ∷ xs) s (suc l) = is_of xs s l

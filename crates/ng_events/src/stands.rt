@@ -7,7 +7,7 @@ use ng_base::fault::Memory;
 use ng_base::name::FunId;
 use ng_base::txt::Txt;
 use ng_chain::chain::{Chain, Token, Walk};
-use ng_parse::program::Program;
+use ng_parse::Program;
 use std::alloc::{AllocError, Global};
 
 /// A function that was registered, and its program.

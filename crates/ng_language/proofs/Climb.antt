@@ -1,26 +1,15 @@
 -- What is spelled so is read so.
-use Rattle.std.proofs.Common.{◌≡◌, ◌≤◌, ◌<◌, ◌+◌, ◌*◌, ◌-◌, ℕ, zero, suc, Bool, true, false, List, [], ◌∷◌, ◌++◌, length, refl, ap, ◌∙◌, sym, subst, arith, length-append, append_assoc, append-nil, inl, inr, lit<, lit≤}
-use Rattle.std.specs.Prelude.{Option, Some, None, Result, Ok, Err, ◌⊎◌}
-use Rattle.ng_base.specs.Meets.{◌>>=◌}
-use Rattle.ng_language.specs.Trees.{Tree, Trees, PairTree, Pairs, a_number, a_text, a_name, the_scope, a_constant, member_of, item_of, call_of, a_list, a_record, in_brackets, signed, combined, both_of, either_of, choice_of, assigned, filtered, no_trees, tree_then, labelled, shorthand, computed, no_pairs, pair_then, trees_from, pairs_from}
-use Rattle.ng_language.specs.Tokens.{after, name_at, label_at, unary_at, joint_of, joint_at, tightness}
-use Rattle.ng_language.specs.Reading
-use Rattle.ng_language.specs.Reading.{Read, unfit, expect, leaf, label, lone_label, word_tree, is_assignable, joined, statement, filters, named_filter, arguments, expression, assignment, ternary, choice, operators, operand, operations, unary, primary, postfix, called, values, items, pairs, pair, valued, head, statements, separated}
-use Rattle.ng_language.specs.Choice.{when_some}
-use Rattle.ng_language.specs.Grammar.{sign_of_unary, sign_of_binary, binary_rank, rank, At, IsWordOf, label_token, Spells, SpellsArguments, SpellsValues, SpellsMore, SpellsItems, SpellsOthers, SpellsPair, SpellsPairs, SpellsOtherPairs, IsProgram, no_statement, last_statement, empty_statement, statement_then}
-use Rattle.ng_language.specs.declared.syntax.Sign.{Sign}
+use Rattle.std.proofs.Common.{◌≡◌, ◌≤◌, ◌<◌, ◌+◌, ◌*◌, ◌-◌, ℕ, zero, suc, List, ◌++◌, length, refl, ◌∙◌, arith, length-append, lit≤}
+use Rattle.std.specs.Prelude.{None, Ok}
+use Rattle.ng_language.specs.Trees.{Tree}
+use Rattle.ng_language.specs.Tokens.{after, unary_at, tightness}
+use Rattle.ng_language.specs.Reading.{statement, filters, expression, assignment, ternary, choice, operators, operand, operations, unary, primary, postfix}
+use Rattle.ng_language.specs.Grammar.{rank, Spells}
 use Rattle.ng_language.specs.declared.syntax.Sign.TheVariants as sign
 use Rattle.ng_language.specs.declared.syntax.Token.{Token}
-use Rattle.ng_language.specs.declared.syntax.Token.TheVariants as token
-use Rattle.ng_language.specs.declared.syntax.Label.{Label}
-use Rattle.ng_language.specs.declared.syntax.Unary.{Unary}
-use Rattle.ng_language.specs.declared.syntax.Binary.{Binary}
-use Rattle.ng_language.specs.declared.syntax.Binary.TheVariants as binaries
 use Rattle.ng_language.specs.declared.syntax.Level.{Level}
 use Rattle.ng_language.specs.declared.syntax.Level.TheVariants as levels
-use Rattle.ng_language.specs.declared.syntax.Joint.{Joint}
-use Rattle.ng_language.specs.declared.syntax.Joint.TheVariants as joints
-use Rattle.ng_language.proofs.Fronts.{after_here, after_other, after_nothing, after_name, after_number, after_text, after_label, name_here, label_here, unary_here, joint_here, joint_strength, strength, front, not_after, not_joint, begins, begins_primary, begins_not, not_unary}
+use Rattle.ng_language.proofs.Fronts.{front, not_after, not_joint}
 
 -- what follows binds more loosely
 abbrev pub Ends : ℕ → List Token → Type 0

@@ -1,37 +1,27 @@
 -- What is spelled so is read so: lists, and programs.
-use Rattle.std.proofs.Common.{◌≡◌, ◌≤◌, ◌<◌, ◌+◌, ◌*◌, ◌-◌, ℕ, zero, suc, Bool, true, false, List, [], ◌∷◌, ◌++◌, length, refl, ap, ◌∙◌, sym, subst, arith, length-append, append_assoc, append-nil, inl, inr, lit<, lit≤}
-use Rattle.std.specs.Prelude.{Option, Some, None, Result, Ok, Err, ◌⊎◌, codes}
+use Rattle.std.proofs.Common.{◌≡◌, ◌≤◌, ◌+◌, ◌*◌, ℕ, zero, suc, true, false, List, [], ◌∷◌, ◌++◌, length, refl, ap, ◌∙◌, sym, subst, arith, length-append, append_assoc, append-nil, inl, inr, lit<, lit≤}
+use Rattle.std.specs.Prelude.{None, Ok, Err}
 use Rattle.ng_base.specs.Meets.{◌>>=◌}
 use Rattle.ng_language.specs.Trees.{Tree, Trees, PairTree, Pairs, a_number, a_text, a_name, the_scope, a_constant, member_of, item_of, call_of, a_list, a_record, in_brackets, signed, combined, both_of, either_of, choice_of, assigned, filtered, no_trees, tree_then, labelled, shorthand, computed, no_pairs, pair_then, trees_from, pairs_from}
-use Rattle.ng_language.specs.Tokens.{after, name_at, label_at, unary_at, joint_of, joint_at, tightness}
-use Rattle.ng_language.specs.Reading
-use Rattle.ng_language.specs.Reading.{Read, unfit, expect, leaf, label, lone_label, word_tree, is_assignable, joined, statement, filters, named_filter, arguments, expression, assignment, ternary, choice, operators, operand, operations, unary, primary, postfix, called, values, items, pairs, pair, valued, head, statements, separated}
+use Rattle.ng_language.specs.Tokens.{after}
+use Rattle.ng_language.specs.Reading.{Read, expect, is_assignable, statement, filters, arguments, expression, ternary, operators, primary, postfix, called, values, items, pairs, pair, head, statements, separated}
 use Rattle.ng_language.specs.Choice.{when_some}
-use Rattle.ng_language.specs.Grammar.{sign_of_unary, sign_of_binary, binary_rank, rank, At, IsWordOf, label_token, Spells, SpellsArguments, SpellsValues, SpellsMore, SpellsItems, SpellsOthers, SpellsPair, SpellsPairs, SpellsOtherPairs, IsProgram, no_statement, last_statement, empty_statement, statement_then}
-use Rattle.ng_language.specs.declared.syntax.Sign.{Sign}
+use Rattle.ng_language.specs.Grammar.{rank, label_token, Spells, SpellsArguments, SpellsValues, SpellsMore, SpellsItems, SpellsOthers, SpellsPair, SpellsPairs, SpellsOtherPairs, IsProgram, no_statement, last_statement, empty_statement, statement_then}
 use Rattle.ng_language.specs.declared.syntax.Sign.TheVariants as sign
 use Rattle.ng_language.specs.declared.syntax.Token.{Token}
 use Rattle.ng_language.specs.declared.syntax.Token.TheVariants as token
 use Rattle.ng_language.specs.declared.syntax.Label.{Label}
 use Rattle.ng_language.specs.declared.syntax.Label.TheVariants as labels
-use Rattle.ng_language.specs.declared.syntax.Unary.{Unary}
-use Rattle.ng_language.specs.declared.syntax.Unary.TheVariants as unaries
-use Rattle.std.specs.Str.{bytes_eq}
-use Rattle.ng_language.specs.declared.syntax.Binary.{Binary}
-use Rattle.ng_language.specs.declared.syntax.Binary.TheVariants as binaries
-use Rattle.ng_language.specs.declared.syntax.Level.{Level}
 use Rattle.ng_language.specs.declared.syntax.Level.TheVariants as levels
-use Rattle.ng_language.specs.declared.syntax.Joint.{Joint}
-use Rattle.ng_language.specs.declared.syntax.Joint.TheVariants as joints
-use Rattle.ng_language.proofs.Fronts.{after_here, after_other, after_nothing, after_name, after_number, after_text, after_label, name_here, label_here, unary_here, joint_here, joint_strength, strength, front, not_after, not_joint, begins, begins_primary, begins_not, not_unary}
-use Rattle.ng_language.specs.Parsing.{one_too_many, located, low, parsed, parse_fault}
+use Rattle.ng_language.proofs.Fronts.{after_here, after_other, after_name, after_label, name_here, label_here, not_after}
+use Rattle.ng_language.specs.Parsing.{one_too_many, parsed, parse_fault}
 use Rattle.ng_language.specs.declared.syntax.ParseKind.TheVariants as kinds
 use Rattle.ng_language.specs.Heights.{heights}
 use Rattle.std.specs.Prelude.{nat_eq, nat_le}
 use Rattle.std.proofs.lemmas.Bool.Decides.{nat_tests}
-use Rattle.ng_base.proofs.Binds.{if_true, if_false}
-use Rattle.ng_language.proofs.Parts.{Start, start, not_before, from_primary, number_read, text_read, word_read_so, bracket_read, member_read, item_read, signed_read, combined_read, both_read, either_read, ended_statement, one_read}
-use Rattle.ng_language.proofs.Climb.{Ends, postfix_ends, operations_end, choice_ends, assignment_ends, filters_end, ReadsPrimary, ReadsUnary, ReadsOps, ReadsOperand, ReadsTernary, ReadsExpression, ReadsStatement, Reads, unary_up, term_up, from_statement, from_expression, from_ternary, from_ops, from_unary, ternary_plain, tight_low, tight_high}
+use Rattle.ng_base.proofs.Binds.{if_true}
+use Rattle.ng_language.proofs.Parts.{start, not_before, from_primary, number_read, text_read, word_read_so, bracket_read, member_read, item_read, signed_read, combined_read, both_read, either_read, ended_statement}
+use Rattle.ng_language.proofs.Climb.{Ends, operations_end, ReadsPrimary, ReadsTernary, ReadsExpression, ReadsStatement, Reads, from_statement, from_expression, from_ternary, from_unary, ternary_plain}
 
 abbrev pub list_of : Trees → List Tree
 list_of no_trees = []

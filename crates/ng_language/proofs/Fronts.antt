@@ -1,10 +1,10 @@
 -- What a row of tokens begins with, and what it can't go on with.
-use Rattle.std.proofs.Common.{◌≡◌, ◌≤◌, ◌<◌, ◌+◌, ℕ, zero, suc, Bool, true, false, nat_eq, List, [], ◌∷◌, ◌++◌, length, refl, ap, ◌∙◌, sym, subst, arith, inl, inr}
+use Rattle.std.proofs.Common.{◌≡◌, ◌<◌, ℕ, Bool, true, false, List, [], ◌∷◌, refl, ap, ◌∙◌, sym, arith, inl, inr}
 use Rattle.std.proofs.lemmas.Bool.Decides.{nat_tests}
-use Rattle.std.specs.Prelude.{Option, Some, None, slice_index_or, if◌then◌else◌, ◌⊎◌}
+use Rattle.std.specs.Prelude.{Option, Some, None, slice_index_or, if◌then◌else◌}
 use Rattle.ng_base.proofs.Binds.{chosen, if_true, if_false}
 use Rattle.ng_language.specs.Tokens.{sign_number, same_sign, after, name_at, label_at, unary_of, unary_at, joint_of, joint_at, and_then, tightness}
-use Rattle.ng_language.specs.Grammar.{sign_of_unary, sign_of_binary, label_token}
+use Rattle.ng_language.specs.Grammar.{sign_of_unary, label_token}
 use Rattle.ng_language.specs.declared.syntax.Sign.{Sign}
 use Rattle.ng_language.specs.declared.syntax.Sign.TheVariants as sign
 use Rattle.ng_language.specs.declared.syntax.Token.{Token}
@@ -13,11 +13,9 @@ use Rattle.ng_language.specs.declared.syntax.Label.{Label}
 use Rattle.ng_language.specs.declared.syntax.Label.TheVariants as labels
 use Rattle.ng_language.specs.declared.syntax.Unary.{Unary}
 use Rattle.ng_language.specs.declared.syntax.Unary.TheVariants as unaries
-use Rattle.ng_language.specs.declared.syntax.Binary.TheVariants as binaries
 use Rattle.ng_language.specs.declared.syntax.Level.{Level}
 use Rattle.ng_language.specs.declared.syntax.Level.TheVariants as levels
 use Rattle.ng_language.specs.declared.syntax.Joint.{Joint}
-use Rattle.ng_language.specs.declared.syntax.Joint.TheVariants as joints
 
 abbrev all_signs : List Sign
 all_signs = sign.Plus ∷ sign.Minus ∷ sign.Star ∷ sign.Slash ∷ sign.Percent ∷ sign.Assign ∷ sign.Equal ∷ sign.NotEqual ∷ sign.Same ∷ sign.NotSame ∷ sign.Less ∷ sign.Greater ∷ sign.AtMost ∷ sign.AtLeast ∷ sign.And ∷ sign.Or ∷ sign.Not ∷ sign.Bar ∷ sign.Question ∷ sign.Colon ∷ sign.Semicolon ∷ sign.Comma ∷ sign.Dot ∷ sign.OpenRound ∷ sign.CloseRound ∷ sign.OpenSquare ∷ sign.CloseSquare ∷ sign.OpenCurly ∷ sign.CloseCurly ∷ []

@@ -4,3 +4,6 @@ pub mod Parts
 pub mod Complete
 pub mod Sound
 pub mod Whole
+pub mod LexSound
+pub mod SignSound
+pub mod LexComplete

@@ -1,18 +1,14 @@
 -- What is spelled so is read so: each tree.
-use Rattle.std.proofs.Common.{◌≡◌, ◌≤◌, ◌<◌, ◌+◌, ◌*◌, ◌-◌, ℕ, zero, suc, Bool, true, false, List, [], ◌∷◌, ◌++◌, length, refl, ap, ◌∙◌, sym, subst, arith, length-append, append_assoc, append-nil, inl, inr, lit<, lit≤}
-use Rattle.std.specs.Prelude.{Option, Some, None, Result, Ok, Err, ◌⊎◌, codes}
-use Rattle.ng_base.specs.Meets.{◌>>=◌}
-use Rattle.ng_language.specs.Trees.{Tree, Trees, PairTree, Pairs, a_number, a_text, a_name, the_scope, a_constant, member_of, item_of, call_of, a_list, a_record, in_brackets, signed, combined, both_of, either_of, choice_of, assigned, filtered, no_trees, tree_then, labelled, shorthand, computed, no_pairs, pair_then, trees_from, pairs_from}
-use Rattle.ng_language.specs.Tokens.{after, name_at, label_at, unary_at, joint_of, joint_at, tightness}
-use Rattle.ng_language.specs.Reading
-use Rattle.ng_language.specs.Reading.{Read, unfit, expect, leaf, label, lone_label, word_tree, is_assignable, joined, statement, filters, named_filter, arguments, expression, assignment, ternary, choice, operators, operand, operations, unary, primary, postfix, called, values, items, pairs, pair, valued, head, statements, separated}
-use Rattle.ng_language.specs.Choice.{when_some}
-use Rattle.ng_language.specs.Grammar.{sign_of_unary, sign_of_binary, binary_rank, rank, At, IsWordOf, label_token, Spells, SpellsArguments, SpellsValues, SpellsMore, SpellsItems, SpellsOthers, SpellsPair, SpellsPairs, SpellsOtherPairs, IsProgram, no_statement, last_statement, empty_statement, statement_then}
+use Rattle.std.proofs.Common.{◌≡◌, ◌≤◌, ◌+◌, ◌*◌, ◌-◌, ℕ, zero, suc, true, false, List, [], ◌∷◌, ◌++◌, length, refl, ap, ◌∙◌, sym, subst, arith, length-append, append_assoc, lit<, lit≤}
+use Rattle.std.specs.Prelude.{Some, None, Ok, codes}
+use Rattle.ng_language.specs.Trees.{Tree, a_number, a_text, a_name, the_scope, a_constant, member_of, item_of, call_of, a_list, a_record, in_brackets, signed, combined, both_of, either_of, choice_of, assigned, filtered}
+use Rattle.ng_language.specs.Tokens.{after, unary_at, joint_of, tightness}
+use Rattle.ng_language.specs.Reading.{Read, word_tree, joined, statement, expression, operators, operand, operations, unary, primary, postfix, head}
+use Rattle.ng_language.specs.Grammar.{sign_of_unary, sign_of_binary, binary_rank, rank, At, IsWordOf, Spells}
 use Rattle.ng_language.specs.declared.syntax.Sign.{Sign}
 use Rattle.ng_language.specs.declared.syntax.Sign.TheVariants as sign
 use Rattle.ng_language.specs.declared.syntax.Token.{Token}
 use Rattle.ng_language.specs.declared.syntax.Token.TheVariants as token
-use Rattle.ng_language.specs.declared.syntax.Label.{Label}
 use Rattle.ng_language.specs.declared.syntax.Unary.{Unary}
 use Rattle.ng_language.specs.declared.syntax.Unary.TheVariants as unaries
 use Rattle.std.specs.Str.{bytes_eq}
@@ -22,8 +18,8 @@ use Rattle.ng_language.specs.declared.syntax.Level.{Level}
 use Rattle.ng_language.specs.declared.syntax.Level.TheVariants as levels
 use Rattle.ng_language.specs.declared.syntax.Joint.{Joint}
 use Rattle.ng_language.specs.declared.syntax.Joint.TheVariants as joints
-use Rattle.ng_language.proofs.Fronts.{after_here, after_other, after_nothing, after_name, after_number, after_text, after_label, name_here, label_here, unary_here, joint_here, joint_strength, strength, front, not_after, not_joint, begins, begins_primary, begins_not, not_unary}
-use Rattle.ng_language.proofs.Climb.{Ends, postfix_ends, operations_end, choice_ends, assignment_ends, filters_end, ReadsPrimary, ReadsUnary, ReadsOps, ReadsOperand, ReadsTernary, ReadsExpression, ReadsStatement, Reads, unary_up, term_up, from_statement, from_expression, from_ternary, from_ops, from_unary, tight_low, tight_high}
+use Rattle.ng_language.proofs.Fronts.{after_here, after_other, after_name, after_number, after_text, name_here, unary_here, joint_here, joint_strength, not_after, begins, begins_primary, begins_not, not_unary}
+use Rattle.ng_language.proofs.Climb.{Ends, operations_end, filters_end, ReadsPrimary, ReadsUnary, ReadsOps, ReadsOperand, ReadsExpression, ReadsStatement, Reads, unary_up, from_ops, from_unary}
 
 -- what a tree's tokens begin with
 pub record Start (e : Tree) (us : List Token) : Type 0 where

@@ -1,22 +1,17 @@
 -- What is read is spelled so.
-use Rattle.std.proofs.Common.{◌≡◌, ◌≤◌, ◌<◌, ◌+◌, ◌*◌, ◌-◌, ℕ, zero, suc, Bool, true, false, List, [], ◌∷◌, ◌++◌, length, refl, ap, ◌∙◌, sym, subst, arith, length-append, append_assoc, append-nil, inl, inr, lit<, lit≤}
-use Rattle.std.specs.Prelude.{Option, Some, None, Result, Ok, Err, ◌⊎◌, codes}
+use Rattle.std.proofs.Common.{◌≡◌, ◌≤◌, ℕ, suc, List, [], ◌∷◌, ◌++◌, length, refl, ap, ◌∙◌, sym, subst, arith, append_assoc, append-nil, inl, inr, lit≤}
+use Rattle.std.specs.Prelude.{Option, Some, None, Result, Ok, Err, ◌⊎◌}
 use Rattle.ng_base.specs.Meets.{◌>>=◌}
-use Rattle.ng_language.specs.Trees.{Tree, Trees, PairTree, Pairs, a_number, a_text, a_name, the_scope, a_constant, member_of, item_of, call_of, a_list, a_record, in_brackets, signed, combined, both_of, either_of, choice_of, assigned, filtered, no_trees, tree_then, labelled, shorthand, computed, no_pairs, pair_then, trees_from, pairs_from}
-use Rattle.ng_language.specs.Tokens.{after, name_at, label_at, unary_at, joint_of, joint_at, tightness}
-use Rattle.ng_language.specs.Reading
-use Rattle.ng_language.specs.Reading.{Read, unfit, expect, leaf, label, lone_label, word_tree, is_assignable, joined, statement, filters, named_filter, arguments, expression, assignment, ternary, choice, operators, operand, operations, unary, primary, postfix, called, values, items, pairs, pair, valued, head, statements, separated}
+use Rattle.ng_language.specs.Trees.{Tree, Trees, PairTree, Pairs, a_number, a_text, a_name, the_scope, a_constant, member_of, item_of, call_of, a_list, a_record, in_brackets, signed, combined, both_of, either_of, choice_of, assigned, filtered, no_trees, tree_then, trees_from}
+use Rattle.ng_language.specs.Tokens.{after, name_at, unary_at, joint_of, joint_at, tightness}
+use Rattle.ng_language.specs.Reading.{Read, unfit, expect, is_assignable, joined, statement, filters, named_filter, arguments, expression, assignment, ternary, choice, operators, operand, operations, unary, primary, postfix, called, values, items, pairs, pair, valued, head}
 use Rattle.ng_language.specs.Choice.{when_some}
-use Rattle.ng_language.specs.Grammar.{sign_of_unary, sign_of_binary, binary_rank, rank, At, IsWordOf, label_token, Spells, SpellsArguments, SpellsValues, SpellsMore, SpellsItems, SpellsOthers, SpellsPair, SpellsPairs, SpellsOtherPairs, IsProgram, no_statement, last_statement, empty_statement, statement_then}
+use Rattle.ng_language.specs.Grammar.{sign_of_unary, binary_rank, rank, At, label_token, Spells, SpellsArguments, SpellsValues, SpellsItems, SpellsPair, SpellsPairs}
 use Rattle.ng_language.specs.declared.syntax.Sign.{Sign}
 use Rattle.ng_language.specs.declared.syntax.Sign.TheVariants as sign
 use Rattle.ng_language.specs.declared.syntax.Token.{Token}
 use Rattle.ng_language.specs.declared.syntax.Token.TheVariants as token
 use Rattle.ng_language.specs.declared.syntax.Label.{Label}
-use Rattle.ng_language.specs.declared.syntax.Label.TheVariants as labels
-use Rattle.ng_language.specs.declared.syntax.Unary.{Unary}
-use Rattle.ng_language.specs.declared.syntax.Unary.TheVariants as unaries
-use Rattle.std.specs.Str.{bytes_eq}
 use Rattle.ng_language.specs.declared.syntax.Binary.{Binary}
 use Rattle.ng_language.specs.declared.syntax.Binary.TheVariants as binaries
 use Rattle.ng_language.specs.declared.syntax.Refusal.{Refusal}
@@ -25,14 +20,11 @@ use Rattle.ng_language.specs.declared.syntax.Level.{Level}
 use Rattle.ng_language.specs.declared.syntax.Level.TheVariants as levels
 use Rattle.ng_language.specs.declared.syntax.Joint.{Joint}
 use Rattle.ng_language.specs.declared.syntax.Joint.TheVariants as joints
-use Rattle.ng_language.proofs.Fronts.{after_some, name_some, label_some, unary_some, joint_some}
-use Rattle.ng_language.specs.Parsing.{one_too_many, located, low, parsed, parse_fault}
-use Rattle.ng_language.specs.declared.syntax.ParseKind.TheVariants as kinds
-use Rattle.ng_language.specs.Heights.{heights}
-use Rattle.std.specs.Prelude.{nat_eq, nat_le, if◌then◌else◌}
-use Rattle.std.proofs.lemmas.Bool.Decides.{nat_tests}
-use Rattle.ng_base.proofs.Binds.{bind_ok, chosen, guarded}
-use Rattle.ng_language.proofs.Complete.{list_of, pair_list, trees_back, pairs_back}
+use Rattle.ng_language.proofs.Fronts.{after_some, name_some, unary_some, joint_some}
+use Rattle.ng_language.specs.Parsing.{low}
+use Rattle.std.specs.Prelude.{if◌then◌else◌}
+use Rattle.ng_base.proofs.Binds.{bind_ok, guarded}
+use Rattle.ng_language.proofs.Complete.{list_of, pair_list, trees_back}
 
 abbrev pub got : {A : Type 0} → List Token → A → Read A
 got rest a = Ok (a, rest)

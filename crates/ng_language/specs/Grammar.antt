@@ -13,7 +13,7 @@
 --   head       = "(" statement ")" | "[" [statement {"," statement} [","]] "]"
 --              | "{" [pair {"," pair} [","]] "}" | number | text | name
 --   pair       = (name | text | number) ":" expression | name | "[" expression "]" ":" expression
-use Rattle.std.specs.Prelude.{◌≡◌, ◌≤◌, ◌⊎◌, ℕ, suc, Bool, true, false, List, [], ◌∷◌, ◌++◌, codes, None}
+use Rattle.std.specs.Prelude.{◌≡◌, ◌≤◌, ◌⊎◌, ℕ, suc, true, false, List, [], ◌∷◌, ◌++◌, codes, None}
 use Rattle.std.specs.Str.{bytes_eq}
 use Rattle.ng_language.specs.Trees.{Tree, Trees, PairTree, Pairs, a_number, a_text, a_name, the_scope, a_constant, member_of, item_of, call_of, a_list, a_record, in_brackets, signed, combined, both_of, either_of, choice_of, assigned, filtered, no_trees, tree_then, labelled, shorthand, computed, no_pairs, pair_then}
 use Rattle.ng_language.specs.Heights.{heights}

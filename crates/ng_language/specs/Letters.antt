@@ -1,5 +1,5 @@
 -- Characters of expressions.
-use Rattle.std.specs.Prelude.{Bool, ℕ, ◌+◌, ◌-◌, ◌*◌, ◌&&◌, ◌||◌, nat_le, nat_eq, if◌then◌else◌}
+use Rattle.std.specs.Prelude.{Bool, ℕ, ◌-◌, ◌&&◌, ◌||◌, nat_le, nat_eq, if◌then◌else◌}
 
 -- space, CR, tab, LF, VT, and the space that does not break
 abbrev pub is_space : ℕ → Bool

@@ -1,5 +1,5 @@
 -- A binding that begins with `::` is one-time.
-use Rattle.std.specs.Prelude.{Bool, true, false, ℕ, nat_eq, List, [], ◌∷◌, reverse, if◌then◌else◌}
+use Rattle.std.specs.Prelude.{Bool, true, false, ℕ, List, [], ◌∷◌, reverse, if◌then◌else◌}
 use Rattle.ng_language.specs.Letters.{is_space}
 use Rattle.ng_language.specs.Choice.{when_some}
 use Rattle.ng_language.specs.Lexing.{next_is}

@@ -1,5 +1,5 @@
 -- A reader of the grammar from the left. Each call has room for so many more calls.
-use Rattle.std.specs.Prelude.{ℕ, zero, suc, nat_eq, ◌+◌, ◌*◌, Bool, true, false, List, [], ◌∷◌, ◌++◌, length, Option, Some, None, Result, Ok, Err, codes, if◌then◌else◌}
+use Rattle.std.specs.Prelude.{ℕ, zero, suc, nat_eq, Bool, true, false, List, [], ◌∷◌, ◌++◌, length, Result, Ok, Err, codes, if◌then◌else◌}
 use Rattle.std.specs.Str.{bytes_eq}
 use Rattle.ng_base.specs.Meets.{◌>>=◌}
 use Rattle.ng_language.specs.Choice.{when_some}

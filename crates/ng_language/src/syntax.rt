@@ -1,7 +1,6 @@
 //! Tokens, operators and refusals of the expression language.
 ghost use Rattle.ng_base.specs.declared.fault.Memory.TheVariants.{Refused};
 ghost use Rattle.ng_language.specs.Lexing.{is_free};
-ghost use Rattle.ng_language.specs.Parsing.{is_free as is_wanting};
 ghost use Rattle.ng_language.specs.declared.syntax.Refusal.TheVariants.{Memory as Wanting};
 ghost use Rattle.std.specs.Prelude.{◌≡◌, true};
 
@@ -205,17 +204,6 @@ impl<T: Drop> From<AllocFailed<T>> for LexFault {
         LexFault {
             place: 0,
             kind: LexKind::Memory(Memory::Refused),
-        }
-    }
-}
-
-impl From<AllocError> for ParseFault {
-    ghost from_gives = { λ _ e. is_wanting e ≡ true };
-
-    fn from(_: AllocError) -> Self {
-        ParseFault {
-            place: 0,
-            kind: ParseKind::Memory(Memory::Refused),
         }
     }
 }

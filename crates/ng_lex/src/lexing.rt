@@ -2,8 +2,10 @@
 ghost use Rattle.ng_base.specs.Cells.{place};
 ghost use Rattle.ng_base.specs.Meets.{Gives};
 ghost use Rattle.ng_language.specs.Lexing.{token_at, digit_next, signed_token, sign_at, lexed, is_free};
+ghost use Rattle.ng_language.specs.Spelling.{Written};
+ghost use Rattle.ng_language.specs.declared.syntax.Token.{Token as TokenSpec};
 ghost use Rattle.ng_lex.specs.TokensOf.{tokens_of};
-ghost use Rattle.std.specs.Prelude.{◌≡◌, ◌∷◌, ◌≤◌, [], length, IfOk, true};
+ghost use Rattle.std.specs.Prelude.{◌≡◌, ◌∷◌, ◌≤◌, [], length, IfOk, true, ℕ, List, Ok};
 ghost use Rattle.std.specs.Str.{chars};
 
 use crate::letters::{begins_name, digit, quote, space};
@@ -75,6 +77,21 @@ fn read_token<'a>(
 
 /// The tokens of a text, or its first refusal from the left.
 pub fn lex(alloc: Global, text: &str) -> Result<Tokens, LexFault>
+    // What is read is spelled so.
+    ensures found { IfOk result (λ t. Written (length text.now) t.tokens.items t.places.items (chars text.now)) }
+
+    // What is spelled so is read, unless memory runs out.
+    ensures only { (ts : List TokenSpec) (ps : List ℕ) → Written (length text.now) ts ps (chars text.now) → Gives is_free tokens_of (Ok (ts, ps)) result }
+
+    // Which refusal it is, and where.
+    ensures exact { Gives is_free tokens_of (lexed (length text.now) (chars text.now)) result }
+
+    ensures end { IfOk result (λ t. t.end ≡ length text.now) }
+{
+    read_tokens(alloc, text)
+}
+
+fn read_tokens(alloc: Global, text: &str) -> Result<Tokens, LexFault>
     ensures exact { Gives is_free tokens_of (lexed (length text.now) (chars text.now)) result }
     ensures end { IfOk result (λ t. t.end ≡ length text.now) }
 {

@@ -1,5 +1,5 @@
 -- What a call of the parser gave, against the grammar.
-use Rattle.std.proofs.Common.{◌≡◌, ℕ, List, ◌∙◌, sym, Result, Ok, Err}
+use Rattle.std.proofs.Common.{ℕ, List, ◌∙◌, sym, Result, Ok, Err}
 use Rattle.std.specs.Prelude.{IfOk}
 use Rattle.ng_base.specs.Meets.{Gives}
 use Rattle.ng_language.specs.Trees.{Trees}

@@ -1,5 +1,4 @@
 -- The tree that an expression of the code stands for.
-use Rattle.std.specs.Prelude.{ℕ, List, map}
 use Rattle.ng_language.specs.Trees.{Tree, PairTree, a_number, a_text, a_name, the_scope, a_constant, member_of, item_of, call_of, a_list, a_record, in_brackets, signed, combined, both_of, either_of, choice_of, assigned, filtered, labelled, shorthand, computed, trees_from, pairs_from}
 use Rattle.ng_parse.specs.declared.tree.Expr.{Expr, fold-Expr}
 use Rattle.ng_parse.specs.declared.tree.Pair.{Pair, fold-Pair}

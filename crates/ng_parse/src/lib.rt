@@ -1,9 +1,11 @@
 //! The parser of the expression language: a row of tokens is a program, or it has one refusal.
 //!
 //! `parse` first tests the limits on tokens and open brackets, then reads the whole grammar by descent, and at last
-//! tests the height of the trees. The contract that the crates above use is `exact`: the answer is the one of the
-//! definition `parsed` of the language's definitions, want of memory apart. `one_time` tells a binding that begins
-//! with `::` from one that does not.
+//! tests the height of the trees. `one_time` tells a binding that begins with `::` from one that does not.
+//!
+//! The contract that the crates above use says three things. What is read is spelled so, by the grammar `IsParsed`,
+//! a relation by cases on the tree; what is spelled so is read; and which refusal it is and where, by the reading
+//! definition `parsed`. Want of memory alone is free.
 //!
 //! A `Program` is a list of statements, each a tree (`tree::Expr`) that contracts see through the fold `tree`. A program
 //! knows that no statement is higher than 100, so nothing that walks over it has to carry that by hand, and no walk

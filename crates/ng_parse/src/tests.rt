@@ -16,24 +16,31 @@ fn put_name(alloc: Global, out: &mut String, label: &Label) -> Result<(), AllocE
     out.push_str(shown.as_str())
 }
 
+/// A tree of one token.
+fn leaf(alloc: Global, e: &Expr) -> Result<String, AllocError> {
+    match e {
+        Expr::Number(n) => format!(in alloc; "{n}"),
+        Expr::Text(t) => format!(in alloc; "'{}'", t.as_str()),
+        Expr::Name(n) => format!(in alloc; "{}", n.as_str()),
+        Expr::Constant(c) => format!(in alloc; "{c:?}"),
+        _ => format!(in alloc; "THIS"),
+    }
+}
+
+/// What stands between two operands.
+fn between(alloc: Global, e: &Expr) -> Result<String, AllocError> {
+    match e {
+        Expr::Binary(op, _, _) => format!(in alloc; " {op:?} "),
+        Expr::Both(_, _) => format!(in alloc; " && "),
+        Expr::Either(_, _) => format!(in alloc; " || "),
+        _ => format!(in alloc; " = "),
+    }
+}
+
 /// A tree with every operator in round brackets, and brackets that are written as `<` and `>`.
 #[cycle(show)]
 fn show(alloc: Global, out: &mut String, e: &Expr) -> Result<(), AllocError> {
     match e {
-        Expr::Number(n) => {
-            let shown = format!(in alloc; "{n}")?;
-            out.push_str(shown.as_str())
-        }
-        Expr::Text(t) => {
-            let shown = format!(in alloc; "'{}'", t.as_str())?;
-            out.push_str(shown.as_str())
-        }
-        Expr::Name(n) => out.push_str(n.as_str()),
-        Expr::This => out.push_str("THIS"),
-        Expr::Constant(c) => {
-            let shown = format!(in alloc; "{c:?}")?;
-            out.push_str(shown.as_str())
-        }
         Expr::Member(t, n) => {
             show(alloc, out, t)?;
             out.push('.')?;
@@ -62,12 +69,14 @@ fn show(alloc: Global, out: &mut String, e: &Expr) -> Result<(), AllocError> {
             show(alloc, out, t)?;
             out.push(')')
         }
-        Expr::Binary(op, a, b) => {
-            let shown = format!(in alloc; " {op:?} ")?;
-            show_two(alloc, out, a, shown.as_str(), b)
+        Expr::Binary(_, a, b) | Expr::Both(a, b) | Expr::Either(a, b) | Expr::Assign(a, b) => {
+            let by = between(alloc, e)?;
+            out.push('(')?;
+            show(alloc, out, a)?;
+            out.push_str(by.as_str())?;
+            show(alloc, out, b)?;
+            out.push(')')
         }
-        Expr::Both(a, b) => show_two(alloc, out, a, " && ", b),
-        Expr::Either(a, b) => show_two(alloc, out, a, " || ", b),
         Expr::Choice(c, a, b) => {
             out.push('(')?;
             show(alloc, out, c)?;
@@ -77,7 +86,6 @@ fn show(alloc: Global, out: &mut String, e: &Expr) -> Result<(), AllocError> {
             show(alloc, out, b)?;
             out.push(')')
         }
-        Expr::Assign(a, b) => show_two(alloc, out, a, " = ", b),
         Expr::Filter(t, n, args) => {
             out.push('(')?;
             show(alloc, out, t)?;
@@ -86,22 +94,11 @@ fn show(alloc: Global, out: &mut String, e: &Expr) -> Result<(), AllocError> {
             show_all(alloc, out, args.as_slice(), ":")?;
             out.push(')')
         }
+        _ => {
+            let shown = leaf(alloc, e)?;
+            out.push_str(shown.as_str())
+        }
     }
-}
-
-#[cycle(show)]
-fn show_two(
-    alloc: Global,
-    out: &mut String,
-    a: &Expr,
-    between: &str,
-    b: &Expr,
-) -> Result<(), AllocError> {
-    out.push('(')?;
-    show(alloc, out, a)?;
-    out.push_str(between)?;
-    show(alloc, out, b)?;
-    out.push(')')
 }
 
 #[cycle(show)]

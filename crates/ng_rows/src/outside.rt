@@ -35,7 +35,7 @@ fn a_sure_shelf_has_the_empty_file_under_other_names(rt: HostRuntime) {
     assert!(rt; shelf.fetch("none", &mut bytes).is_ok());
     assert!(rt; bytes.is_empty());
     assert!(rt; shelf.fetch("file", &mut bytes).is_ok());
-    assert_eq!(rt; bytes.as_slice(), b"here");
+    assert_eq!(rt; bytes.as_slice(), b"here".as_slice());
 }
 
 #[test]

@@ -106,10 +106,11 @@ AreFresh acc = AllByRecursion (λ (p : Property). (i : ℕ) → index_of p.0 ≡
 
 still_fresh : (acc : List ℕ) (name : List ℕ) (i : ℕ) (ps : List Property) → index_of name ≡ Some i → AllByRecursion (λ k. bytes_eq name k ≡ false) (keys_of ps) → AreFresh acc ps → AreFresh (insert_key nat_cmp acc i) ps
 still_fresh acc name i [] e apart fresh = tt
-still_fresh acc name i (p ∷ ps) e apart fresh =
-    (λ j f. absent_inserted acc i j (fresh.0 j f)
-        (λ same. true≢false (sym ((bytes_eq-Decides name p.0).1 ((index_is name i e).is ∙ (ap decimal (sym (ranked j i Equal (sym same))) ∙ sym (index_is p.0 j f).is))) ∙ apart.0)),
-    still_fresh acc name i ps e apart.1 fresh.1)
+still_fresh acc name i (p ∷ ps) e apart fresh = (
+  λ j f. absent_inserted acc i j (fresh.0 j f)
+      (λ same. true≢false (sym ((bytes_eq-Decides name p.0).1 ((index_is name i e).is ∙ (ap decimal (sym (ranked j i Equal (sym same))) ∙ sym (index_is p.0 j f).is))) ∙ apart.0)),
+  still_fresh acc name i ps e apart.1 fresh.1,
+)
 
 names_move : (ps : List Property) (acc : List ℕ) → IsDistinct bytes_eq (keys_of ps) → AreFresh acc ps → IsPermutation (map decimal acc ++ keys_of ps) (map decimal (indices_from acc ps) ++ other_names ps)
 unfolding IsDistinct

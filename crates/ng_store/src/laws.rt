@@ -15,8 +15,7 @@ use ng_base::value::Value;
 pub fn look_found(store: &Store, o: Oid, name: &Txt)
     requires { IsSome (own store.now o.0 name.now) }
     ensures { look store.now o.0 name.now ≡ own store.now o.0 name.now }
-{
-}
+{}
 
 /// Where the object itself hasn't the name, its prototype is asked.
 pub fn look_up(store: &Store, o: Oid, p: Oid, name: &Txt)
@@ -33,8 +32,7 @@ pub fn look_last(store: &Store, o: Oid, name: &Txt)
     requires missing { own store.now o.0 name.now ≡ None }
     requires last { proto_of store.now o.0 ≡ None }
     ensures { look store.now o.0 name.now ≡ None }
-{
-}
+{}
 
 /// Setting a name leaves every other object as it was, and every other name of the object.
 pub fn set_keeps(store: &Store, o: Oid, name: &Txt, v: &Value, q: Oid, other: &Txt)
@@ -42,16 +40,14 @@ pub fn set_keeps(store: &Store, o: Oid, name: &Txt, v: &Value, q: Oid, other: &T
     ensures objects { ¬ (q.0 ≡ o.0) → object_at (set_name store.now o.0 name.now v.now) q.0 ≡ object_at store.now q.0 }
     ensures names { bytes_eq name.now other.now ≡ false → own (set_name store.now o.0 name.now v.now) o.0 other.now ≡ own store.now o.0 other.now }
     ensures value { is_array (object_at store.now o.0).kind ≡ false → own (set_name store.now o.0 name.now v.now) o.0 name.now ≡ Some v.now }
-{
-}
+{}
 
 /// Changing the items of an array leaves every other object as it was.
 pub fn items_keep(store: &Store, o: Oid, items: &[Value], q: Oid)
     requires { o.0 < length store.now }
     ensures objects { ¬ (q.0 ≡ o.0) → object_at (set_items store.now o.0 items.now) q.0 ≡ object_at store.now q.0 }
     ensures items { (object_at (set_items store.now o.0 items.now) o.0).items ≡ items.now }
-{
-}
+{}
 
 /// The names of an object that is no array are those of its properties in another order, and no two are equal.
 pub fn names_once(store: &Store, o: Oid)

@@ -107,6 +107,7 @@ true_of false h = refl
 
 -- two snapshots differ exactly where they are not equal
 pub differs_as_unequal : (t u : ViewTree) (r : Bool) → r ≡ differs t u → IsTrue r ↔ (t ≡ u → ⊥)
-differs_as_unequal t u r e =
-    (λ h k. not_true (same_view t u) (sym e ∙ h) (ap (same_view t) (sym k) ∙ same_view_self t),
-    λ h. e ∙ true_of (same_view t u) (λ k. h (same_view_is t u k)))
+differs_as_unequal t u r e = (
+  λ h k. not_true (same_view t u) (sym e ∙ h) (ap (same_view t) (sym k) ∙ same_view_self t),
+  λ h. e ∙ true_of (same_view t u) (λ k. h (same_view_is t u k)),
+)

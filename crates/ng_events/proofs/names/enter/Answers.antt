@@ -1,10 +1,9 @@
-use Rattle.std.proofs.Common.{◌≡◌, ℕ, List, cond, Some, None, IsSome, refl, sym, ap, ◌∙◌}
+use Rattle.std.proofs.Common.{cond, Some, IsSome, refl, ap, ◌∙◌}
 use Rattle.std.specs.Prelude.{option_and_then}
 use Rattle.std.specs.BTreeMap.{get, get_by, is_at}
 use Rattle.std.specs.Map.{lookup}
 use Rattle.std.specs.Ordering.{is_eq, nat_cmp}
 use Rattle.ng_base.specs.Order.{txt_cmp}
-use Rattle.ng_events.specs.Names.{named}
 use Rattle.ng_events.proofs.Entered.{entered}
 use Rattle.ng_events.proofs.names.enter.Goals as goal
 

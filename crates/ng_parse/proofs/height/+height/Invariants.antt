@@ -1,4 +1,4 @@
-use Rattle.std.proofs.Common.{◌≤◌, map, take, drop, ◌≡◌}
+use Rattle.std.proofs.Common.{◌≤◌, map, drop}
 use Rattle.std.specs.Prelude.{◌↔◌}
 use Rattle.ng_language.specs.Heights.{heights, pair_heights}
 use Rattle.ng_language.specs.Trees.{trees_from, pairs_from}

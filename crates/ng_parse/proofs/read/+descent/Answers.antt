@@ -1,7 +1,5 @@
-use Rattle.std.proofs.Common.{rules, ◌≡◌, ◌≤◌, ◌<◌, ◌+◌, ◌*◌, ◌-◌, ℕ, zero, suc, length, map, arith, ap}
-use Rattle.ng_language.specs.Trees.{trees_from}
+use Rattle.std.proofs.Common.{rules, zero, suc, arith, ap}
 use Rattle.ng_language.specs.Tokens.{tightness}
-use Rattle.ng_parse.specs.TreeOf.{tree, pair_tree}
 use Rattle.ng_parse.proofs.read.+descent.Goals as goal
 
 pub read_statement-returns-in_err-e-clause-read : goal.read_statement-returns-in_err-e-clause-read

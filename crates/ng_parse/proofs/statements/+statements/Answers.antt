@@ -1,4 +1,4 @@
-use Rattle.std.proofs.Common.{rules, ◌≡◌, ◌≤◌, ◌<◌, ◌+◌, ◌*◌, ℕ, zero, suc, length, map, arith}
+use Rattle.std.proofs.Common.{rules, zero, suc, arith}
 use Rattle.ng_parse.proofs.statements.+statements.Goals as goal
 
 pub read_statements-returns-in-Some : goal.read_statements-returns-in-Some

@@ -1,6 +1,6 @@
 use Rattle.std.proofs.Common.{◌≡◌, ◌<◌, ℕ, suc, length}
 use Rattle.ng_language.specs.Lexing.{lexes}
-use Rattle.ng_lex.proofs.lexing.lex.Given as goal
+use Rattle.ng_lex.proofs.lexing.read_tokens.Given as goal
 
 -- with some room for what is left, the rest is read as the whole
 abbrev pub invariant-loop-c : goal.invariant-loop-c
