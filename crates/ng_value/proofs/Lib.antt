@@ -2,3 +2,4 @@ pub mod Orders
 pub mod ViewParts
 pub mod Unfolds
 pub mod Sameness
+pub mod DeepTexts

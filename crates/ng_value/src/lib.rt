@@ -20,6 +20,7 @@ pub mod classes;
 pub mod copies;
 mod index;
 mod json;
+pub mod laws;
 pub mod numbers;
 pub mod operators;
 mod ordering;
