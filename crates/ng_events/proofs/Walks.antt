@@ -1,7 +1,11 @@
 -- Walks that are begun, go on and end.
-use Rattle.std.proofs.Common.{◌≡◌, ◌<◌, ◌≤◌, ◌+◌, ◌-◌, ℕ, List, length, set, Option, Some, None, IsSome, refl, ap, sym, ◌∙◌, arith}
+use Rattle.std.proofs.Common.{◌≡◌, ◌<◌, ◌≤◌, ◌+◌, ◌-◌, ℕ, List, [], ◌∷◌, length, set, Option, Some, None, IsSome, refl, ap, sym, ◌∙◌, arith}
 use Rattle.std.specs.BTreeMap.{BTreeMap}
 use Rattle.ng_base.specs.declared.name.FunId.{FunId}
+use Rattle.std.proofs.Common.{get_or-set_same, zero, suc, false}
+use Rattle.std.specs.Prelude.{is_some}
+use Rattle.ng_events.proofs.Changed.{change-same}
+use Rattle.ng_chain.proofs.Sound.{no_walk}
 use Rattle.ng_chain.specs.Walked.{Walked, walk_at, open_walks, IsRising}
 use Rattle.ng_chain.specs.declared.chain.Span.{Span}
 use Rattle.ng_behaviour.specs.Listeners.{Listener, RiseTo, heard_at}
@@ -84,7 +88,19 @@ hears-open es (Some w) (Some v) (Some id) o h = refl
 pub walked-hears : (xs : List Stand) (i : ℕ) (w new : Option Span) (r : Option FunId) → Hears (entries_of (chain_at xs i).entries) w r new → Hears (heard_at (all_heard xs) i).entries w r new
 walked-hears xs i w new r h = rw (heard-read xs i).0 h
 
+-- only a list that is there has an open walk
+pub open-list : (xs : List Stand) (i k : ℕ) → IsSome (walk_at (walks_on xs i) k) → i < length xs
+open-list [] i k h = absurd (let n : is_some (walk_at (walks_on [] i) k) ≡ false = ap is_some (no_walk k) in cc)
+open-list (x ∷ xs) zero k h = omega arith
+open-list (x ∷ xs) (suc i) k h = let r = open-list xs i k h in omega arith
+
+-- a walk that was begun is open
+pub begun-is_open : (xs : List Stand) (i k : ℕ) → i < length xs → k < length (walks_on xs i) → IsSome (walk_at (walks_on (change_chain xs i (begun k)) i) k)
+begun-is_open xs i k h l =
+    ap (λ (c : Walked Registered). is_some (walk_at c.walks k)) (change-same xs i (begun k) h)
+    ∙ ap is_some (get_or-set_same (walks_on xs i) k (Some (record { place = 0; end = (chain_at xs i).last })) None l)
+
 -- an open walk is one of those that are open
 pub open-counted : (t : Table) (w : EventWalk) → IsOpen t w → 1 ≤ open_of t
 open-counted t Bare o = let q : 0 < t.bare = o in omega arith
-open-counted t (On i w) o = let e = ended-open t.stands i w.slot o.0 o.1 in omega arith
+open-counted t (On i w) o = let e = ended-open t.stands i w.slot (open-list t.stands i w.slot o) o in omega arith

@@ -98,10 +98,10 @@ is_at (suc i) (suc j) = is_at i j
 abbrev pub put_walk : (ℕ → List (Option Span)) → ℕ → ℕ → Option Span → ℕ → List (Option Span)
 put_walk ws i k w j = if is_at i j then slice_set (ws j) k w else ws j
 
--- a walk over the listeners that stand at a scope for a name, or over none
+-- an open walk, over the listeners that stand at a scope for a name, or over none
 abbrev pub IsOpen : Table → EventWalk → Type 0
 IsOpen t Bare = 0 < t.bare
-IsOpen t (On i w) = (i < length t.stands) × IsSome (walk_at (walks_at t i) w.slot)
+IsOpen t (On i w) = IsSome (walk_at (walks_at t i) w.slot)
 
 -- a walk is begun over the list of a scope and a name, where there is one
 abbrev pub Begins : Table → ℕ → List ℕ → EventWalk → Table → Type 0

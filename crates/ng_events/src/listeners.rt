@@ -102,6 +102,7 @@ impl Listeners {
         ensures lists { lists_of self.new ≡ lists_of self.old }
         ensures walk { IfSome result (λ w. Begins self.old scope.0 name.now w self.new) }
         ensures open { IfSome result (λ _. open_of self.new ≡ open_of self.old + 1) }
+        ensures is_open { IfSome result (IsOpen self.new) }
     {
         if self.walks >= 64 {
             return None;

@@ -7,7 +7,7 @@ use Rattle.ng_base.specs.declared.fault.Memory.{Memory}
 use Rattle.ng_base.specs.declared.fault.Memory.TheVariants.{Worn}
 use Rattle.std.specs.BTreeMap.{BTreeMap}
 use Rattle.ng_base.specs.Order.{path_cmp}
-use Rattle.ng_behaviour.specs.Scopes.{Scope, object_at, live_at, children_at, child_path, with_child, dead_under, live_scope, IsScopeTree}
+use Rattle.ng_behaviour.specs.Scopes.{Scope, object_at, live_at, children_at, child_path, with_child, dead_under, live_scope, root_of, IsScopeTree}
 use Rattle.ng_behaviour.specs.ScopeObjects.{AreAmong}
 use Rattle.ng_behaviour.proofs.ScopeTree.{near, grown-length, grown-new, grown-keeps}
 use Rattle.ng_behaviour.proofs.Grown.{tree-grows, live-other, live-new, live-fresh}
@@ -100,3 +100,15 @@ pub among-more : (t : List Scope) (n k : ℕ) → AreAmong n t → n ≤ k → A
 among-more t n k a h = record { below = λ s l. let z = a.below s l in omega arith }
 
 pub ruleset grown = (among-grows, among-more)
+
+-- the root is there
+pub tree-root : (t : List Scope) → IsScopeTree t → 0 < length t
+tree-root t i = i.root
+
+pub among-root : (o n : ℕ) → o < n → AreAmong n (root_of o)
+among-root o n h = record { below = λ s l. only s l }
+  where
+    only : (s : ℕ) → s < 1 → object_at (root_of o) s < n
+    only s l = let q : s ≡ 0 = omega arith in rw q h
+
+pub ruleset sizes = (tree-root, among-root)

@@ -269,3 +269,6 @@ impl Scopes {
         }
     }
 }
+
+#[cfg(test)]
+mod tests;

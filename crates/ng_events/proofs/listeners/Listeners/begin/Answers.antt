@@ -3,7 +3,7 @@ use Rattle.ng_behaviour.specs.Listeners.{place_of}
 use Rattle.ng_events.specs.declared.stands.EventWalk.TheVariants.{On}
 use Rattle.ng_events.specs.Stands.{Table, Begins, open_of, open_on, lists_of, all_heard, walks_on}
 use Rattle.ng_events.proofs.Changed.{place-within}
-use Rattle.ng_events.proofs.Walks.{room, sound-begun, begun-lists, begun-walks, begun-open, heard-rising}
+use Rattle.ng_events.proofs.Walks.{begun-is_open, room, sound-begun, begun-lists, begun-walks, begun-open, heard-rising}
 use Rattle.ng_events.proofs.listeners.Listeners.begin.Goals as goal
 
 pub walk_in-requires : goal.walk_in-requires
@@ -43,3 +43,9 @@ returns-in-Some-walk_in-clause-open c =
     let e : open_on c.walk_in.new.stands.items ≡ open_on c.self.inside.stands.items + 1 = ap open_on w.2 ∙ begun-open c.self.inside.stands.items c.in-Some.list c.in-Some-walk_in.walk.slot h w.1 w.0 in
     let f : open_on c.walk_in.new.stands.items + c.self.inside.bare ≡ open_of old + 1 = omega arith in
     f ∙ ap (λ (t : Table). open_of t + 1) c.self.view_is
+
+pub returns-in-Some-walk_in-clause-is_open : goal.returns-in-Some-walk_in-clause-is_open
+returns-in-Some-walk_in-clause-is_open c =
+    let h = place-within c.self.inside.stands.items c.args.scope.0 c.in-Some.list c.args.name.now (sym (c.self.invariant.places c.args.scope.0 c.args.name.now) ∙ sym c.in-Some.ensures) in
+    let w = c.in-Some-walk_in.ensures.walk in
+    rw w.2 (begun-is_open c.self.inside.stands.items c.in-Some.list c.in-Some-walk_in.walk.slot h w.1)

@@ -2,7 +2,7 @@ use Rattle.std.proofs.Common.{◌≡◌, ◌≤◌, ◌+◌, None, refl, ap, ◌
 use Rattle.ng_events.specs.declared.stands.EventWalk.{EventWalk}
 use Rattle.ng_events.specs.declared.stands.EventWalk.TheVariants.{On}
 use Rattle.ng_events.specs.Stands.{Table, IsOpen, Ends, open_of, open_on, lists_of, all_heard, walks_on}
-use Rattle.ng_events.proofs.Walks.{open-counted, sound-ended, walked-lists, walked-walks, ended-open}
+use Rattle.ng_events.proofs.Walks.{open-list, open-counted, sound-ended, walked-lists, walked-walks, ended-open}
 use Rattle.ng_events.proofs.listeners.Listeners.end.Goals as goal
 
 pub overflow_sub-self : goal.overflow_sub-self
@@ -16,7 +16,7 @@ invariant_of-self-in-On c =
     let o : IsOpen (record { stands = c.self.inside.stands.items; bare = c.self.inside.bare }) (On c.in-On.list c.in-On.walk) =
     subst (λ (t : Table). IsOpen t (On c.in-On.list c.in-On.walk)) (sym c.self.view_is) (subst (λ (v : EventWalk). IsOpen c.args.self.now v) c.in-On.is c.requires.open) in
     rw c.close_in.ensures
-    (sound-ended c.self.inside.stands.items c.self.inside.names c.self.inside.homes c.self.inside.walks c.self.inside.bare c.in-On.list c.in-On.walk.slot c.self.invariant o.0 o.1)
+    (sound-ended c.self.inside.stands.items c.self.inside.names c.self.inside.homes c.self.inside.walks c.self.inside.bare c.in-On.list c.in-On.walk.slot c.self.invariant (open-list c.self.inside.stands.items c.in-On.list c.in-On.walk.slot o) o)
 
 pub returns-in-On-clause-lists : goal.returns-in-On-clause-lists
 returns-in-On-clause-lists c =
@@ -29,14 +29,21 @@ returns-in-On-clause-ends c =
     let o : IsOpen old (On c.in-On.list c.in-On.walk) =
     subst (λ (t : Table). IsOpen t (On c.in-On.list c.in-On.walk)) (sym c.self.view_is) (subst (λ (v : EventWalk). IsOpen c.args.self.now v) c.in-On.is c.requires.open) in
     subst (λ (t : Table). Ends t c.args.w new) c.self.view_is
-    (subst (λ (v : EventWalk). Ends old v new) (sym c.in-On.is) (refl, ap walks_on c.close_in.ensures ∙ walked-walks c.self.inside.stands.items c.in-On.list c.in-On.walk.slot None o.0))
+    (subst (λ (v : EventWalk). Ends old v new) (sym c.in-On.is) (refl, ap walks_on c.close_in.ensures ∙ walked-walks c.self.inside.stands.items c.in-On.list c.in-On.walk.slot None (open-list c.self.inside.stands.items c.in-On.list c.in-On.walk.slot o)))
 
 pub returns-in-On-clause-open : goal.returns-in-On-clause-open
 returns-in-On-clause-open c =
     let old : Table = record { stands = c.self.inside.stands.items; bare = c.self.inside.bare } in
     let o : IsOpen old (On c.in-On.list c.in-On.walk) =
     subst (λ (t : Table). IsOpen t (On c.in-On.list c.in-On.walk)) (sym c.self.view_is) (subst (λ (v : EventWalk). IsOpen c.args.self.now v) c.in-On.is c.requires.open) in
-    let e = ended-open c.self.inside.stands.items c.in-On.list c.in-On.walk.slot o.0 o.1 in
+    let e = ended-open c.self.inside.stands.items c.in-On.list c.in-On.walk.slot (open-list c.self.inside.stands.items c.in-On.list c.in-On.walk.slot o) o in
     let d : open_on c.close_in.new.stands.items + 1 ≡ open_on c.self.inside.stands.items = ap (λ xs. open_on xs + 1) c.close_in.ensures ∙ e in
     let f : open_on c.close_in.new.stands.items + c.self.inside.bare + 1 ≡ open_of old = omega arith in
     f ∙ ap open_of c.self.view_is
+
+pub close_in-requires-clause-within : goal.close_in-requires-clause-within
+close_in-requires-clause-within c =
+    let o : IsOpen (record { stands = c.self.inside.stands.items; bare = c.self.inside.bare }) (On c.in-On.list c.in-On.walk) =
+    subst (λ (t : Table). IsOpen t (On c.in-On.list c.in-On.walk)) (sym c.self.view_is) (subst (λ (v : EventWalk). IsOpen c.args.self.now v) c.in-On.is c.requires.open) in
+    let h = open-list c.self.inside.stands.items c.in-On.list c.in-On.walk.slot o in
+    grind arith
