@@ -13,5 +13,4 @@ pub fn same_deep_same_text<H: Heap>(one: &H, a: &View, other: &H, b: &View, kept
     requires first { snapshot Deep (H.objects one.now) (view_of a.now) ≡ Ok (view_of kept.now) }
     requires second { snapshot Deep (H.objects other.now) (view_of b.now) ≡ Ok (view_of kept.now) }
     ensures { to_text (H.objects one.now) (view_of a.now) ≡ to_text (H.objects other.now) (view_of b.now) }
-{
-}
+{}
