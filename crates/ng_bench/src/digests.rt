@@ -1,0 +1,23 @@
+//! A clean digest behind one in which each watcher fired.
+use ng_digest::board::{Board, Watch};
+use ng_digest::sheet::Sheet;
+use std::alloc::Global;
+
+/// How many tests the clean digest made.
+pub(crate) fn tested(alloc: Global, size: u64) -> Option<u64> {
+    let numbers = [0];
+    let mut board = Board::of(alloc, &numbers, &[], &[]).ok()?;
+    for _ in 0..size {
+        let watch = Watch {
+            live: true,
+            place: 0,
+            body: 0,
+            kept: None,
+        };
+        board.watches.push(watch).ok()?;
+    }
+    let mut sheet = Sheet::new(board);
+    let _ = sheet.run().ok()?;
+    let report = sheet.run().ok()?;
+    Some(report.tests)
+}
