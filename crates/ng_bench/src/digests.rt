@@ -1,12 +1,19 @@
 //! A clean digest behind one in which each watcher fired.
-use ng_digest::board::{Board, Watch};
+use ng_digest::board::{Act, Board, Body, Watch};
 use ng_digest::sheet::Sheet;
 use std::alloc::Global;
+
+/// A body that does nothing.
+const QUIET: Body = Body {
+    first: Act::Rest,
+    second: Act::Rest,
+    third: Act::Rest,
+};
 
 /// How many tests the clean digest made.
 pub(crate) fn tested(alloc: Global, size: u64) -> Option<u64> {
     let numbers = [0];
-    let mut board = Board::of(alloc, &numbers, &[], &[]).ok()?;
+    let mut board = Board::of(alloc, &numbers, &[], &[QUIET]).ok()?;
     for _ in 0..size {
         let watch = Watch {
             live: true,
