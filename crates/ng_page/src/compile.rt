@@ -141,7 +141,7 @@ fn is_later_in(store: &Store, root: Oid, piece: &Piece) -> bool
 }
 
 /// Tests the paths of a part, and gives the places behind it.
-#[cycle(test)]
+#[cycle(check)]
 fn check_part<'a>(
     store: &Store,
     root: Oid,
@@ -168,7 +168,7 @@ fn check_part<'a>(
 }
 
 /// Tests the paths of all parts, and gives the places behind them.
-#[cycle(test)]
+#[cycle(check)]
 fn check<'a>(
     store: &Store,
     root: Oid,
