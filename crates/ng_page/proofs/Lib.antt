@@ -4,5 +4,5 @@ pub mod Turns
 pub mod Rounds
 pub mod Json
 pub mod Builds
-pub mod Names
+pub mod CoreNames
 pub mod Marks

@@ -59,7 +59,7 @@ fn behind_data<'a>(name: &Plain<'a>) -> Option<Plain<'a>>
 
 /// A name without such a front.
 fn without_prefix<'a>(name: Plain<'a>) -> Plain<'a>
-    ensures { result ≡ without_prefix_of name }
+    ensures { result ≡ without_prefix_of name.entry }
 {
     if let Some(rest) = behind_x(&name) {
         return rest;
@@ -115,7 +115,7 @@ fn push_camel(into: &mut Txt, mut name: Plain<'_>) -> Result<(), AllocError>
 
 /// A name in camel case.
 fn camel(alloc: Global, name: Plain<'_>) -> Result<Txt, AllocError>
-    ensures { IfOk result (λ t. t ≡ camel_of name) }
+    ensures { IfOk result (λ t. t ≡ camel_of name.entry) }
 {
     let mut text = Txt::new(alloc);
     if let Some((c, rest)) = name.first() {
@@ -181,7 +181,7 @@ fn kind_of_directive(name: &Txt) -> NameKind
 }
 
 /// What a name is to the core.
-#[tactic(auto, using(crate::proofs::Names::others))]
+#[tactic(auto, using(crate::proofs::CoreNames::others))]
 pub fn kind_of(alloc: Global, name: &Txt) -> Result<NameKind, AllocError>
     ensures { IfOk result (λ k. k ≡ kind_of_name name.now) }
 {
