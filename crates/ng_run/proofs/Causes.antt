@@ -235,17 +235,17 @@ page_settled status None h = tt
 page_settled status (Some p) h = h.1
 
 pub page_status : (status : ℕ) (o : Option Page) → HasPage status (option_map state_of o) → IsSome o → (status ≡ 0) ⊎ (status ≡ 1)
-page_status status None h is = absurd is
+page_status status None h is = absurd (cc)
 page_status status (Some p) (inl e, s) is = inl e
 page_status status (Some p) (inr e, s) is = inr e.0
 
 pub page_stands : (status : ℕ) (o : Option Page) → HasPage status (option_map state_of o) → status ≡ 0 → IsSome o
 page_stands status None h e = absurd (h.0 e)
-page_stands status (Some p) h e = tt
+page_stands status (Some p) h e = refl
 
 pub page_stands_faulted : (status : ℕ) (o : Option Page) → HasPage status (option_map state_of o) → status ≡ 1 → IsSome o
 page_stands_faulted status None h e = absurd (h.1 e)
-page_stands_faulted status (Some p) h e = tt
+page_stands_faulted status (Some p) h e = refl
 
 pub page_empty : (status : ℕ) (o : Option Page) → HasPage status (option_map state_of o) → IfSome o (λ p. document_of p ≡ shown (state_of p).parts) → status ≡ 1
     → IfSome o (λ p. document_of p ≡ no_nodes)

@@ -108,9 +108,12 @@ fault_name fault.ImpureCall = codes "ImpureCall"
 fault_name (fault.Memory m) = codes "Memory"
 
 -- the line of a program that handed over so many faults, of which this is the first
+abbrev pub fault_line : ℕ → Fault → List ℕ
+fault_line count f = codes "action: fault " ++ decimal count ++ codes " " ++ fault_name f ++ codes "\n"
+
 abbrev pub action_line : ℕ → Option Fault → List ℕ
 action_line count None = []
-action_line count (Some f) = codes "action: fault " ++ decimal count ++ codes " " ++ fault_name f ++ codes "\n"
+action_line count (Some f) = fault_line count f
 
 -- a step with a fault
 abbrev pub step_status : Option Fault → ℕ

@@ -43,7 +43,7 @@ fn open(alloc: Global, template: Tpl, app: App) -> Result<Reply, Memory>
     let (page, outcome) = Page::start(alloc, template, app)?;
     let mut bytes = Vec::new(alloc);
     bytes.extend_from_slice("# 0 open\n".as_bytes())?;
-    push_action(&mut bytes, outcome.faults, &outcome.first)?;
+    push_action(alloc, &mut bytes, outcome.faults, &outcome.first)?;
     page.print(&mut bytes)?;
     bytes.extend_from_slice("\n".as_bytes())?;
     Ok(Reply {
