@@ -4,3 +4,5 @@ pub mod Turns
 pub mod Rounds
 pub mod Json
 pub mod Builds
+pub mod CoreNames
+pub mod Marks

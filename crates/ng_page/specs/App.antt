@@ -1,9 +1,9 @@
 -- What an application file is: its data in a store, or the first refusal.
-use Rattle.std.specs.Prelude.{ℕ, Bool, true, false, ◌&&◌, List, [], ◌∷◌, codes, Option, None, Some, is_some, option_map, Result, Ok, Err, if◌then◌else◌}
+use Rattle.std.specs.Prelude.{ℕ, Bool, true, false, ◌==◌, ◌&&◌, List, [], ◌∷◌, codes, Option, None, Some, is_some, option_map, option_and_then, Result, Ok, Err, if◌then◌else◌}
 use Rattle.std.specs.Str.{bytes_eq, is_utf8}
 use Rattle.serde_json.specs.Data.{Data, object, Members, no_members, member}
 use Rattle.serde_json.specs.Read.{read}
-use Rattle.serde_json.specs.Find.{as_object, get_member}
+use Rattle.serde_json.specs.Find.{as_number, as_u64, as_object, get_member}
 use Rattle.ng_base.specs.Objects.{Object}
 use Rattle.ng_base.specs.declared.value.Value.{Value}
 use Rattle.ng_store.specs.Json.{json_value, with_json}
@@ -45,8 +45,7 @@ has n ms = is_some (get_member n ms)
 -- the first member, in the order of the table, that is there and not built yet
 abbrev pub first_later : Members → Option Member
 first_later ms =
-    if has (codes "format") ms then Some the.Format
-    else if has (codes "templates") ms then Some the.Templates
+    if has (codes "templates") ms then Some the.Templates
     else if has (codes "directives") ms then Some the.Directives
     else if has (codes "functions") ms then Some the.Functions
     else if has (codes "run") ms then Some the.Run
@@ -83,9 +82,21 @@ abbrev pub facts_of_data : Option Data → Result Facts AppFault
 facts_of_data None = facts_of_members (Some no_members)
 facts_of_data (Some d) = facts_of_members (as_object d)
 
+-- the one format is the whole number 1, which is meant too where none is named
+abbrev pub is_one : Option ℕ → Bool
+is_one None = false
+is_one (Some n) = n == 1
+
+abbrev pub is_format : Option Data → Bool
+is_format None = true
+is_format (Some d) = is_one (option_and_then as_u64 (as_number d))
+
+abbrev pub facts_of_format : Option Data → Option Data → Result Facts AppFault
+facts_of_format format facts = if is_format format then facts_of_data facts else Err (fault the.Format kind.Shape)
+
 abbrev pub facts_unless_later : Members → Option Member → Result Facts AppFault
 facts_unless_later ms (Some m) = Err (fault m kind.Later)
-facts_unless_later ms None = facts_of_data (get_member (codes "data") ms)
+facts_unless_later ms None = facts_of_format (get_member (codes "format") ms) (get_member (codes "data") ms)
 
 abbrev pub facts_of_object : Option Members → Result Facts AppFault
 facts_of_object None = Err (fault the.File kind.Shape)

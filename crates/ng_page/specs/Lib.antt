@@ -3,6 +3,9 @@ pub mod PieceOf
 pub mod Seen
 pub mod App
 pub mod Facts
+pub mod Names
+pub mod Texts
+pub mod Cloak
 pub mod Compiles
 pub mod TemplateOf
 pub mod State

@@ -15,12 +15,15 @@
 #![tactic(auto)]
 
 pub mod app;
+pub mod attributes;
 pub mod compile;
 pub mod draw;
 pub mod fault;
 pub mod follow;
+pub mod names;
 pub mod page;
 pub mod parts;
 pub mod read_app;
 pub mod round;
+pub mod texts;
 pub mod tpl;

@@ -1,10 +1,11 @@
-//! The application file: JSON whose member `data` becomes the properties of the root scope.
+//! The application file: JSON whose member `data` becomes the properties of the root scope, in the one format that
+//! there is.
 ghost use Rattle.std.specs.Prelude.{◌≡◌, ◌<◌, [], codes, length, Some, None, option_map, is_some, Ok, Err, IfSome, MatchResult, MatchOption};
 ghost use Rattle.serde_json.specs.Data.{object, no_members};
 ghost use Rattle.serde_json.specs.Find.{as_object, get_member};
 ghost use Rattle.serde_json.specs.View.{view, members_view};
 ghost use Rattle.ng_base.specs.Meets.{Gives};
-ghost use Rattle.ng_page.specs.App.{fault as app_fault, member_named, are_known, has, first_later, without, read_members, put_data, facts_of_members, facts_of_data, facts_unless_later, facts_of_object, facts_of};
+ghost use Rattle.ng_page.specs.App.{fault as app_fault, member_named, are_known, has, first_later, is_one as is_one_of, is_format, without, read_members, put_data, facts_of_members, facts_of_data, facts_unless_later, facts_of_object, facts_of};
 ghost use Rattle.ng_store.specs.Json.{json_value};
 ghost use Rattle.ng_page.specs.Free.{is_app_want};
 ghost use Rattle.ng_page.specs.Facts.{facts};
@@ -64,13 +65,37 @@ fn is_there(members: &Map<String, Json>, name: &str) -> bool
     members.get(name).is_some()
 }
 
+/// The value of a member.
+fn member<'a>(members: &'a Map<String, Json>, name: &str) -> Option<&'a Json>
+    ensures { option_map (λ v. view v.now) result ≡ get_member name.now (members_view members.now.entries) }
+{
+    members.get(name)
+}
+
+fn is_one(number: Option<u64>) -> bool
+    ensures { result ≡ is_one_of number }
+{
+    match number {
+        None => false,
+        Some(n) => n == 1,
+    }
+}
+
+/// Whether the format that is named, if one is, is 1.
+fn has_format(members: &Map<String, Json>) -> bool
+    ensures { result ≡ is_format (get_member (codes "format") (members_view members.now.entries)) }
+{
+    match member(members, "format") {
+        None => true,
+        Some(value) => is_one(value.as_u64()),
+    }
+}
+
 /// The first member, in the order of the table, that is there and not built yet.
 fn later_member(members: &Map<String, Json>) -> Option<Member>
     ensures { result ≡ first_later (members_view members.now.entries) }
 {
-    if is_there(members, "format") {
-        Some(Member::Format)
-    } else if is_there(members, "templates") {
+    if is_there(members, "templates") {
         Some(Member::Templates)
     } else if is_there(members, "directives") {
         Some(Member::Directives)
@@ -141,6 +166,9 @@ fn read_members_of(alloc: Global, members: Map<String, Json>) -> Result<App, App
     if let Some(later) = later_member(&members) {
         return Err(fault(later, AppKind::Later));
     }
+    if !has_format(&members) {
+        return Err(fault(Member::Format, AppKind::Shape));
+    }
     let mut read = members;
     let found = take_out(&mut read, "data");
     read_data(alloc, found)
@@ -175,10 +203,10 @@ fn parsed(alloc: Global, bytes: &[u8]) -> Result<Json, AppFault>
 }
 
 impl App {
-    /// Reads an application file: a JSON object whose member `data`, if it is there, is an object of the root
-    /// scope's properties. The refusals come in this order: JSON that is broken; no object, or a member of
-    /// another name; a member that is not built yet; `data` that is no object; a number that is not whole or out
-    /// of range; more than 1,000,000 objects and arrays.
+    /// Reads an application file: a JSON object whose member `format`, if it is there, is 1, and whose member `data`,
+    /// if it is there, is an object of the root scope's properties. The refusals come in this order: JSON that is
+    /// broken; no object, or a member of another name; a member that is not built yet; a `format` other than 1;
+    /// `data` that is no object; a number that is not whole or out of range; more than 1,000,000 objects and arrays.
     pub fn read(alloc: Global, bytes: &[u8]) -> Result<App, AppFault>
         ensures { Gives is_app_want facts (facts_of bytes.now) result }
     {

@@ -1,10 +1,11 @@
 -- What is proved of pages by their definitions alone.
-use Rattle.std.specs.Prelude.{◌≡◌, false, List}
+use Rattle.std.specs.Prelude.{◌≡◌, ◌≤◌, false, List}
 use Rattle.ng_base.specs.declared.value.Value.{Value}
 use Rattle.ng_base.specs.Objects.{Object}
 use Rattle.ng_pages.specs.Parts.{Parts}
-use Rattle.ng_pages.specs.Drawing.{shown, rendering}
+use Rattle.ng_pages.specs.Drawing.{Look, draw, shown, rendering}
 use Rattle.ng_pages.specs.Digest.{is_dirty, tested, settled}
+use Rattle.ng_pages.specs.Nodes.{forest_count, nodes, node_limit, linked}
 
 -- after a round over unchanged data no watcher is dirty
 abbrev pub RoundSettles : Type 0
@@ -27,3 +28,11 @@ DigestSettles = (objects : List Object) (root : Value) (parts : Parts) → is_di
 -- after a digest the page shows the rendering of its template
 abbrev pub DigestShowsRendering : Type 0
 DigestShowsRendering = (objects : List Object) (root : Value) (parts : Parts) → shown (settled objects root parts) ≡ rendering objects root parts
+
+-- the nodes of a page are those of its document, whatever its watchers have kept
+abbrev pub DrawingHasItsNodes : Type 0
+DrawingHasItsNodes = (look : Look) (parts : Parts) → forest_count (draw look parts) ≡ nodes parts
+
+-- no page that was linked has more nodes than the limit
+abbrev pub LinkedIsWithinLimit : Type 0
+LinkedIsWithinLimit = (look : Look) (template : Parts) → forest_count (draw look (linked template)) ≤ node_limit

@@ -2,4 +2,5 @@ pub mod Parts
 pub mod Paths
 pub mod Drawing
 pub mod Digest
+pub mod Nodes
 pub mod Laws

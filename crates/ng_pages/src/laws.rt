@@ -1,5 +1,5 @@
 //! Laws of pages. Each function's contract is the law.
-ghost use Rattle.ng_pages.specs.Laws.{RoundSettles, SettledShowsRendering, RoundKeepsRendering, DigestSettles, DigestShowsRendering};
+ghost use Rattle.ng_pages.specs.Laws.{RoundSettles, SettledShowsRendering, RoundKeepsRendering, DigestSettles, DigestShowsRendering, DrawingHasItsNodes, LinkedIsWithinLimit};
 
 /// After a round over unchanged data no watcher is dirty.
 pub fn round_settles()
@@ -24,4 +24,14 @@ pub fn digest_settles()
 /// After a digest the page shows the rendering of its template.
 pub fn digest_shows_rendering()
     ensures { DigestShowsRendering }
+{}
+
+/// The nodes of a page are those of its document, whatever its watchers have kept.
+pub fn drawing_has_its_nodes()
+    ensures { DrawingHasItsNodes }
+{}
+
+/// No page that was linked has more nodes than the limit.
+pub fn linked_is_within_limit()
+    ensures { LinkedIsWithinLimit }
 {}

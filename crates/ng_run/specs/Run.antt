@@ -7,6 +7,7 @@ use Rattle.ng_html.specs.Reading.{read_bytes}
 use Rattle.ng_html.specs.declared.fault.HtmlFault.{HtmlFault}
 use Rattle.ng_pages.specs.Parts.{Parts}
 use Rattle.ng_pages.specs.Digest.{is_dirty}
+use Rattle.ng_pages.specs.Nodes.{nodes, node_limit}
 use Rattle.ng_page.specs.App.{Facts, facts_of}
 use Rattle.ng_page.specs.Compiles.{compiled}
 use Rattle.ng_page.specs.State.{State}
@@ -90,18 +91,30 @@ TemplateRefused t a =
 abbrev pub ApplicationRefused : List ℕ → List ℕ → Type 0
 ApplicationRefused t a = (s : Forest × List ℕ) × (f : AppFault) × (read_bytes t ≡ Ok s) × (facts_of a ≡ Err f)
 
--- both are accepted
+-- both are accepted, and the template has so many nodes
+abbrev pub AcceptedWith : (ℕ → Type 0) → List ℕ → List ℕ → Type 0
+AcceptedWith Count t a =
+    (s : Forest × List ℕ) × (facts : Facts) × (template : Parts) × (read_bytes t ≡ Ok s) × (facts_of a ≡ Ok facts) × (compiled facts s ≡ Ok template) × Count (nodes template)
+
 abbrev pub Accepted : List ℕ → List ℕ → Type 0
-Accepted t a = (s : Forest × List ℕ) × (facts : Facts) × (template : Parts) × (read_bytes t ≡ Ok s) × (facts_of a ≡ Ok facts) × (compiled facts s ≡ Ok template)
+Accepted t a = AcceptedWith (λ count. count ≤ node_limit) t a
+
+-- both are accepted, and the page would have more nodes than it may
+abbrev pub TooManyNodes : List ℕ → List ℕ → Type 0
+TooManyNodes t a = AcceptedWith (λ count. node_limit < count) t a
 
 -- the status says which: each cause has its status, and one of the causes is there
 abbrev pub Causes : List ℕ → List ℕ → ℕ → Type 0
 Causes t a status =
-    (((status ≡ 0) × Accepted t a) ⊎ ((status ≡ 3) × TemplateRefused t a)) ⊎ ((status ≡ 4) × ApplicationRefused t a)
+    (((status ≡ 0) × Accepted t a) ⊎ ((status ≡ 1) × TooManyNodes t a)) ⊎ (((status ≡ 3) × TemplateRefused t a) ⊎ ((status ≡ 4) × ApplicationRefused t a))
 
 -- where no fetch failed, the status has its cause in the two files
 abbrev pub HasCause : Files → Telling → List (List ℕ) → List (List ℕ) → ℕ → Type 0
 HasCause files told before now status = (t a : List ℕ) → Has files told t a → now ≡ before → Causes t a status
+
+-- where no fetch failed, the status is 1 exactly where the page would have too many nodes
+abbrev pub FaultsByNodes : Files → Telling → List (List ℕ) → List (List ℕ) → ℕ → Type 0
+FaultsByNodes files told before now status = (t a : List ℕ) → Has files told t a → now ≡ before → TooManyNodes t a → status ≡ 1
 
 -- no watcher of a page is dirty
 abbrev pub IsSettled : State → Type 0

@@ -8,9 +8,10 @@ use Rattle.ng_html.specs.declared.fault.HtmlKind.{HtmlKind}
 use Rattle.ng_html.specs.declared.fault.HtmlKind.TheVariants as html
 use Rattle.ng_pages.specs.Parts.{Parts}
 use Rattle.ng_pages.specs.Drawing.{rendering}
+use Rattle.ng_pages.specs.Nodes.{link_fault, linked}
 use Rattle.ng_page.specs.App.{Facts, facts_of}
 use Rattle.ng_page.specs.Compiles.{compiled}
-use Rattle.ng_page.specs.State.{State, started}
+use Rattle.ng_page.specs.State.{State, started, fault_count}
 use Rattle.ng_page.specs.declared.fault.Member.{Member}
 use Rattle.ng_page.specs.declared.fault.Member.TheVariants as the
 use Rattle.ng_page.specs.declared.fault.AppKind.{AppKind}
@@ -20,6 +21,8 @@ use Rattle.ng_page.specs.declared.fault.TplKind.{TplKind}
 use Rattle.ng_page.specs.declared.fault.TplKind.TheVariants as tpl
 use Rattle.ng_page.specs.declared.fault.TplFault.{TplFault}
 use Rattle.ng_base.specs.Outside.{longest}
+use Rattle.ng_base.specs.declared.fault.Fault.{Fault}
+use Rattle.ng_base.specs.declared.fault.Fault.TheVariants as fault
 
 -- a status, the bytes that are written, and the page as the last step left it
 pub record Reply : Type 0 where
@@ -86,10 +89,45 @@ template_line place name = line 3 (codes "template: " ++ decimal place ++ codes 
 abbrev pub application_line : AppFault → Reply
 application_line f = line 4 (codes "application: " ++ member_name f.member ++ codes " " ++ decimal f.item ++ codes " " ++ app_name f.kind)
 
--- the step that opens the page: its header, and the rendering on one line
+abbrev pub fault_name : Fault → List ℕ
+fault_name fault.NotWhole = codes "NotWhole"
+fault_name fault.Range = codes "Range"
+fault_name fault.NotAFunction = codes "NotAFunction"
+fault_name fault.NotAssignable = codes "NotAssignable"
+fault_name fault.Dupes = codes "Dupes"
+fault_name fault.TooBig = codes "TooBig"
+fault_name fault.Depth = codes "Depth"
+fault_name fault.CallLimit = codes "CallLimit"
+fault_name fault.StoreFull = codes "StoreFull"
+fault_name fault.NodeLimit = codes "NodeLimit"
+fault_name fault.NoTemplate = codes "NoTemplate"
+fault_name fault.InProgress = codes "InProgress"
+fault_name fault.Syntax = codes "Syntax"
+fault_name fault.OutOfProfile = codes "OutOfProfile"
+fault_name fault.ImpureCall = codes "ImpureCall"
+fault_name (fault.Memory m) = codes "Memory"
+
+-- the line of a program that handed over so many faults, of which this is the first
+abbrev pub fault_line : ℕ → Fault → List ℕ
+fault_line count f = codes "action: fault " ++ decimal count ++ codes " " ++ fault_name f ++ codes "\n"
+
+abbrev pub action_line : ℕ → Option Fault → List ℕ
+action_line count None = []
+action_line count (Some f) = fault_line count f
+
+-- a step with a fault
+abbrev pub step_status : Option Fault → ℕ
+step_status None = 0
+step_status (Some f) = 1
+
+-- the step that opens the page: its header, the fault of linking, and the rendering of what was linked on one line
 abbrev pub opened : Facts → Parts → State → Reply
-opened facts template state =
-    record { status = 0; bytes = codes "# 0 open\n" ++ encode_utf8_all (print (rendering facts.1 facts.0 template)) ++ codes "\n"; page = Some state }
+opened facts template state = record {
+    status = step_status (link_fault template);
+    bytes = codes "# 0 open\n" ++ action_line (fault_count (link_fault template)) (link_fault template)
+        ++ encode_utf8_all (print (rendering facts.1 facts.0 (linked template))) ++ codes "\n";
+    page = Some state;
+  }
 
 abbrev pub compiled_then : Facts → Result Parts TplFault → Reply
 compiled_then facts (Ok template) = opened facts template (started facts template)

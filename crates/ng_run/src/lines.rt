@@ -2,10 +2,10 @@
 ghost use Rattle.std.specs.Prelude.{◌≡◌, ◌++◌, codes, IfOk, OnOk};
 ghost use Rattle.std.specs.Fmt.{decimal};
 ghost use Rattle.ng_run.specs.ReplyOf.{reply_of, IsDrawn};
-ghost use Rattle.ng_run.specs.Session.{line as line_of, html_name, tpl_name, member_name, app_name, template_line as template_line_of, application_line as application_line_of};
+ghost use Rattle.ng_run.specs.Session.{line as line_of, fault_name, fault_line as fault_line_of, action_line, html_name, tpl_name, member_name, app_name, template_line as template_line_of, application_line as application_line_of};
 
 use crate::reply::Reply;
-use ng_base::fault::Memory;
+use ng_base::fault::Fault;
 use ng_html::fault::HtmlKind;
 use ng_page::fault::{AppFault, AppKind, Member, TplKind};
 use std::alloc::{AllocError, Global};
@@ -125,6 +125,62 @@ fn app_word(kind: &AppKind) -> &'static str
         AppKind::Later => "Later",
         AppKind::Memory(_) => "Memory",
     }
+}
+
+/// The name of a fault.
+fn fault_word(fault: &Fault) -> &'static str
+    ensures { result.now ≡ fault_name fault.now }
+{
+    match fault {
+        Fault::NotWhole => "NotWhole",
+        Fault::Range => "Range",
+        Fault::NotAFunction => "NotAFunction",
+        Fault::NotAssignable => "NotAssignable",
+        Fault::Dupes => "Dupes",
+        Fault::TooBig => "TooBig",
+        Fault::Depth => "Depth",
+        Fault::CallLimit => "CallLimit",
+        Fault::StoreFull => "StoreFull",
+        Fault::NodeLimit => "NodeLimit",
+        Fault::NoTemplate => "NoTemplate",
+        Fault::InProgress => "InProgress",
+        Fault::Syntax => "Syntax",
+        Fault::OutOfProfile => "OutOfProfile",
+        Fault::ImpureCall => "ImpureCall",
+        Fault::Memory(_) => "Memory",
+    }
+}
+
+/// The line of a program that handed over so many faults, of which this is the first.
+fn fault_line(alloc: Global, count: u32, fault: &Fault) -> Result<Vec<u8>, AllocError>
+    ensures { IfOk result (λ v. v.items ≡ fault_line_of count fault.now) }
+{
+    let mut bytes = Vec::new(alloc);
+    bytes.extend_from_slice("action: fault ".as_bytes())?;
+    push_number(&mut bytes, u64::from(count))?;
+    bytes.extend_from_slice(" ".as_bytes())?;
+    bytes.extend_from_slice(fault_word(fault).as_bytes())?;
+    bytes.extend_from_slice("\n".as_bytes())?;
+    Ok(bytes)
+}
+
+/// Adds that line, where there is a fault.
+pub(crate) fn push_action(
+    alloc: Global,
+    into: &mut Vec<u8>,
+    count: u32,
+    first: &Option<Fault>,
+) -> Result<(), AllocError>
+    ensures { OnOk result (into.new.items ≡ into.old.items ++ action_line count first.now) }
+{
+    match first {
+        None => {}
+        Some(fault) => {
+            let line = fault_line(alloc, count, fault)?;
+            into.extend_from_slice(line.as_slice())?;
+        }
+    }
+    Ok(())
 }
 
 /// The line of a refused template.

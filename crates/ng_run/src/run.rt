@@ -1,12 +1,13 @@
 //! The top call.
-ghost use Rattle.std.specs.Prelude.{◌≡◌, ◌≢◌, [], Some, None, option_map, IsSome};
+ghost use Rattle.std.specs.Prelude.{◌≡◌, ◌≢◌, ◌⊎◌, [], Some, None, option_map, IsSome};
 ghost use Rattle.std.specs.Option.{IfSome};
 ghost use Rattle.std.specs.Io.KnownBytes.{Appends};
 ghost use Rattle.ng_base.specs.Outside.{Rose};
+ghost use Rattle.ng_markup.specs.Forest.{no_nodes};
 ghost use Rattle.ng_page.specs.PageOf.{state_of, document_of};
 ghost use Rattle.ng_pages.specs.Drawing.{shown};
 ghost use Rattle.ng_run.specs.Session.{names_of};
-ghost use Rattle.ng_run.specs.Run.{Told, Began, RunsSession, HasCause, FetchFailed, LongFile, HasLong, IsSettled};
+ghost use Rattle.ng_run.specs.Run.{Told, Began, RunsSession, HasCause, FaultsByNodes, FetchFailed, LongFile, HasLong, IsSettled};
 
 use crate::answer::answer;
 use ng_base::outside::{Shelf, Sink, put_all};
@@ -24,15 +25,17 @@ pub struct Ran {
 /// Does all that the program does. The words are the names of a template and an application; the files are
 /// fetched from the shelf in this order, and what is to be read goes to the sink.
 ///
-/// The statuses: 0, all steps went well; 2, the words are not of the form; 3, the template was refused; 4, the
+/// The statuses: 0, all steps went well; 1, a step had a fault; 2, the words are not of the form; 3, the template was refused; 4, the
 /// application was refused; 6, a fetch failed; 7, a put failed; 8, memory was refused; 9, a file was too long.
 pub fn run<S: Shelf, K: Sink>(alloc: Global, words: &[Txt], shelf: &mut S, sink: &mut K) -> Ran
     // The answer that the words and the files call for was written whole; the status and the page are its.
     ensures told { result.status ≢ 7 → result.status ≢ 8 → Told (names_of words.now) (S.bytes shelf.old) (S.failed shelf.old) (S.failed shelf.new) (K.taken sink.old) (K.taken sink.new) result.status (option_map state_of result.page) }
     // Where no fetch failed and the files are told, the run is their session: its bytes and its status.
     ensures session { result.status ≢ 7 → result.status ≢ 8 → RunsSession (names_of words.now) (S.bytes shelf.old) (S.failed shelf.old) (S.failed shelf.new) (K.taken sink.old) (K.taken sink.new) result.status (option_map state_of result.page) }
-    // 0, 3 and 4 have their causes in the two files.
+    // 0, 1, 3 and 4 have their causes in the two files.
     ensures causes { result.status ≢ 7 → result.status ≢ 8 → HasCause (names_of words.now) (S.bytes shelf.old) (S.failed shelf.old) (S.failed shelf.new) result.status }
+    // 1 comes exactly where the page would have too many nodes.
+    ensures node_limit { result.status ≢ 7 → result.status ≢ 8 → FaultsByNodes (names_of words.now) (S.bytes shelf.old) (S.failed shelf.old) (S.failed shelf.new) result.status }
     // 2 comes exactly where the words are not of the form.
     ensures words { result.status ≡ 2 → names_of words.now ≡ None }
     ensures usage { names_of words.now ≡ None → result.status ≢ 7 → result.status ≢ 8 → result.status ≡ 2 }
@@ -48,9 +51,12 @@ pub fn run<S: Shelf, K: Sink>(alloc: Global, words: &[Txt], shelf: &mut S, sink:
     ensures no_fault { result.status ≢ 7 → K.faults sink.new ≡ K.faults sink.old }
     // 8 is want of memory; nothing was taken then.
     ensures untaken { result.status ≡ 8 → Appends (K.taken sink.old) (K.taken sink.new) [] }
-    // A page is there exactly where the status is 0. No watcher of it is dirty, and its document is what they kept.
-    ensures page { IsSome result.page → result.status ≡ 0 }
+    // A page is there exactly where the status is 0 or 1. No watcher of it is dirty, and its document is what they
+    // kept; at status 1 it is empty.
+    ensures page { IsSome result.page → (result.status ≡ 0) ⊎ (result.status ≡ 1) }
     ensures paged { result.status ≡ 0 → IsSome result.page }
+    ensures faulted { result.status ≡ 1 → IsSome result.page }
+    ensures empty { result.status ≡ 1 → IfSome result.page (λ p. document_of p ≡ no_nodes) }
     ensures settled { IfSome result.page (λ p. IsSettled (state_of p)) }
     ensures drawn { IfSome result.page (λ p. document_of p ≡ shown (state_of p).parts) }
 {

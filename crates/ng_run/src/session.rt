@@ -10,11 +10,11 @@ ghost use Rattle.ng_page.specs.Free.{is_tpl_want};
 ghost use Rattle.ng_page.specs.TemplateOf.{template_of};
 ghost use Rattle.ng_page.specs.State.{started};
 ghost use Rattle.ng_run.specs.ReplyOf.{reply_of, IsDrawn};
-ghost use Rattle.ng_run.specs.Session.{session as session_of, source_then, facts_then, compiled_then, opened};
+ghost use Rattle.ng_run.specs.Session.{session as session_of, source_then, facts_then, compiled_then, opened, step_status as status_of_step};
 
-use crate::lines::{application_line, html_word, template_line, tpl_word};
+use crate::lines::{application_line, html_word, push_action, template_line, tpl_word};
 use crate::reply::Reply;
-use ng_base::fault::Memory;
+use ng_base::fault::{Fault, Memory};
 use ng_html::fault::{HtmlFault, HtmlKind};
 use ng_html::reading::read;
 use ng_html::source::Source;
@@ -25,18 +25,29 @@ use ng_page::page::Page;
 use ng_page::tpl::Tpl;
 use std::alloc::Global;
 
+/// The status of a step, by the first fault that its program handed over.
+fn step_status(first: &Option<Fault>) -> u8
+    ensures { result ≡ status_of_step first.now }
+{
+    match first {
+        None => 0,
+        Some(_) => 1,
+    }
+}
+
 /// Opens the page and prints it.
 fn open(alloc: Global, template: Tpl, app: App) -> Result<Reply, Memory>
     ensures reply { IfOk result (λ r. reply_of r ≡ opened (facts app) (template_of template) (started (facts app) (template_of template))) }
     ensures drawn { IfOk result (λ r. IsDrawn r) }
 {
-    let (page, _) = Page::start(alloc, template, app)?;
+    let (page, outcome) = Page::start(alloc, template, app)?;
     let mut bytes = Vec::new(alloc);
     bytes.extend_from_slice("# 0 open\n".as_bytes())?;
+    push_action(alloc, &mut bytes, outcome.faults, &outcome.first)?;
     page.print(&mut bytes)?;
     bytes.extend_from_slice("\n".as_bytes())?;
     Ok(Reply {
-        status: 0,
+        status: step_status(&outcome.first),
         bytes,
         page: Some(page),
     })

@@ -2,7 +2,7 @@ use Rattle.std.proofs.Common.{◌≡◌, ap, ◌∙◌, subst}
 use Rattle.std.specs.Io.KnownBytes.{Appends}
 use Rattle.ng_run.specs.ReplyOf.{reply_of}
 use Rattle.ng_run.specs.Run.{Causes}
-use Rattle.ng_run.proofs.Causes.{reply_session, reply_page, page_settled, session_causes, long_reply}
+use Rattle.ng_run.proofs.Causes.{reply_session, reply_page, page_settled, page_status, page_stands, page_stands_faulted, page_empty, session_causes, session_faults, long_reply}
 use Rattle.ng_run.proofs.run.run.Goals as goal
 
 pub returns-in-Ok-put_all-clause-session : goal.returns-in-Ok-put_all-clause-session
@@ -23,3 +23,21 @@ returns-in-Ok-put_all-clause-long_file g c has same n m = long_reply _ _ _ _ (re
 
 pub returns-in-Ok-put_all-clause-settled : goal.returns-in-Ok-put_all-clause-settled
 returns-in-Ok-put_all-clause-settled g c = page_settled c.in-Ok.reply.status c.in-Ok.reply.page (reply_page _ _ _ _ (reply_of c.in-Ok.reply) c.in-Ok.ensures.reply)
+
+pub returns-in-Ok-put_all-clause-node_limit : goal.returns-in-Ok-put_all-clause-node_limit
+returns-in-Ok-put_all-clause-node_limit g c n m t a has same many =
+    let e = reply_session _ _ _ _ (reply_of c.in-Ok.reply) c.in-Ok.ensures.reply t a has same in
+    ap (λ q. q.status) e ∙ session_faults t a many
+
+pub returns-in-Ok-put_all-clause-page : goal.returns-in-Ok-put_all-clause-page
+returns-in-Ok-put_all-clause-page g c = page_status c.in-Ok.reply.status c.in-Ok.reply.page (reply_page _ _ _ _ (reply_of c.in-Ok.reply) c.in-Ok.ensures.reply)
+
+pub returns-in-Ok-put_all-clause-paged : goal.returns-in-Ok-put_all-clause-paged
+returns-in-Ok-put_all-clause-paged g c = page_stands c.in-Ok.reply.status c.in-Ok.reply.page (reply_page _ _ _ _ (reply_of c.in-Ok.reply) c.in-Ok.ensures.reply)
+
+pub returns-in-Ok-put_all-clause-faulted : goal.returns-in-Ok-put_all-clause-faulted
+returns-in-Ok-put_all-clause-faulted g c = page_stands_faulted c.in-Ok.reply.status c.in-Ok.reply.page (reply_page _ _ _ _ (reply_of c.in-Ok.reply) c.in-Ok.ensures.reply)
+
+pub returns-in-Ok-put_all-clause-empty : goal.returns-in-Ok-put_all-clause-empty
+returns-in-Ok-put_all-clause-empty g c =
+    page_empty c.in-Ok.reply.status c.in-Ok.reply.page (reply_page _ _ _ _ (reply_of c.in-Ok.reply) c.in-Ok.ensures.reply) c.in-Ok.ensures.drawn
