@@ -1,10 +1,4 @@
 pub mod Forests
 pub mod Prints
 pub mod HoleSteps
-pub mod Bytes
-pub mod Spelled
-pub mod Sound
-pub mod Complete
-pub mod Whole
-pub mod Late
-pub mod Printed
+pub mod Turns

@@ -6,10 +6,9 @@ ghost use Rattle.ng_base.specs.Word.{IsWord};
 ghost use Rattle.ng_base.specs.declared.fault.Memory.TheVariants.{Refused};
 ghost use Rattle.ng_markup.specs.Forest.{element, comment, text_char, value_char, print_attribute, print_start, print_end, print_node, print};
 ghost use Rattle.ng_html.specs.Attrs.{attr_of};
-ghost use Rattle.ng_html.specs.Laws.{PrintsBack};
 ghost use Rattle.ng_html.specs.Seen.{node_of, forest_of};
 
-use crate::attrs::{Attr, Attrs};
+use ng_tags::attrs::{Attr, Attrs};
 use crate::forest::{Forest, Node};
 use crate::tables::void;
 use ng_base::fault::Memory;
@@ -193,9 +192,3 @@ pub fn write(f: &Forest, into: &mut Vec<u8>) -> Result<(), Memory>
     push_forest(f, into)?;
     Ok(())
 }
-
-/// A document of the first path whose texts print as themselves is printed byte for byte, so that its print is read as
-/// the same forest.
-pub fn prints_back()
-    ensures { PrintsBack }
-{}

@@ -1,5 +1,0 @@
-use Rattle.ng_html.proofs.Printed.{prints_back}
-use Rattle.ng_html.proofs.writing.prints_back.Goals as goal
-
-pub returns : goal.returns
-returns c = prints_back
