@@ -1,4 +1,10 @@
 pub mod Forests
 pub mod Prints
 pub mod HoleSteps
+pub mod Lexed
 pub mod Turns
+pub mod Omitted
+pub mod TreeSound
+pub mod TreeRuns
+pub mod Bytes
+pub mod Whole

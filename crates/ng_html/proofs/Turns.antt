@@ -8,7 +8,7 @@ use Rattle.ng_markup.specs.Forest.{Forest}
 use Rattle.ng_tags.specs.Lexing.{event_at}
 use Rattle.ng_tags.specs.declared.event.Event.{Event}
 use Rattle.ng_tags.specs.declared.fault.HtmlFault.{HtmlFault}
-use Rattle.ng_tags.proofs.Lexed.{lexed_less}
+use Rattle.ng_html.proofs.Lexed.{lexed_less}
 use Rattle.ng_html.specs.Building.{State, take_event}
 use Rattle.ng_html.specs.Reading.{begin, reads, read_on}
 

@@ -49,11 +49,11 @@ abbrev pub unharmed : Option HtmlFault → Result (Unit {0}) HtmlFault
 unharmed None = Ok tt
 unharmed (Some f) = Err f
 
--- a start tag where so many elements are open: at its `<` too many are the first refusal, and then an end of its own
--- at an element that isn't void; only then comes what is wrong inside
-abbrev pub admitted : ℕ → Tag → Result (Unit {0}) HtmlFault
-admitted k t =
-    if nat_lt k open_limit then (if t.closed && not (is_void t.name) then Err (fault kind.SelfClosed t.place) else unharmed t.fault)
+-- a start tag where so many elements are open, which may end in `/>` or not: at its `<` too many are the first refusal,
+-- then comes an end of its own that may not be, and only then what is wrong inside
+abbrev pub admitted : ℕ → Tag → Bool → Result (Unit {0}) HtmlFault
+admitted k t may_close =
+    if nat_lt k open_limit then (if t.closed && not may_close then Err (fault kind.SelfClosed t.place) else unharmed t.fault)
     else Err (fault kind.TooDeep t.place)
 
 abbrev pub with_leaf : State → Node → State
@@ -71,10 +71,10 @@ content [] = no_nodes
 content (c ∷ cs) = node (text (c ∷ cs)) no_nodes
 
 abbrev pub entered : State → Tag → Result State HtmlFault
-entered s t = admitted (length s.stack) t >>= λ u. Ok (opened s t)
+entered s t = admitted (length s.stack) t (is_void t.name) >>= λ u. Ok (opened s t)
 
 abbrev pub entered_raw : State → Tag → List ℕ → Result State HtmlFault
-entered_raw s t x = admitted (length s.stack) t >>= λ u. Ok (with_leaf s (element t.name t.attrs (content x)))
+entered_raw s t x = admitted (length s.stack) t false >>= λ u. Ok (with_leaf s (element t.name t.attrs (content x)))
 
 -- an end tag: elements whose own may be left out are closed until its element is the innermost
 abbrev pub close : List Around → Forest → List ℕ → ℕ → Result State HtmlFault

@@ -5,7 +5,8 @@ use Rattle.std.specs.Str.{bytes_eq, IsUtf8}
 use Rattle.ng_base.specs.Cells.{Cell}
 use Rattle.ng_markup.specs.Tables.{is_void, is_omittable}
 use Rattle.ng_markup.specs.Forest.{Node, Forest, Attributes, element, text, comment, no_nodes, node}
-use Rattle.ng_tags.specs.Lexing.{Lexeme, after_doctype}
+use Rattle.ng_tags.specs.Lexing.{after_doctype}
+use Rattle.ng_tags.specs.Spelling.{Lexeme}
 use Rattle.ng_tags.specs.declared.event.Event.{Event}
 use Rattle.ng_tags.specs.declared.event.Event.TheVariants as event
 use Rattle.ng_tags.specs.declared.event.Tag.{Tag}

@@ -122,11 +122,11 @@ fn shut(b: Builder, name: &Txt) -> Result<Builder, AllocError>
 }
 
 /// Refuses a start tag where so many elements are open. What is wrong inside of it comes last.
-fn admit(depth: usize, tag: &Tag) -> Result<(), HtmlFault>
-    ensures { Gives is_free (λ u. u) (admitted depth tag.now) result }
+fn admit(depth: usize, tag: &Tag, may_close: bool) -> Result<(), HtmlFault>
+    ensures { Gives is_free (λ u. u) (admitted depth tag.now may_close) result }
 {
     if depth < 200 {
-        if tag.closed && !void(&tag.name) {
+        if tag.closed && !may_close {
             return Err(HtmlFault {
                 place: tag.place,
                 kind: HtmlKind::SelfClosed,
@@ -149,7 +149,7 @@ fn start(alloc: Global, b: Builder, tag: Tag) -> Result<Builder, HtmlFault>
     ensures { Gives is_free state_of (entered (shut_by tag.name (arounds b.stack.items) (forest_of b.done)) tag) result }
 {
     let b = shut(b, &tag.name)?;
-    admit(depth(&b.stack), &tag)?;
+    admit(depth(&b.stack), &tag, void(&tag.name))?;
     Ok(open(alloc, b, tag)?)
 }
 
@@ -192,7 +192,7 @@ fn start_raw(alloc: Global, b: Builder, tag: Tag, text: Txt) -> Result<Builder, 
     ensures { Gives is_free state_of (entered_raw (shut_by tag.name (arounds b.stack.items) (forest_of b.done)) tag text) result }
 {
     let b = shut(b, &tag.name)?;
-    admit(depth(&b.stack), &tag)?;
+    admit(depth(&b.stack), &tag, false)?;
     let kids = content(alloc, text)?;
     let Tag { name, attrs, .. } = tag;
     Ok(add_leaf(b, element_node(name, attrs, kids))?)

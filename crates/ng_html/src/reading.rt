@@ -90,6 +90,10 @@ fn no_text(place: usize) -> HtmlFault
 
 /// The forest of a document.
 pub fn read(alloc: Global, bytes: &[u8]) -> Result<Source, HtmlFault>
+    // What is read is spelled by the bytes, each node at its place.
+    ensures found { Found bytes.now result }
+    // What the bytes spell is read, unless memory is refused.
+    ensures only { Only bytes.now result }
     // The answer is the one of the reading from the left, unless memory is refused.
     ensures exact { Gives is_free source_of (read_bytes bytes.now) result }
 {
