@@ -8,3 +8,6 @@ pub mod TreeSound
 pub mod TreeRuns
 pub mod Bytes
 pub mod Whole
+pub mod RawNames
+pub mod Kept
+pub mod Printed

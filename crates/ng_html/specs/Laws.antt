@@ -16,3 +16,7 @@ Found bytes r = IfOk r (λ s. Html bytes (forest_of s.forest) s.places)
 -- what the bytes spell is read, unless memory is refused
 abbrev pub Only : List ℕ → Result Source HtmlFault → Type 0
 Only bytes r = (f : Forest) (ps : List ℕ) → Html bytes f ps → Gives is_free source_of (Ok (f, ps)) r
+
+-- the print of a forest that bytes spell spells it too
+abbrev pub PrintsBack : Type 0
+PrintsBack = (bytes : List ℕ) (f : Forest) (ps : List ℕ) → Html bytes f ps → (qs : List ℕ) × Html (encode_utf8_all (print f)) f qs

@@ -6,6 +6,7 @@ ghost use Rattle.ng_base.specs.Word.{IsWord};
 ghost use Rattle.ng_base.specs.declared.fault.Memory.TheVariants.{Refused};
 ghost use Rattle.ng_markup.specs.Forest.{element, comment, text_char, value_char, print_attribute, print_start, print_end, print_node, print};
 ghost use Rattle.ng_html.specs.Attrs.{attr_of};
+ghost use Rattle.ng_html.specs.Laws.{PrintsBack};
 ghost use Rattle.ng_html.specs.Seen.{node_of, forest_of};
 
 use ng_tags::attrs::{Attr, Attrs};
@@ -192,3 +193,8 @@ pub fn write(f: &Forest, into: &mut Vec<u8>) -> Result<(), Memory>
     push_forest(f, into)?;
     Ok(())
 }
+
+/// The print of a document's forest is read as the same forest: it spells it, and what is spelled is read.
+pub fn prints_back()
+    ensures { PrintsBack }
+{}
