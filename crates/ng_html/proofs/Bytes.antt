@@ -17,7 +17,7 @@ use Rattle.ng_html.specs.Grammar.{IsPlainText}
 abbrev pub Answer : Type 0
 Answer = Result (Forest × List ℕ) HtmlFault
 
-abbrev no_answer : List ℕ → Answer
+abbrev pub no_answer : List ℕ → Answer
 no_answer bs = Err (fault kind.Utf8 (sound_len bs))
 
 both_true : (a b : Bool) → (a && b) ≡ true → (a ≡ true) × (b ≡ true)
@@ -40,11 +40,14 @@ plain_of bs h =
 pub of_plain : (bs : List ℕ) → IsPlainText bs → is_plain_text bs ≡ true
 of_plain bs h = both (is_utf8 bs) (before_zero bs == length bs) (is_utf8-from_IsUtf8 bs h.0) (grind (arith, nat_tests, h.1))
 
+pub not_plain : (bs : List ℕ) → is_plain_text bs ≡ false → IsPlainText bs → ⊥
+not_plain bs h p = let t = of_plain bs p in cc
+
 -- a text is read by its cells
 pub plain_read : (bs : List ℕ) → IsPlainText bs → read_bytes bs ≡ read_cells (length bs) (cells_of bs)
 plain_read bs h = if_true (is_plain_text bs) (read_cells (length bs) (cells_of bs)) (no_answer bs) (of_plain bs h)
 
-no_plain_read : (bs : List ℕ) → (IsPlainText bs → ⊥) → read_bytes bs ≡ no_answer bs
+pub no_plain_read : (bs : List ℕ) → (IsPlainText bs → ⊥) → read_bytes bs ≡ no_answer bs
 no_plain_read bs h = if_false (is_plain_text bs) (read_cells (length bs) (cells_of bs)) (no_answer bs) (not_so (is_plain_text bs) (λ t. h (plain_of bs t)))
 
 -- an ill-formed sequence, where zero bytes may stand before

@@ -8,6 +8,9 @@ pub mod TreeSound
 pub mod TreeRuns
 pub mod Bytes
 pub mod Whole
+pub mod Refused
+pub mod OneRefusal
+pub mod Answered
 pub mod RawNames
 pub mod Kept
 pub mod Printed

@@ -169,7 +169,7 @@ module _ (X : Type 0) (R : State → List Event → X) (N : Event → List Event
       ∙ (R_opens o.name o.attributes s.0 done os o.before s.1 (top_fits o.name o.attributes done os s.6) (omega (arith, s.7)) s.4
       ∙ R_forest done (o ∷ os) no_nodes s.1 rest s.3 s.5 (omega (arith, s.7)))
 
-finish_more : (total : ℕ) (o : Around) (os : List Around) (k : Forest) → is_omittable o.name ≡ true → finish_of total (o ∷ os) k ≡ finish_of total os (ended o k)
+pub finish_more : (total : ℕ) (o : Around) (os : List Around) (k : Forest) → is_omittable o.name ≡ true → finish_of total (o ∷ os) k ≡ finish_of total os (ended o k)
 finish_more total o os k h = if_true (is_omittable o.name) (finish_of total os (ended o k)) (Err (fault kind.Unclosed total)) h
 
 -- the events of a forest give that forest

@@ -74,7 +74,7 @@ spelled_of total cs f ps h =
     let s = run_spells total f r.es r.runs in
     (r.es, r.written, s.0, s.1, r.places)
 
-one_read : (total : ℕ) (s t : State) (ps : List ℕ) (e : Event) (us rest : List Cell) → Lexeme e us rest → take_event s e ≡ Ok t → read_on total s ps (us ++ rest) ≡ read_on total t (ps ++ begin e) rest
+pub one_read : (total : ℕ) (s t : State) (ps : List ℕ) (e : Event) (us rest : List Cell) → Lexeme e us rest → take_event s e ≡ Ok t → read_on total s ps (us ++ rest) ≡ read_on total t (ps ++ begin e) rest
 one_read total s t ps e [] rest l h = absurd (lexeme_some e [] rest l refl)
 one_read total s t ps e (c ∷ us) rest l h = read_event_on total s t ps c (us ++ rest) rest e (lexed_complete total c us (c ∷ us) rest e l refl) h
 
@@ -104,11 +104,3 @@ html_read bs f ps h =
     plain_read bs h.0
     ∙ (ap (λ (r : Result (List Cell) HtmlFault). r >>= λ cs. read_on (length bs) empty [] cs) h.2
     ∙ spelled_read (length bs) h.1 f ps h.3)
-
-pub found : (bs : List ℕ) (r : Result Source HtmlFault) → Gives is_free source_of (read_bytes bs) r → Found bs r
-found bs (Ok s) g = html_of bs (forest_of s.forest) s.places g
-found bs (Err e) g = tt
-
-pub only : (bs : List ℕ) (r : Result Source HtmlFault) → Gives is_free source_of (read_bytes bs) r → Only bs r
-only bs (Ok s) g f ps h = sym (html_read bs f ps h) ∙ g
-only bs (Err e) g f ps h = λ n. sym (html_read bs f ps h) ∙ g n

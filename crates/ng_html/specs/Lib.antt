@@ -9,4 +9,5 @@ pub mod TreeSeen
 pub mod Grammar
 pub mod Running
 pub mod Standing
+pub mod Refusals
 pub mod Laws

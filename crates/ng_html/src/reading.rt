@@ -3,7 +3,7 @@ ghost use Rattle.std.specs.Prelude.{◌≡◌, ◌++◌, [], OnOk, length};
 ghost use Rattle.ng_base.specs.Meets.{Gives};
 ghost use Rattle.ng_html.specs.Free.{fault, is_free};
 ghost use Rattle.ng_tags.specs.declared.fault.HtmlKind.TheVariants as kind;
-ghost use Rattle.ng_html.specs.Laws.{Found, Only};
+ghost use Rattle.ng_html.specs.Laws.{Found, OneRefusal, Only, Refused};
 ghost use Rattle.ng_html.specs.Building.{empty};
 ghost use Rattle.ng_html.specs.Reading.{before_zero as zeroless, begin, cells_of, read_bytes, read_cells, read_on};
 ghost use Rattle.ng_html.specs.TreeSeen.{source_of};
@@ -94,6 +94,10 @@ pub fn read(alloc: Global, bytes: &[u8]) -> Result<Source, HtmlFault>
     ensures found { Found bytes.now result }
     // What the bytes spell is read, unless memory is refused.
     ensures only { Only bytes.now result }
+    // What is refused is the refusal of these bytes: all before it is read, and what stands there cannot be.
+    ensures refused { Refused bytes.now result }
+    // The refusal of these bytes is what is answered, unless memory is refused.
+    ensures one { OneRefusal bytes.now result }
     // The answer is the one of the reading from the left, unless memory is refused.
     ensures exact { Gives is_free source_of (read_bytes bytes.now) result }
 {

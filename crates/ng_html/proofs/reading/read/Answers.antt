@@ -7,7 +7,7 @@ use Rattle.ng_html.specs.Reading.{before_zero, read_bytes}
 use Rattle.ng_html.specs.TreeSeen.{source_of}
 use Rattle.ng_html.specs.declared.source.Source.{Source}
 use Rattle.ng_html.proofs.Bytes.{ill_formed_read, zero_read, plain_read, before_zero_le}
-use Rattle.ng_html.proofs.Whole.{found, only}
+use Rattle.ng_html.proofs.Answered.{answered}
 use Rattle.ng_html.proofs.reading.read.Goals as goal
 
 pub returns-in-Err : goal.returns-in-Err
@@ -16,7 +16,8 @@ returns-in-Err c =
     let e = ill_formed_read bs c.valid_up_to.result c.in-Err.ensures.cases.0 (c.valid_up_to.ensures ∙ c.in-Err.ensures.valid_len) in
     let r : Result Source HtmlFault = Err c.no_text.result in
     let g : Gives is_free source_of (read_bytes bs) r = search (rules, e) in
-    record { found = found bs r g; only = only bs r g; exact = g }
+    let a = answered bs r g in
+    record { found = a.found; only = a.only; refused = a.refused; one = a.one; exact = g }
 
 pub returns-then-sound-bytes : goal.returns-then-sound-bytes
 returns-then-sound-bytes c =
@@ -25,7 +26,8 @@ returns-then-sound-bytes c =
     let e = zero_read bs c.in-Ok.ensures.cases.1 less in
     let r : Result Source HtmlFault = Err c.no_text-then-sound-bytes.result in
     let g : Gives is_free source_of (read_bytes bs) r = search (rules, e) in
-    record { found = found bs r g; only = only bs r g; exact = g }
+    let a = answered bs r g in
+    record { found = a.found; only = a.only; refused = a.refused; one = a.one; exact = g }
 
 pub returns-else-sound-bytes : goal.returns-else-sound-bytes
 returns-else-sound-bytes c =
@@ -35,4 +37,5 @@ returns-else-sound-bytes c =
     let e = plain_read bs (c.in-Ok.ensures.cases.1, all) in
     let r = c.read_text.result in
     let g : Gives is_free source_of (read_bytes bs) r = search (rules, e) in
-    record { found = found bs r g; only = only bs r g; exact = g }
+    let a = answered bs r g in
+    record { found = a.found; only = a.only; refused = a.refused; one = a.one; exact = g }
