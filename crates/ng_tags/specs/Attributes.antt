@@ -9,14 +9,16 @@ use Rattle.ng_markup.specs.Forest.{Attributes}
 use Rattle.ng_tags.specs.Free.{fault, met_or, met_first}
 use Rattle.ng_tags.specs.Letters.{is_space, is_in_attribute, is_bare, lower}
 use Rattle.ng_tags.specs.Skips.{past_spaces}
-use Rattle.ng_tags.specs.Texts.{Decoded, text_run}
+use Rattle.ng_tags.specs.Texts.{no_text, text_run}
+use Rattle.ng_tags.specs.declared.texts.Decoded.{Decoded}
+use Rattle.ng_tags.specs.declared.attributes.Inside.{Inside}
 use Rattle.ng_tags.specs.declared.fault.HtmlFault.{HtmlFault}
 use Rattle.ng_tags.specs.declared.fault.HtmlKind.TheVariants as kind
 use Rattle.ng_tags.specs.declared.until.Until.TheVariants as until
 
 abbrev pub has_attribute : Attributes → List ℕ → Bool
 has_attribute [] n = false
-has_attribute (a ∷ done) n = bytes_eq a.0 n || has_attribute done n
+has_attribute (a ∷ done) n = bytes_eq n a.0 || has_attribute done n
 
 -- in the order of the names; of two attributes of one name the first stands
 abbrev pub with_attribute : Attributes → List ℕ → List ℕ → Attributes
@@ -32,13 +34,13 @@ ValueRead = Result (Decoded × List Cell) HtmlFault
 
 -- behind the closing quote
 abbrev pub quoted : ℕ → Decoded × List Cell → ValueRead
-quoted total (d, []) = Err (met_or d.1 (fault kind.Unclosed total))
+quoted total (d, []) = Err (met_or d.fault (fault kind.Unclosed total))
 quoted total (d, c ∷ cs) = Ok (d, cs)
 
 -- a backquote ends a value, but nothing begins with it there
 abbrev pub unquoted : Decoded × List Cell → ValueRead
 unquoted (d, []) = Ok (d, [])
-unquoted (d, c ∷ cs) = if c.0 == 96 then Err (met_or d.1 (fault kind.BadAttr c.1)) else Ok (d, c ∷ cs)
+unquoted (d, c ∷ cs) = if c.0 == 96 then Err (met_or d.fault (fault kind.BadAttr c.1)) else Ok (d, c ∷ cs)
 
 -- the value behind `=`
 abbrev pub value_at : ℕ → List Cell → ValueRead
@@ -49,13 +51,10 @@ value_at total (c ∷ cs) =
     else if is_bare c.0 then unquoted (text_run until.Space (c ∷ cs))
     else Err (fault kind.BadAttr c.1)
 
-abbrev pub no_value : Decoded
-no_value = ([], None)
-
 -- the value behind a name, which is empty where no `=` stands
 abbrev pub value_behind : ℕ → List Cell → ValueRead
-value_behind total [] = Ok (no_value, [])
-value_behind total (c ∷ cs) = if c.0 == 61 then value_at total (past_spaces cs) else Ok (no_value, c ∷ cs)
+value_behind total [] = Ok (no_text, [])
+value_behind total (c ∷ cs) = if c.0 == 61 then value_at total (past_spaces cs) else Ok (no_text, c ∷ cs)
 
 -- a name, and its value
 abbrev pub AttributeRead : Type 0
@@ -68,11 +67,6 @@ abbrev pub attribute_at : ℕ → Cell → List Cell → AttributeRead
 attribute_at total c cs = if is_in_attribute c.0 then named total (attribute_run (lower c.0 ∷ []) cs) else Err (fault kind.BadAttr c.1)
 
 -- what stands in a tag behind its name
-pub record Inside : Type 0 where
-  pub attrs : Attributes
-  pub closed : Bool
-  pub fault : Option HtmlFault
-
 abbrev pub inside : Attributes → Bool → Option HtmlFault → Inside
 inside a b f = record { attrs = a; closed = b; fault = f }
 
@@ -98,7 +92,7 @@ attributes_within (suc k) total done f (c ∷ cs) =
     else if c.0 == 47 then slash total done f c.1 cs
     else if is_space c.0 then attributes_within k total done f cs
     else
-    either_way (λ r. attributes_within k total (with_attribute done r.0 r.1.0) (met_first f r.1.1) r.2) (λ g. broken done f g cs) (attribute_at total c cs)
+    either_way (λ r. attributes_within k total (with_attribute done r.0 r.1.text) (met_first f r.1.fault) r.2) (λ g. broken done f g (c ∷ cs)) (attribute_at total c cs)
 
 abbrev pub attributes_from : ℕ → Attributes → Option HtmlFault → List Cell → Inside × List Cell
 attributes_from total done f cs = attributes_within (suc (length cs)) total done f cs

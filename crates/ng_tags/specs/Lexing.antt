@@ -5,7 +5,8 @@ use Rattle.ng_tags.specs.Free.{fault}
 use Rattle.ng_tags.specs.Letters.{is_letter, lower}
 use Rattle.ng_tags.specs.Skips.{past_spaces, past_word, name_run}
 use Rattle.ng_tags.specs.References.{Read, character}
-use Rattle.ng_tags.specs.Texts.{Decoded, tag_follows, with_character, text_from}
+use Rattle.ng_tags.specs.Texts.{no_text, tag_follows, with_character, text_from}
+use Rattle.ng_tags.specs.declared.texts.Decoded.{Decoded}
 use Rattle.ng_tags.specs.Tags.{start_tag, end_tag}
 use Rattle.ng_tags.specs.declared.event.Event.{Event}
 use Rattle.ng_tags.specs.declared.event.Event.TheVariants as event
@@ -48,17 +49,20 @@ markup total p (c ∷ cs) =
     else Err (fault kind.BadTag p)
 
 -- a text is refused for the first bad reference in it
+abbrev pub text_or : ℕ → List ℕ → Option HtmlFault → List Cell → Result (Event × List Cell) HtmlFault
+text_or p t None rest = Ok (event.Text t p, rest)
+text_or p t (Some f) rest = Err f
+
 abbrev pub text_event : ℕ → Decoded × List Cell → Result (Event × List Cell) HtmlFault
-text_event p ((t, None), rest) = Ok (event.Text t p, rest)
-text_event p ((t, Some f), rest) = Err f
+text_event p r = text_or p r.0.text r.0.fault r.1
 
 -- a text behind its first character
 abbrev pub text_behind : ℕ → Read → Decoded × List Cell
-text_behind p r = text_from until.Tag (with_character ([], None) p r.0) r.1
+text_behind p r = text_from until.Tag (with_character no_text p r.0) r.1
 
 -- the event that begins with this cell, and what is left
 abbrev pub event_at : ℕ → Cell → List Cell → Result (Event × List Cell) HtmlFault
-event_at total c cs = if c.0 == 60 && tag_follows cs then markup total c.1 cs else text_event c.1 (text_behind c.1 (character c cs))
+event_at total c cs = if c.0 == 60 && tag_follows cs then markup total c.1 cs else text_event c.1 (text_behind c.1 (character c.0 cs))
 
 -- behind the next `>`
 abbrev pub past_sign : ℕ → List Cell → Result (List Cell) HtmlFault

@@ -108,7 +108,10 @@ name_from r = named r.0 (past 59 r.1)
 -- the reference that stands behind an `&`, if there is one
 abbrev pub reference : List Cell → Option Read
 reference [] = None
-reference (c ∷ cs) = if c.0 == 35 then behind_sign cs else name_from (letter_run [] (c ∷ cs))
+reference (c ∷ cs) =
+    if c.0 == 35 then behind_sign cs
+    else if is_letter c.0 then name_from (letter_run (c.0 ∷ []) cs)
+    else None
 
 -- an `&` that begins no reference stands for itself
 abbrev pub or_itself : List Cell → Option Read → Read
@@ -116,5 +119,5 @@ or_itself cs None = (Some 38, cs)
 or_itself cs (Some r) = r
 
 -- what stands at the front reads as this character, and what is left
-abbrev pub character : Cell → List Cell → Read
-character c cs = if c.0 == 38 then or_itself cs (reference cs) else (Some c.0, cs)
+abbrev pub character : ℕ → List Cell → Read
+character c cs = if c == 38 then or_itself cs (reference cs) else (Some c, cs)

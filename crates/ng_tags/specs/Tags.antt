@@ -5,8 +5,10 @@ use Rattle.ng_markup.specs.Tables.{is_left_out, is_raw, is_line_dropping}
 use Rattle.ng_tags.specs.Free.{fault, met_or}
 use Rattle.ng_tags.specs.Letters.{is_letter, is_space, lower}
 use Rattle.ng_tags.specs.Skips.{past_spaces, name_run, place_in}
-use Rattle.ng_tags.specs.Texts.{Decoded, text_run, past_end_tag}
-use Rattle.ng_tags.specs.Attributes.{Inside, attributes}
+use Rattle.ng_tags.specs.Texts.{text_run, past_end_tag}
+use Rattle.ng_tags.specs.declared.texts.Decoded.{Decoded}
+use Rattle.ng_tags.specs.Attributes.{attributes}
+use Rattle.ng_tags.specs.declared.attributes.Inside.{Inside}
 use Rattle.ng_tags.specs.declared.event.Event.{Event}
 use Rattle.ng_tags.specs.declared.event.Event.TheVariants as event
 use Rattle.ng_tags.specs.declared.event.Tag.{Tag}
@@ -37,11 +39,15 @@ abbrev pub past_end : List ℕ → List Cell → Option (List Cell)
 past_end n [] = None
 past_end n (c ∷ cs) = past_end_tag n cs
 
+-- an element of text alone, unless a reference in it is refused
+abbrev pub raw_or : Tag → ℕ → List ℕ → Option HtmlFault → Event
+raw_or t p u None = event.Raw t u p
+raw_or t p u (Some f) = event.Start (with_fault t f)
+
 -- an element of text alone, whose content begins at a place
 abbrev pub raw_with : ℕ → Tag → ℕ → Decoded → List Cell → Option (List Cell) → Event × List Cell
-raw_with total t p d cs None = (event.Start (with_fault t (met_or d.1 (fault kind.Unclosed total))), cs)
-raw_with total t p (u, None) cs (Some rest) = (event.Raw t u p, rest)
-raw_with total t p (u, Some f) cs (Some rest) = (event.Start (with_fault t f), rest)
+raw_with total t p d cs None = (event.Start (with_fault t (met_or d.fault (fault kind.Unclosed total))), cs)
+raw_with total t p d cs (Some rest) = (raw_or t p d.text d.fault, rest)
 
 abbrev pub raw_from : ℕ → Tag → ℕ → Decoded × List Cell → Event × List Cell
 raw_from total t p r = raw_with total t p r.0 r.1 (past_end t.name r.1)

@@ -2,13 +2,14 @@
 use Rattle.std.specs.Prelude.{Bool, false, ℕ, zero, suc, ◌==◌, ◌&&◌, not, List, [], ◌∷◌, ◌++◌, length, Option, None, Some, is_some, option_and_then, if◌then◌else◌}
 use Rattle.std.specs.Str.{bytes_eq}
 use Rattle.ng_base.specs.Cells.{Cell}
-use Rattle.ng_tags.specs.Free.{fault, met_first}
+use Rattle.ng_tags.specs.Free.{fault, met_or}
 use Rattle.ng_tags.specs.Letters as letters
 use Rattle.ng_tags.specs.Letters.{is_bare}
 use Rattle.ng_tags.specs.Skips.{past, past_spaces, name_run}
 use Rattle.ng_tags.specs.References.{character}
 use Rattle.ng_tags.specs.declared.fault.HtmlFault.{HtmlFault}
 use Rattle.ng_tags.specs.declared.fault.HtmlKind.TheVariants as kind
+use Rattle.ng_tags.specs.declared.texts.Decoded.{Decoded}
 use Rattle.ng_tags.specs.declared.until.Until.{Until}
 use Rattle.ng_tags.specs.declared.until.Until.TheVariants as until
 
@@ -32,25 +33,27 @@ ends until.Single c cs = c == 39
 ends until.Space c cs = not (is_bare c)
 ends (until.EndTag n) c cs = c == 60 && is_some (past_end_tag n cs)
 
--- the characters so far, and the first fault of a reference among them
-abbrev pub Decoded : Type 0
-Decoded = List ℕ × Option HtmlFault
+abbrev pub decoded : List ℕ → Option HtmlFault → Decoded
+decoded t f = record { text = t; fault = f }
+
+abbrev pub no_text : Decoded
+no_text = decoded [] None
 
 -- a character more, or a reference that is refused at its place
 abbrev pub with_character : Decoded → ℕ → Option ℕ → Decoded
-with_character d p (Some x) = (d.0 ++ x ∷ [], d.1)
-with_character d p None = (d.0, met_first d.1 (Some (fault kind.BadReference p)))
+with_character d p (Some x) = decoded (d.text ++ x ∷ []) d.fault
+with_character d p None = decoded d.text (Some (met_or d.fault (fault kind.BadReference p)))
 
 abbrev pub text_within : ℕ → Until → Decoded → List Cell → Decoded × List Cell
 text_within zero u d cs = (d, cs)
 text_within (suc k) u d [] = (d, [])
 text_within (suc k) u d (c ∷ cs) =
     if ends u c.0 cs then (d, c ∷ cs)
-    else text_within k u (with_character d c.1 (character c cs).0) (character c cs).1
+    else text_within k u (with_character d c.1 (character c.0 cs).0) (character c.0 cs).1
 
 -- the text up to what ends it, behind what was read, and what is left
 abbrev pub text_from : Until → Decoded → List Cell → Decoded × List Cell
 text_from u d cs = text_within (suc (length cs)) u d cs
 
 abbrev pub text_run : Until → List Cell → Decoded × List Cell
-text_run u cs = text_from u ([], None) cs
+text_run u cs = text_from u no_text cs

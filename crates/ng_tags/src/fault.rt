@@ -1,5 +1,6 @@
 //! Why a document is not read, and where.
 ghost use Rattle.std.specs.Prelude.{◌≡◌};
+ghost use Rattle.ng_tags.specs.Free as faults;
 ghost use Rattle.ng_tags.specs.Free.{refused};
 
 use ng_base::fault::Memory;
@@ -56,5 +57,25 @@ impl<T: Drop> From<AllocFailed<T>> for HtmlFault {
             place: 0,
             kind: HtmlKind::Memory(Memory::Refused),
         }
+    }
+}
+
+/// The fault that was met before, or else this one.
+pub fn met_or(before: Option<HtmlFault>, fault: HtmlFault) -> HtmlFault
+    ensures { result ≡ faults.met_or before fault }
+{
+    match before {
+        None => fault,
+        Some(first) => first,
+    }
+}
+
+/// The fault that was met first.
+pub fn met_first(before: Option<HtmlFault>, fault: Option<HtmlFault>) -> Option<HtmlFault>
+    ensures { result ≡ faults.met_first before fault }
+{
+    match before {
+        None => fault,
+        Some(first) => Some(first),
     }
 }
