@@ -1,0 +1,5 @@
+pub mod Shorter
+pub mod TextTurns
+pub mod Maps
+pub mod AttributeShorter
+pub mod AttributeTurns
