@@ -175,7 +175,7 @@ module _ (IsRead : Event → Type 0)
       let fits_line : NoLine (y.first ++ (y.last ++ ws)) = no_line_on y.first (y.last ++ ws) (ap (list_all is_line) y.first_is ∙ line f kids) (tag_no_line (y.last ++ ws) behind) in
       let s = start_printed n a p false x.first (y.first ++ (y.last ++ ws)) i raw x.first_is fits_line in
       let whole : us ++ ws ≡ x.first ++ (y.first ++ (y.last ++ ws)) =
-        ap (λ xs. xs ++ ws) (x.whole ∙ ap (λ xs. x.first ++ xs) y.whole) ∙ (append_assoc x.first (y.first ++ y.last) ws ∙ ap (λ xs. x.first ++ xs) (append_assoc y.first y.last ws)) in
+      ap (λ xs. xs ++ ws) (x.whole ∙ ap (λ xs. x.first ++ xs) y.whole) ∙ (append_assoc x.first (y.first ++ y.last) ws ∙ ap (λ xs. x.first ++ xs) (append_assoc y.first y.last ws)) in
       record {
         es = event.Start (tag n a s.0 false) ∷ k.es;
         written = (x.first, y.first ++ (y.last ++ ws), whole, s.1, k.written);
@@ -189,9 +189,9 @@ module _ (IsRead : Event → Type 0)
       record { es = event.Start (tag n a s.0 false) ∷ rest; written = (us, ws, refl, s.1, w); spells = inl (s.0, false, v, f_is, refl) }
   element_written n a f ih (inr (inl (p, q, x, i, raw, f_is))) us ws rest h l w =
       let e : chars_of us ≡ print_start n a ++ (flat_map text_char x ++ print_end n) =
-        h
-        ∙ (full_print n a f (raw_not_void n raw)
-        ∙ ap (λ xs. print_start n a ++ (xs ++ print_end n)) (ap print f_is ∙ content_printed x)) in
+      h
+      ∙ (full_print n a f (raw_not_void n raw)
+      ∙ ap (λ xs. print_start n a ++ (xs ++ print_end n)) (ap print f_is ∙ content_printed x)) in
       let s = raw_printed n a x p q us ws i raw e in
       record { es = event.Raw (tag n a s.0 false) x s.1 ∷ rest; written = (us, ws, refl, s.2, w); spells = inr (inl (s.0, s.1, x, f_is, refl)) }
   element_written n a f ih (inr (inr (p, i, raw, v, fits, kids))) us ws rest h l w =

@@ -120,9 +120,9 @@ opened_stands s t es rest a i c =
     if_held (is_void t.name) (with_leaf s (element t.name t.attrs no_nodes)) (record { stack = record { name = t.name; attributes = t.attrs; before = s.done } ∷ s.stack; done = no_nodes })
     (λ u. Stood u es rest)
     (λ v. one_more s.stack s.done (element t.name t.attrs no_nodes) es (event.Start t ∷ rest) rest i
-      (inl (t.place, t.closed, v, refl, ap (λ e. e ∷ rest) (start_is t a.no_fault t.closed refl)))
-      (element_fits t.name t.attrs no_nodes s.stack c)
-      (omega (arith, a.room)))
+    (inl (t.place, t.closed, v, refl, ap (λ e. e ∷ rest) (start_is t a.no_fault t.closed refl)))
+    (element_fits t.name t.attrs no_nodes s.stack c)
+    (omega (arith, a.room)))
     (λ v. (
       t.place,
       rest,

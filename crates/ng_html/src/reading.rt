@@ -14,7 +14,7 @@ use ng_base::lists::Places;
 use ng_base::reader::Reader;
 use ng_tags::event::Event;
 use ng_tags::fault::{HtmlFault, HtmlKind};
-use ng_tags::lexing::{after_doctype, next_event};
+use ng_tags::{after_doctype, next_event};
 use std::alloc::{AllocError, Global};
 
 /// Notes the places of the nodes that begin with an event.

@@ -9,12 +9,12 @@ ghost use Rattle.ng_html.specs.Attrs.{attr_of};
 ghost use Rattle.ng_html.specs.Laws.{PrintsBack};
 ghost use Rattle.ng_html.specs.Seen.{node_of, forest_of};
 
-use ng_tags::attrs::{Attr, Attrs};
 use crate::forest::{Forest, Node};
 use crate::tables::void;
 use ng_base::fault::Memory;
 use ng_base::reader::Plain;
 use ng_base::txt::Txt;
+use ng_tags::attrs::{Attr, Attrs};
 use std::alloc::AllocError;
 
 #[tactic(auto, using(crate::proofs::Prints::print_steps))]
