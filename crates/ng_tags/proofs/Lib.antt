@@ -3,3 +3,4 @@ pub mod TextTurns
 pub mod Maps
 pub mod AttributeShorter
 pub mod AttributeTurns
+pub mod Started

@@ -1,10 +1,10 @@
 -- What is read leaves no more than there was.
-use Rattle.std.proofs.Common.{◌≡◌, ◌≤◌, ◌<◌, ℕ, zero, suc, ◌+◌, Bool, true, false, List, [], ◌∷◌, ◌++◌, length, refl, ap, ◌∙◌, sym, subst, arith, inl, inr}
-use Rattle.std.specs.Prelude.{Option, None, Some, Result, Ok, Err, if◌then◌else◌, ◌⊎◌, ◌==◌}
+use Rattle.std.proofs.Common.{◌≤◌, ◌<◌, ℕ, Bool, true, false, List, [], ◌∷◌, ◌++◌, length, arith}
+use Rattle.std.specs.Prelude.{Option, None, Some, if◌then◌else◌, ◌==◌}
 use Rattle.ng_base.specs.Cells.{Cell}
 use Rattle.ng_tags.specs.Letters.{is_space, is_in_name, is_letter, lower}
-use Rattle.ng_tags.specs.Skips.{past_spaces, past, past_word, name_run}
-use Rattle.ng_tags.specs.References.{Read, named_character, is_character, radix, is_digit_of, digit_value, with_digit, digit_run, numbered, number_from, number_at, behind_sign, letter_run, read_so, named, name_from, reference, or_itself, character}
+use Rattle.ng_tags.specs.Skips.{past_spaces, past, name_run}
+use Rattle.ng_tags.specs.References.{Read, named_character, is_digit_of, digit_value, with_digit, digit_run, numbered, number_from, number_at, behind_sign, letter_run, read_so, named, name_from, reference, or_itself, character}
 use Rattle.ng_tags.specs.declared.base.Base.{Base}
 use Rattle.ng_tags.specs.declared.base.Base.TheVariants as base
 

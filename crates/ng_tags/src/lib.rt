@@ -14,6 +14,8 @@ pub mod references;
 pub mod skips;
 pub mod tables;
 pub mod tags;
+#[cfg(test)]
+mod tests;
 pub mod texts;
 pub mod until;
 
