@@ -14,3 +14,4 @@ pub mod Answered
 pub mod RawNames
 pub mod Kept
 pub mod Printed
+pub mod PlainText
