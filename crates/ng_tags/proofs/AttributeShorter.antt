@@ -1,6 +1,6 @@
 -- What is read of a tag leaves no more than there was.
-use Rattle.std.proofs.Common.{◌≡◌, ◌≤◌, ◌<◌, ℕ, zero, suc, ◌+◌, Bool, true, false, List, [], ◌∷◌, ◌++◌, length, refl, ap, ◌∙◌, sym, arith, inl, inr}
-use Rattle.std.specs.Prelude.{Option, None, Some, Result, Ok, Err, if◌then◌else◌, ◌⊎◌, ◌==◌}
+use Rattle.std.proofs.Common.{◌≤◌, ℕ, zero, suc, Bool, true, false, List, [], ◌∷◌, ◌++◌, length, arith}
+use Rattle.std.specs.Prelude.{Option, Result, Ok, Err, if◌then◌else◌, ◌==◌}
 use Rattle.ng_base.specs.Cells.{Cell}
 use Rattle.ng_base.specs.Meets.{◌>>=◌}
 use Rattle.ng_markup.specs.Forest.{Attributes}
@@ -8,7 +8,7 @@ use Rattle.ng_tags.specs.Free.{fault, met_or, met_first}
 use Rattle.ng_tags.specs.Letters.{is_space, is_in_attribute, is_bare, lower}
 use Rattle.ng_tags.specs.Skips.{past_spaces}
 use Rattle.ng_tags.specs.References.{character}
-use Rattle.ng_tags.specs.Texts.{ends, with_character, text_within, text_from, text_run, no_text}
+use Rattle.ng_tags.specs.Texts.{ends, with_character, text_within, text_run, no_text}
 use Rattle.ng_tags.specs.Attributes.{ValueRead, AttributeRead, attribute_run, quoted, unquoted, value_at, value_behind, named, attribute_at, inside, broken, slash, either_way, with_attribute, attributes_within}
 use Rattle.ng_tags.specs.declared.attributes.Inside.{Inside}
 use Rattle.ng_tags.specs.declared.fault.HtmlFault.{HtmlFault}

@@ -1,10 +1,10 @@
 -- One attribute more.
-use Rattle.std.proofs.Common.{◌≡◌, ◌≤◌, ◌<◌, ℕ, zero, suc, ◌+◌, Bool, true, false, List, [], ◌∷◌, ◌++◌, length, refl, ap, ◌∙◌, sym, arith}
+use Rattle.std.proofs.Common.{◌≡◌, ◌≤◌, ◌<◌, ℕ, zero, suc, Bool, true, false, List, [], ◌∷◌, length, refl, ap, ◌∙◌, arith}
 use Rattle.std.specs.Prelude.{Option, Result, Ok, Err, if◌then◌else◌, ◌==◌}
 use Rattle.ng_base.specs.Cells.{Cell}
-use Rattle.ng_base.proofs.Binds.{if_true, if_false}
+use Rattle.ng_base.proofs.Binds.{if_false}
 use Rattle.ng_markup.specs.Forest.{Attributes}
-use Rattle.ng_tags.specs.Free.{fault, met_first}
+use Rattle.ng_tags.specs.Free.{met_first}
 use Rattle.ng_tags.specs.Letters.{is_space}
 use Rattle.ng_tags.specs.Attributes.{AttributeRead, attribute_at, inside, broken, slash, either_way, with_attribute, attributes_within, attributes_from}
 use Rattle.ng_tags.specs.declared.attributes.Inside.{Inside}

@@ -4,3 +4,9 @@ pub mod Maps
 pub mod AttributeShorter
 pub mod AttributeTurns
 pub mod Started
+pub mod EventLess
+pub mod Runs
+pub mod ReferenceSound
+pub mod ReferenceComplete
+pub mod TextSound
+pub mod TextComplete

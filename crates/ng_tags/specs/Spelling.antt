@@ -25,16 +25,13 @@ abbrev pub digits_value : Base → ℕ → List ℕ → ℕ
 digits_value b n [] = n
 digits_value b n (c ∷ cs) = digits_value b (with_digit b n (digit_value c)) cs
 
--- how a base is written between `&#` and the digits
-abbrev pub base_sign : Base → List ℕ
-base_sign base.Decimal = []
-base_sign base.Hexadecimal = codes "x"
-
 -- the cells us behind an `&` name the character x
 pub data Names : ℕ → List Cell → Type 0 where
   by_name : (x : ℕ) (w : List Cell) (z : Cell) → list_all is_letter (chars_of w) ≡ true → named_character (chars_of w) ≡ Some x → z.0 ≡ 59 → Names x (w ++ z ∷ [])
-  by_number : (b : Base) (a : Cell) (s : List Cell) (d : Cell) (w : List Cell) (z : Cell) → a.0 ≡ 35 → chars_of s ≡ base_sign b → list_all (is_digit_of b) (chars_of (d ∷ w)) ≡ true →
-      is_character (digits_value b 0 (chars_of (d ∷ w))) ≡ true → z.0 ≡ 59 → Names (digits_value b 0 (chars_of (d ∷ w))) (a ∷ (s ++ d ∷ (w ++ z ∷ [])))
+  by_number : (a d : Cell) (w : List Cell) (z : Cell) → a.0 ≡ 35 → list_all (is_digit_of base.Decimal) (chars_of (d ∷ w)) ≡ true → is_character (digits_value base.Decimal 0 (chars_of (d ∷ w))) ≡ true → z.0 ≡ 59 →
+    Names (digits_value base.Decimal 0 (chars_of (d ∷ w))) (a ∷ d ∷ (w ++ z ∷ []))
+  by_hexadecimal : (a b d : Cell) (w : List Cell) (z : Cell) → a.0 ≡ 35 → b.0 ≡ 120 → list_all (is_digit_of base.Hexadecimal) (chars_of (d ∷ w)) ≡ true → is_character (digits_value base.Hexadecimal 0 (chars_of (d ∷ w))) ≡ true → z.0 ≡ 59 →
+    Names (digits_value base.Hexadecimal 0 (chars_of (d ∷ w))) (a ∷ b ∷ d ∷ (w ++ z ∷ []))
 
 -- the cells us, which that rest follows, read as the text t up to what ends it
 pub data Reads (u : Until) (rest : List Cell) : List Cell → List ℕ → Type 0 where
@@ -98,20 +95,20 @@ pub record IsAttribute (name value : List ℕ) (us rest : List Cell) : Type 0 wh
   pub name_ends : BeginsNot is_in_attribute (behind ++ rest)
   pub valued : Valued rest value behind
 
--- with these attributes before, the cells up to the end of the tag give those; the tag may end in `/>`
-pub data AreAttributes : Attributes → List Cell → Attributes → Bool → Type 0 where
-  ends_open : (done : Attributes) (z : Cell) → z.0 ≡ 62 → AreAttributes done (z ∷ []) done false
-  ends_closed : (done : Attributes) (y z : Cell) → y.0 ≡ 47 → z.0 ≡ 62 → AreAttributes done (y ∷ z ∷ []) done true
-  space_then : (done all : Attributes) (b : Bool) (c : Cell) (us : List Cell) → is_space c.0 ≡ true → AreAttributes done us all b → AreAttributes done (c ∷ us) all b
-  attribute_then : (done all : Attributes) (b : Bool) (name value : List ℕ) (us vs : List Cell) → IsAttribute name value us vs → AreAttributes (with_attribute done name value) vs all b → AreAttributes done (us ++ vs) all b
+-- with these attributes before, the cells up to the end of the tag, which that rest follows, give those; the tag may end in `/>`
+pub data AreAttributes (rest : List Cell) : Attributes → List Cell → Attributes → Bool → Type 0 where
+  ends_open : (done : Attributes) (z : Cell) → z.0 ≡ 62 → AreAttributes rest done (z ∷ []) done false
+  ends_closed : (done : Attributes) (y z : Cell) → y.0 ≡ 47 → z.0 ≡ 62 → AreAttributes rest done (y ∷ z ∷ []) done true
+  space_then : (done all : Attributes) (b : Bool) (c : Cell) (us : List Cell) → is_space c.0 ≡ true → AreAttributes rest done us all b → AreAttributes rest done (c ∷ us) all b
+  attribute_then : (done all : Attributes) (b : Bool) (name value : List ℕ) (us vs : List Cell) → IsAttribute name value us (vs ++ rest) → AreAttributes rest (with_attribute done name value) vs all b → AreAttributes rest done (us ++ vs) all b
 
 -- what may stand right behind a tag's name
 abbrev pub NameEnds : List Cell → Type 0
 NameEnds [] = ⊥
 NameEnds (c ∷ cs) = (is_space c.0 || c.0 == 62 || c.0 == 47) ≡ true
 
--- a start tag
-pub record IsStartTag (t : Tag) (us : List Cell) : Type 0 where
+-- a start tag, which that rest follows
+pub record IsStartTag (t : Tag) (us rest : List Cell) : Type 0 where
   pub first : Cell
   pub name : List Cell
   pub inside : List Cell
@@ -122,7 +119,7 @@ pub record IsStartTag (t : Tag) (us : List Cell) : Type 0 where
   pub in_lower : t.name ≡ map lower (chars_of name)
   pub not_left_out : is_left_out t.name ≡ false
   pub name_ends : NameEnds inside
-  pub attributes : AreAttributes [] inside t.attrs t.closed
+  pub attributes : AreAttributes rest [] inside t.attrs t.closed
   pub no_fault : t.fault ≡ None
 
 abbrev pub is_line_feed : ℕ → Bool
@@ -189,7 +186,7 @@ pub record IsRaw (t : Tag) (text : List ℕ) (p : ℕ) (us rest : List Cell) : T
   pub closing : List Cell
   pub q : ℕ
   pub whole : us ≡ tag ++ (dropped ++ (inner ++ closing))
-  pub is_tag : IsStartTag t tag
+  pub is_tag : IsStartTag t tag (dropped ++ (inner ++ (closing ++ rest)))
   pub is_raw : is_raw t.name ≡ true
   pub is_open : t.closed ≡ false
   pub drops : Dropped t.name (inner ++ (closing ++ rest)) dropped
@@ -202,7 +199,7 @@ pub record IsStart (t : Tag) (us rest : List Cell) : Type 0 where
   pub tag : List Cell
   pub dropped : List Cell
   pub whole : us ≡ tag ++ dropped
-  pub is_tag : IsStartTag t tag
+  pub is_tag : IsStartTag t tag (dropped ++ rest)
   pub has_content : (is_raw t.name && not t.closed) ≡ false
   pub drops : Dropped t.name rest dropped
 
