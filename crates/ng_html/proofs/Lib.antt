@@ -15,3 +15,7 @@ pub mod RawNames
 pub mod Kept
 pub mod Printed
 pub mod PlainText
+pub mod SortedAttributes
+pub mod ReadTexts
+pub mod ReadComments
+pub mod ReadEvents

@@ -150,7 +150,7 @@ reads_err total (suc k) s ps (c ∷ cs) f l h =
         | inr m ↦
             let e = lexed_sound total c cs g.0.1 g.0.0 g.1 (taken_whole s m.0 g.0.0 m.1) in
             one_further total s m.0 (c ∷ cs) g.0.1 e.0 g.0.0 f m.1 e.1 e.2
-            (reads_err total k m.0 (ps ++ begin g.0.0) g.0.1 f (omega (arith, lexed_less total c cs g.0.1 g.0.0 g.1)) m.2)
+            (reads_err total k m.0 (ps ++ begin g.0.0) g.0.1 f (omega (arith, lexed_less total c cs g.0.0 g.0.1 g.1)) m.2)
       ]
     ]
 

@@ -19,14 +19,14 @@ same_room total (suc k) zero s ps cs h i = absurd (omega arith)
 same_room total (suc k) (suc j) s ps [] h i = refl
 same_room total (suc k) (suc j) s ps (c ∷ cs) h i =
     bind_same (event_at total c cs) (λ r. take_event s r.0 >>= λ t. reads total k t (ps ++ begin r.0) r.1) (λ r. take_event s r.0 >>= λ t. reads total j t (ps ++ begin r.0) r.1)
-    (λ r e. let less = lexed_less total c cs r.1 r.0 e in
+    (λ r e. let less = lexed_less total c cs r.0 r.1 e in
     bind_same (take_event s r.0) (λ t. reads total k t (ps ++ begin r.0) r.1) (λ t. reads total j t (ps ++ begin r.0) r.1)
     (λ t f. same_room total k j t (ps ++ begin r.0) r.1 (omega (arith, less)) (omega (arith, less))))
 
 pub read_event_on : (total : ℕ) (s t : State) (ps : List ℕ) (c : Cell) (cs rest : List Cell) (e : Event) → event_at total c cs ≡ Ok (e, rest) → take_event s e ≡ Ok t →
     read_on total s ps (c ∷ cs) ≡ read_on total t (ps ++ begin e) rest
 read_event_on total s t ps c cs rest e h i =
-    let less : length rest < length (c ∷ cs) = lexed_less total c cs rest e h in
+    let less : length rest < length (c ∷ cs) = lexed_less total c cs e rest h in
     ap (λ (x : Result (Event × List Cell) HtmlFault). x >>= λ r. take_event s r.0 >>= λ u. reads total (length (c ∷ cs)) u (ps ++ begin r.0) r.1) h
     ∙ (ap (λ (x : Result State HtmlFault). x >>= λ u. reads total (length (c ∷ cs)) u (ps ++ begin e) rest) i
     ∙ same_room total (length (c ∷ cs)) (suc (length rest)) t (ps ++ begin e) rest (omega (arith, less)) (omega arith))

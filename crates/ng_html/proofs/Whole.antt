@@ -59,7 +59,7 @@ reads_written total (suc k) s ps (c ∷ cs) f qs l h =
     let a = bind_ok (event_at total c cs) (λ r. take_event s r.0 >>= λ t. reads total k t (ps ++ begin r.0) r.1) (f, qs) h in
     let b = bind_ok (take_event s a.0.0) (λ t. reads total k t (ps ++ begin a.0.0) a.0.1) (f, qs) a.2 in
     let e = lexed_sound total c cs a.0.1 a.0.0 a.1 (taken_whole s b.0 a.0.0 b.1) in
-    let r = reads_written total k b.0 (ps ++ begin a.0.0) a.0.1 f qs (omega (arith, lexed_less total c cs a.0.1 a.0.0 a.1)) b.2 in
+    let r = reads_written total k b.0 (ps ++ begin a.0.0) a.0.1 f qs (omega (arith, lexed_less total c cs a.0.0 a.0.1 a.1)) b.2 in
     record {
       es = a.0.0 ∷ r.es;
       written = (e.0, a.0.1, e.1, e.2, r.written);

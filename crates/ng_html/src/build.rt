@@ -2,7 +2,7 @@
 ghost use Rattle.std.specs.Prelude.{◌≡◌, ◌∷◌, [], length, MatchOption, OnOk, IfOk, Ok};
 ghost use Rattle.ng_base.specs.Meets.{Gives};
 ghost use Rattle.ng_markup.specs.Forest.{element};
-ghost use Rattle.ng_html.specs.Free.{is_free};
+ghost use Rattle.ng_html.specs.Free.{fault, is_free};
 ghost use Rattle.ng_html.specs.Building.{admitted, close, content as content_of, empty, ended, entered, entered_raw, finished, opened, shut_by, take_event, top_closed, with_leaf};
 ghost use Rattle.ng_html.specs.Seen.{node_of, forest_of};
 ghost use Rattle.ng_html.specs.TreeSeen.{around_of, arounds, state_of};
@@ -121,26 +121,26 @@ fn shut(b: Builder, name: &Txt) -> Result<Builder, AllocError>
     Ok(Builder { stack, done })
 }
 
+fn refusal(kind: HtmlKind, place: u64) -> HtmlFault
+    ensures { result ≡ fault kind place }
+{
+    HtmlFault { place, kind }
+}
+
 /// Refuses a start tag where so many elements are open. What is wrong inside of it comes last.
 fn admit(depth: usize, tag: &Tag, may_close: bool) -> Result<(), HtmlFault>
     ensures { Gives is_free (λ u. u) (admitted depth tag.now may_close) result }
 {
     if depth < 200 {
         if tag.closed && !may_close {
-            return Err(HtmlFault {
-                place: tag.place,
-                kind: HtmlKind::SelfClosed,
-            });
+            return Err(refusal(HtmlKind::SelfClosed, tag.place));
         }
         match tag.fault {
             None => Ok(()),
             Some(fault) => Err(fault),
         }
     } else {
-        Err(HtmlFault {
-            place: tag.place,
-            kind: HtmlKind::TooDeep,
-        })
+        Err(refusal(HtmlKind::TooDeep, tag.place))
     }
 }
 
@@ -191,11 +191,11 @@ fn content(alloc: Global, text: Txt) -> Result<Forest, AllocError>
 fn start_raw(alloc: Global, b: Builder, tag: Tag, text: Txt) -> Result<Builder, HtmlFault>
     ensures { Gives is_free state_of (entered_raw (shut_by tag.name (arounds b.stack.items) (forest_of b.done)) tag text) result }
 {
-    let b = shut(b, &tag.name)?;
-    admit(depth(&b.stack), &tag, false)?;
+    let around = shut(b, &tag.name)?;
+    admit(depth(&around.stack), &tag, false)?;
     let kids = content(alloc, text)?;
     let Tag { name, attrs, .. } = tag;
-    Ok(add_leaf(b, element_node(name, attrs, kids))?)
+    Ok(add_leaf(around, element_node(name, attrs, kids))?)
 }
 
 /// An end tag.
@@ -212,17 +212,11 @@ fn end(b: Builder, name: Txt, place: u64) -> Result<Builder, HtmlFault>
             return Ok(Builder { stack, done });
         }
         if !omittable(&p.name) {
-            return Err(HtmlFault {
-                place,
-                kind: HtmlKind::Unmatched,
-            });
+            return Err(refusal(HtmlKind::Unmatched, place));
         }
         done = closed(p, done)?;
     }
-    Err(HtmlFault {
-        place,
-        kind: HtmlKind::Unmatched,
-    })
+    Err(refusal(HtmlKind::Unmatched, place))
 }
 
 /// A node without children that are still to come.
@@ -243,13 +237,11 @@ pub fn finish(b: Builder, total: usize) -> Result<Forest, HtmlFault>
         mut done,
     } = b;
     while let Some(p) = pop_pending(&mut stack) {
-        if !omittable(&p.name) {
-            return Err(HtmlFault {
-                place: total as u64,
-                kind: HtmlKind::Unclosed,
-            });
+        if omittable(&p.name) {
+            done = closed(p, done)?;
+        } else {
+            return Err(refusal(HtmlKind::Unclosed, total as u64));
         }
-        done = closed(p, done)?;
     }
     Ok(done)
 }

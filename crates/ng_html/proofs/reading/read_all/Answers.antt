@@ -8,7 +8,7 @@ use Rattle.ng_html.proofs.reading.read_all.Goals as goal
 
 pub loop-c-smaller : goal.loop-c-smaller
 loop-c-smaller c =
-    let less = lexed_less c.args.total (c.in-Some.c, c.in-Some.place) c.in-Some.rest c.in_ok-event.rest c.in_ok-event.event c.in_ok-event.ensures in
+    let less = lexed_less c.args.total (c.in-Some.c, c.in-Some.place) c.in-Some.rest c.in_ok-event.event c.in_ok-event.rest c.in_ok-event.ensures in
     omega (arith, less, ap length c.in-Some.ensures)
 
 pub loop-c-preserved : goal.loop-c-preserved
