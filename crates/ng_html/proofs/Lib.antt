@@ -19,3 +19,4 @@ pub mod SortedAttributes
 pub mod ReadTexts
 pub mod ReadComments
 pub mod ReadEvents
+pub mod PrintedTexts
