@@ -12,11 +12,13 @@ pub mod Refused
 pub mod OneRefusal
 pub mod Answered
 pub mod RawNames
-pub mod Kept
-pub mod Printed
 pub mod PlainText
 pub mod SortedAttributes
 pub mod ReadTexts
 pub mod ReadComments
 pub mod ReadEvents
 pub mod PrintedTexts
+pub mod Kept
+pub mod Lines
+pub mod PrintedEvents
+pub mod Printed

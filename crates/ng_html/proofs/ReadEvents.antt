@@ -44,9 +44,9 @@ AllRead (a ∷ more) = IsAttributeName a.0 × (list_all is_value_char a.1 ≡ tr
 abbrev pub AreRead : Attributes → Type 0
 AreRead a = AllRead a × AreSorted a
 
--- a character of a comment
-abbrev pub is_comment_char : ℕ → Bool
-is_comment_char c = is_cell_char c && not (c == 10)
+-- a character of a comment, and of each print
+abbrev pub is_line_char : ℕ → Bool
+is_line_char c = is_cell_char c && not (c == 10)
 
 -- an event that was read
 abbrev pub IsRead : Event → Type 0
@@ -54,7 +54,7 @@ IsRead (event.Start t) = IsReadName t.name × AreRead t.attrs
 IsRead (event.Raw t x q) = IsReadName t.name × AreRead t.attrs × (list_all is_value_char x ≡ true)
 IsRead (event.End n p) = ⊤
 IsRead (event.Text t p) = (t ≢ []) × (list_all is_value_char t ≡ true)
-IsRead (event.Comment t p) = (list_all is_comment_char t ≡ true) × NeverEnds t
+IsRead (event.Comment t p) = (list_all is_line_char t ≡ true) × NeverEnds t
 
 -- names in small letters
 lower_letter : (c : ℕ) → is_letter c ≡ true → is_letter (lower c) ≡ true
@@ -150,21 +150,21 @@ text_some u rest us t (itself c vs v e m r) n = λ e. cc
 text_some u rest us t (by_reference c ws vs v x e m r) n = λ e. cc
 text_some u rest us t (ampersand c vs v e m r) n = λ e. cc
 
-comment_cells : (w : List ℕ) → list_all is_cell_char w ≡ true → list_all is_comment_char (map as_space w) ≡ true
+comment_cells : (w : List ℕ) → list_all is_cell_char w ≡ true → list_all is_line_char (map as_space w) ≡ true
 comment_cells [] h = refl
 comment_cells (c ∷ w) h =
     let b = both_true (is_cell_char c) (list_all is_cell_char w) h in
-    both (is_comment_char (as_space c)) (list_all is_comment_char (map as_space w)) (one c b.0) (comment_cells w b.1)
+    both (is_line_char (as_space c)) (list_all is_line_char (map as_space w)) (one c b.0) (comment_cells w b.1)
   where
-    one : (c : ℕ) → is_cell_char c ≡ true → is_comment_char (as_space c) ≡ true
-    one c h = if_held (c == 10) 32 c (λ x. is_comment_char x ≡ true) (λ e. refl) (λ e. both (is_cell_char c) (not (c == 10)) h (ap not e))
+    one : (c : ℕ) → is_cell_char c ≡ true → is_line_char (as_space c) ≡ true
+    one c h = if_held (c == 10) 32 c (λ x. is_line_char x ≡ true) (λ e. refl) (λ e. both (is_cell_char c) (not (c == 10)) h (ap not e))
 
 comment_read : (t : List ℕ) (p : ℕ) (us rest : List Cell) → IsComment t p us rest → list_all is_cell_char (chars_of us) ≡ true → IsRead (event.Comment t p)
 comment_read t p us rest c h =
     let all = subst (λ (xs : List Cell). list_all is_cell_char (chars_of xs) ≡ true) c.whole h in
     let b = both_true (is_cell_char c.first.0) (list_all is_cell_char (chars_of (c.opening ++ (c.inner ++ c.closing)))) all in
     let i = parts is_cell_char c.inner c.closing (parts is_cell_char c.opening (c.inner ++ c.closing) b.1).1 in
-    (subst (λ w. list_all is_comment_char w ≡ true) (sym c.reads) (comment_cells (chars_of c.inner) i.0), subst NeverEnds (sym c.reads) (goes_never c.inner c.closing rest c.closes c.goes_on))
+    (subst (λ w. list_all is_line_char w ≡ true) (sym c.reads) (comment_cells (chars_of c.inner) i.0), subst NeverEnds (sym c.reads) (goes_never c.inner c.closing rest c.closes c.goes_on))
 
 raw_read : (t : Tag) (x : List ℕ) (q : ℕ) (us rest : List Cell) → IsRaw t x q us rest → list_all is_cell_char (chars_of us) ≡ true → IsRead (event.Raw t x q)
 raw_read t x q us rest r h =
