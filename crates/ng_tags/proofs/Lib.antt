@@ -10,3 +10,9 @@ pub mod ReferenceSound
 pub mod ReferenceComplete
 pub mod TextSound
 pub mod TextComplete
+pub mod AttributeSound
+pub mod AttributeComplete
+pub mod TagSound
+pub mod TagComplete
+pub mod EventSound
+pub mod EventComplete

@@ -1,16 +1,16 @@
 -- What is read as a character is spelled so.
-use Rattle.std.proofs.Common.{◌≡◌, ℕ, Bool, true, false, ◌&&◌, List, [], ◌∷◌, ◌++◌, map, refl, ap, ◌∙◌, sym, subst, arith, inl, inr, append_assoc, append-nil}
-use Rattle.std.specs.Prelude.{Option, None, Some, if◌then◌else◌, ◌⊎◌, ◌==◌}
+use Rattle.std.proofs.Common.{◌≡◌, ℕ, true, false, List, [], ◌∷◌, ◌++◌, refl, ap, ◌∙◌, sym, subst, inl, inr, append_assoc}
+use Rattle.std.specs.Prelude.{Option, None, Some, if◌then◌else◌, ◌==◌}
 use Rattle.std.specs.List.{list_all}
 use Rattle.ng_base.specs.Cells.{Cell}
-use Rattle.ng_base.proofs.Binds.{chosen, if_true, if_false}
+use Rattle.ng_base.proofs.Binds.{chosen, if_true}
 use Rattle.ng_tags.specs.Letters.{is_letter}
 use Rattle.ng_tags.specs.Skips.{past}
 use Rattle.ng_tags.specs.References.{Read, named_character, is_character, is_digit_of, digit_value, with_digit, digit_run, numbered, number_from, number_at, behind_sign, letter_run, read_so, named, name_from, reference, or_itself, character}
 use Rattle.ng_tags.specs.Spelling.{chars_of, digits_value, Names, by_name, by_number, by_hexadecimal}
 use Rattle.ng_tags.specs.declared.base.Base.{Base}
 use Rattle.ng_tags.specs.declared.base.Base.TheVariants as base
-use Rattle.ng_tags.proofs.Runs.{is_code, both, both_true, same, map-same, letter_runs, digit_runs, past_is}
+use Rattle.ng_tags.proofs.Runs.{is_code, both, map-same, letter_runs, digit_runs, past_is}
 
 -- a number and its `;`
 pub record Numbered (b : Base) (x : ℕ) (cs rest : List Cell) : Type 0 where

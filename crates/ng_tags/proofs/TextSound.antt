@@ -1,14 +1,11 @@
 -- What is read as a text is spelled so.
-use Rattle.std.proofs.Common.{◌≡◌, ◌≤◌, ◌<◌, ℕ, zero, suc, ◌+◌, Bool, true, false, List, [], ◌∷◌, ◌++◌, length, refl, ap, ◌∙◌, sym, subst, arith, inl, inr, append_assoc, append-nil}
-use Rattle.std.specs.Prelude.{Option, None, Some, if◌then◌else◌, ◌⊎◌, ◌==◌}
+use Rattle.std.proofs.Common.{◌≡◌, ◌<◌, ℕ, zero, suc, false, List, [], ◌∷◌, ◌++◌, length, refl, ap, ◌∙◌, sym, subst, arith, inl, inr, append_assoc, append-nil}
+use Rattle.std.specs.Prelude.{Option, None, Some}
 use Rattle.ng_base.specs.Cells.{Cell}
 use Rattle.ng_base.proofs.Binds.{chosen}
-use Rattle.ng_tags.specs.Free.{fault, met_or}
-use Rattle.ng_tags.specs.References.{Read, reference, character}
-use Rattle.ng_tags.specs.Texts.{ends, decoded, no_text, with_character, text_within, text_from, text_run}
+use Rattle.ng_tags.specs.References.{reference, character}
+use Rattle.ng_tags.specs.Texts.{ends, with_character, text_within, text_from}
 use Rattle.ng_tags.specs.Spelling.{Reads, no_more, itself, by_reference, ampersand, Ended}
-use Rattle.ng_tags.specs.declared.fault.HtmlFault.{HtmlFault}
-use Rattle.ng_tags.specs.declared.fault.HtmlKind.TheVariants as kind
 use Rattle.ng_tags.specs.declared.texts.Decoded.{Decoded}
 use Rattle.ng_tags.specs.declared.until.Until.{Until}
 use Rattle.ng_tags.proofs.Shorter.{character_less}
