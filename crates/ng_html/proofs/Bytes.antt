@@ -45,9 +45,11 @@ not_plain bs h p = let t = of_plain bs p in cc
 
 -- a text is read by its cells
 pub plain_read : (bs : List ℕ) → IsPlainText bs → read_bytes bs ≡ read_cells (length bs) (cells_of bs)
+unfolding read_bytes
 plain_read bs h = if_true (is_plain_text bs) (read_cells (length bs) (cells_of bs)) (no_answer bs) (of_plain bs h)
 
 pub no_plain_read : (bs : List ℕ) → (IsPlainText bs → ⊥) → read_bytes bs ≡ no_answer bs
+unfolding read_bytes
 no_plain_read bs h = if_false (is_plain_text bs) (read_cells (length bs) (cells_of bs)) (no_answer bs) (not_so (is_plain_text bs) (λ t. h (plain_of bs t)))
 
 -- an ill-formed sequence, where zero bytes may stand before

@@ -22,3 +22,6 @@ pub mod Kept
 pub mod Lines
 pub mod PrintedEvents
 pub mod Printed
+pub mod Doctype
+pub mod GoodEvents
+pub mod Back

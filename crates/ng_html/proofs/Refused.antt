@@ -148,7 +148,7 @@ reads_err total (suc k) s ps (c ∷ cs) f l h =
       | inr g ↦ elim (bind_err (take_event s g.0.0) (λ t. reads total k t (ps ++ begin g.0.0) g.0.1) f g.2) [
         | inl m ↦ stops_here total s (c ∷ cs) f (g.0.0 ∷ []) (inr (g.0.0, g.0.1, refl, g.1, take_err s g.0.0 f m))
         | inr m ↦
-            let e = lexed_sound total c cs g.0.1 g.0.0 g.1 (taken_whole s m.0 g.0.0 m.1) in
+            let e = lexed_sound total c cs g.0.0 g.0.1 g.1 (taken_whole s m.0 g.0.0 m.1) in
             one_further total s m.0 (c ∷ cs) g.0.1 e.0 g.0.0 f m.1 e.1 e.2
             (reads_err total k m.0 (ps ++ begin g.0.0) g.0.1 f (omega (arith, lexed_less total c cs g.0.0 g.0.1 g.1)) m.2)
       ]
@@ -160,6 +160,7 @@ cells_refuse total cs f h =
     (r.us, r.ws, r.es, r.rest, r.to.stack, r.to.done, r.whole, r.written, took_stands empty r.to r.es (r.es ++ r.rest) r.rest r.took (refl, omega arith), r.wrong)
 
 pub refuses : (bs : List ℕ) (f : HtmlFault) → read_bytes bs ≡ Err f → Refuses bs f
+unfolding read_bytes
 refuses bs f h =
     elim (chosen (is_plain_text bs) (read_cells (length bs) (cells_of bs)) (no_answer bs) (Err f) h) [
       | inr g ↦ inl (not_plain bs g.0, err_same (fault kind.Utf8 (sound_len bs)) f g.1)

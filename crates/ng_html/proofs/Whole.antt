@@ -58,7 +58,7 @@ reads_written total (suc k) s ps [] f qs l h =
 reads_written total (suc k) s ps (c ∷ cs) f qs l h =
     let a = bind_ok (event_at total c cs) (λ r. take_event s r.0 >>= λ t. reads total k t (ps ++ begin r.0) r.1) (f, qs) h in
     let b = bind_ok (take_event s a.0.0) (λ t. reads total k t (ps ++ begin a.0.0) a.0.1) (f, qs) a.2 in
-    let e = lexed_sound total c cs a.0.1 a.0.0 a.1 (taken_whole s b.0 a.0.0 b.1) in
+    let e = lexed_sound total c cs a.0.0 a.0.1 a.1 (taken_whole s b.0 a.0.0 b.1) in
     let r = reads_written total k b.0 (ps ++ begin a.0.0) a.0.1 f qs (omega (arith, lexed_less total c cs a.0.0 a.0.1 a.1)) b.2 in
     record {
       es = a.0.0 ∷ r.es;
@@ -76,7 +76,7 @@ spelled_of total cs f ps h =
 
 pub one_read : (total : ℕ) (s t : State) (ps : List ℕ) (e : Event) (us rest : List Cell) → Lexeme e us rest → take_event s e ≡ Ok t → read_on total s ps (us ++ rest) ≡ read_on total t (ps ++ begin e) rest
 one_read total s t ps e [] rest l h = absurd (lexeme_some e [] rest l refl)
-one_read total s t ps e (c ∷ us) rest l h = read_event_on total s t ps c (us ++ rest) rest e (lexed_complete total c us (c ∷ us) rest e l refl) h
+one_read total s t ps e (c ∷ us) rest l h = read_event_on total s t ps c (us ++ rest) rest e (lexed_complete total e (c ∷ us) rest c us l refl) h
 
 written_read : (total : ℕ) (s : State) (ps : List ℕ) (es : List Event) (cs : List Cell) (f : Forest) → Written es cs → run total s es ≡ Ok f → read_on total s ps cs ≡ answer f (ps ++ flat_map begin es)
 written_read total s ps [] cs f w h =
@@ -94,6 +94,7 @@ spelled_read total cs f ps h =
     written_read total empty [] h.0 cs f h.1 (spelled_runs total f h.0 h.2 h.3) ∙ ap (answer f) (sym h.4)
 
 pub html_of : (bs : List ℕ) (f : Forest) (ps : List ℕ) → read_bytes bs ≡ answer f ps → Html bs f ps
+unfolding read_bytes
 html_of bs f ps h =
     let g = guarded (is_plain_text bs) (read_cells (length bs) (cells_of bs)) (fault kind.Utf8 (sound_len bs)) (f, ps) h in
     let b = bind_ok (after_doctype (cells_of bs)) (λ cs. read_on (length bs) empty [] cs) (f, ps) g.1 in

@@ -54,5 +54,5 @@ abbrev pub is_plain_text : List ℕ → Bool
 is_plain_text bytes = is_utf8 bytes && before_zero bytes == length bytes
 
 -- the forest and the places of a document
-abbrev pub read_bytes : List ℕ → Result (Forest × List ℕ) HtmlFault
+unfoldable pub read_bytes : List ℕ → Result (Forest × List ℕ) HtmlFault
 read_bytes bytes = if is_plain_text bytes then read_cells (length bytes) (cells_of bytes) else Err (fault kind.Utf8 (sound_len bytes))
