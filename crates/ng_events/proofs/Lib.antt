@@ -6,3 +6,4 @@ pub mod Homes
 pub mod Tables
 pub mod Quiet
 pub mod Walks
+pub mod Apart

@@ -160,3 +160,6 @@ impl Listeners {
         quiet_scope(&mut self.stands, &mut self.homes, s.0);
     }
 }
+
+#[cfg(test)]
+mod tests;
