@@ -1,5 +1,5 @@
 -- Walks that stay open beside one that is begun, goes on or ends.
-use Rattle.std.proofs.Common.{◌≡◌, ◌<◌, ◌+◌, ℕ, zero, suc, Bool, true, false, ◌&&◌, eqb, List, [], ◌∷◌, length, Option, Some, None, IsSome, refl, ap, sym, ◌∙◌, arith, eqb-true, tt, if◌then◌else◌}
+use Rattle.std.proofs.Common.{◌≡◌, ◌<◌, ◌+◌, ℕ, zero, suc, Bool, true, false, ◌&&◌, eqb, List, [], ◌∷◌, length, Option, Some, None, IsSome, refl, ap, sym, ◌∙◌, arith, eqb-true, if◌then◌else◌}
 use Rattle.std.specs.Prelude.{is_some, slice_set}
 use Rattle.ng_chain.specs.Walked.{walk_at}
 use Rattle.ng_chain.specs.declared.chain.Span.{Span}
@@ -12,12 +12,15 @@ use Rattle.ng_events.specs.Stands.{Table, IsOpen, Begins, Goes, Ends, lists_of, 
 use Rattle.ng_events.specs.Apart.{AreApart, StayOpen}
 use Rattle.ng_events.proofs.Walks.{hears-open}
 
+other : (k n : ℕ) → eqb (suc k) (suc n) ≡ false → eqb k n ≡ false
+other k n e = grind arith
+
 set-other : (ws : List (Option Span)) (k n : ℕ) (w : Option Span) → eqb k n ≡ false → IsSome (walk_at ws n) → IsSome (walk_at (slice_set ws k w) n)
 set-other [] k n w e o = o
 set-other (x ∷ xs) zero zero w e o = absurd (cc)
 set-other (x ∷ xs) zero (suc n) w e o = o
 set-other (x ∷ xs) (suc k) zero w e o = o
-set-other (x ∷ xs) (suc k) (suc n) w e o = set-other xs k n w e o
+set-other (x ∷ xs) (suc k) (suc n) w e o = set-other xs k n w (other k n e) o
 
 set-some : (ws : List (Option Span)) (k n : ℕ) (w : Option Span) → IsSome w → IsSome (walk_at ws n) → IsSome (walk_at (slice_set ws k w) n)
 set-some [] k n w s o = o

@@ -7,3 +7,4 @@ pub mod Tables
 pub mod Quiet
 pub mod Walks
 pub mod Apart
+pub mod Silent
