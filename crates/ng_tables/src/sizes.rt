@@ -88,7 +88,7 @@ const LEVELS: [(u32, &str, &str, &str, Asks, &str); 18] = [
 ];
 
 /// 100,000 nodes are taken, the value counted: how many numbers stand in an array, what is asked, and the answer.
-const NODES: [(u32, Asks, &str); 8] = [
+const NODES: [(u32, Asks, &str); 9] = [
     (99_999, DEEP, "ok"),
     (100_000, DEEP, "TooBig"),
     (99_999, Asks::Json, "ok"),
@@ -96,6 +96,7 @@ const NODES: [(u32, Asks, &str); 8] = [
     (99_999, Asks::Text, "ok"),
     (100_000, Asks::Text, "TooBig"),
     (99_999, COLLECTION, "ok"),
+    (100_000, COLLECTION, "ok"),
     (100_000, REFERENCE, "ok"),
 ];
 
