@@ -1,5 +1,4 @@
 //! Listeners that are walked, and then taken out one after another while the walk is open.
-ghost use Rattle.std.specs.Prelude.{◌≡◌};
 ghost use Rattle.ng_events.specs.Apart.{StayOpen};
 ghost use Rattle.ng_events.specs.Stands.{IsOpen};
 
@@ -68,13 +67,20 @@ fn met(listeners: &mut Listeners, w: &mut EventWalk, size: u32) -> u64
     count
 }
 
+/// Whether a listener was taken out.
+fn take(listeners: &mut Listeners, id: u32) -> bool
+    ensures { StayOpen listeners.old listeners.new }
+{
+    listeners.off(FunId(id))
+}
+
 /// How many were taken out.
 fn taken(listeners: &mut Listeners, side: Side, size: u32) -> u64
     ensures { StayOpen listeners.old listeners.new }
 {
     let mut count: u64 = 0;
     for i in 0..size {
-        if listeners.off(FunId(going(side, i, size))) {
+        if take(listeners, going(side, i, size)) {
             count = count.saturating_add(1);
         }
     }

@@ -1,5 +1,5 @@
 //! Scopes that are made, and met in the order of their paths.
-ghost use Rattle.std.specs.Prelude.{◌<◌, ◌≤◌, length};
+ghost use Rattle.std.specs.Prelude.{length};
 ghost use Rattle.ng_behaviour.specs.ScopeObjects.{AreAmong};
 
 use ng_base::heap::ObjKind;
@@ -10,6 +10,7 @@ use ng_store::store::Store;
 use std::alloc::Global;
 
 /// A child of the root more.
+#[tactic(auto, using(crate::proofs::Sizes::sizes))]
 fn add(scopes: &mut Scopes, store: &mut Store) -> Option<()>
     requires objects { AreAmong (length store.old) scopes.old }
     ensures objects { AreAmong (length store.new) scopes.new }
@@ -36,6 +37,7 @@ fn met(scopes: &Scopes, top: &Path, size: u64) -> u64 {
 }
 
 /// Makes so many scopes below the root, and meets them.
+#[tactic(auto, using(crate::proofs::Sizes::sizes))]
 pub(crate) fn walked(alloc: Global, size: u64) -> Option<u64> {
     let mut store = Store::new(alloc);
     let object = store.make(ObjKind::Scope, None).ok()?;
