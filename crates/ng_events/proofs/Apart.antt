@@ -1,6 +1,6 @@
 -- Walks that stay open beside one that is begun, goes on or ends.
-use Rattle.std.proofs.Common.{◌≡◌, ◌<◌, ◌+◌, ℕ, zero, suc, Bool, true, false, ◌&&◌, eqb, List, [], ◌∷◌, length, Option, Some, None, IsSome, refl, ap, sym, ◌∙◌, arith, eqb-true, if◌then◌else◌}
-use Rattle.std.specs.Prelude.{is_some, slice_set}
+use Rattle.std.proofs.Common.{◌≡◌, ℕ, zero, suc, Bool, true, false, ◌&&◌, eqb, List, [], ◌∷◌, Option, None, IsSome, refl, ap, sym, arith, eqb-true, if◌then◌else◌}
+use Rattle.std.specs.Prelude.{slice_set}
 use Rattle.ng_chain.specs.Walked.{walk_at}
 use Rattle.ng_chain.specs.declared.chain.Span.{Span}
 use Rattle.ng_chain.specs.declared.chain.Walk.{Walk}
@@ -8,7 +8,7 @@ use Rattle.ng_base.specs.declared.name.FunId.{FunId}
 use Rattle.ng_behaviour.specs.Listeners.{heard_at}
 use Rattle.ng_events.specs.declared.stands.EventWalk.{EventWalk}
 use Rattle.ng_events.specs.declared.stands.EventWalk.TheVariants.{Bare, On}
-use Rattle.ng_events.specs.Stands.{Table, IsOpen, Begins, Goes, Ends, lists_of, walks_at, put_walk, is_at}
+use Rattle.ng_events.specs.Stands.{Table, IsOpen, Begins, Goes, Ends, lists_of, walks_at, is_at}
 use Rattle.ng_events.specs.Apart.{AreApart, StayOpen}
 use Rattle.ng_events.proofs.Walks.{hears-open}
 

@@ -5,10 +5,9 @@ use Rattle.std.specs.BTreeMap.{BTreeMap, get}
 use Rattle.std.specs.Ordering.{nat_cmp}
 use Rattle.std.proofs.lemmas.Slice.Eq.{bytes_eq-Decides}
 use Rattle.ng_base.specs.Order.{txt_cmp}
-use Rattle.ng_behaviour.specs.Listeners.{Heard, quiet, place_from, is_for, without_listeners_of}
+use Rattle.ng_behaviour.specs.Listeners.{Heard, quiet, place_from, without_listeners_of}
 use Rattle.ng_events.specs.declared.stands.Stand.{Stand}
 use Rattle.ng_events.specs.Stands.{all_heard}
-use Rattle.ng_events.specs.Names.{named}
 use Rattle.ng_events.specs.Sound.{HavePlaces}
 
 picked : (b c : Bool) (i : ℕ) (o : Option ℕ) → c ≡ true → (if b && c then Some i else o) ≡ None → b ≡ false
