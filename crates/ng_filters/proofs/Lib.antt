@@ -1,0 +1,4 @@
+pub mod ViewParts
+pub mod Ranks
+pub mod Sorts
+pub mod Stands
