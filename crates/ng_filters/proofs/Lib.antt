@@ -2,3 +2,5 @@ pub mod ViewParts
 pub mod Ranks
 pub mod Sorts
 pub mod Stands
+pub mod Fields
+pub mod Rows

@@ -34,13 +34,10 @@ Pair = Key × List Key
 pair_cmp : Bool → Predicate → List Predicate → Pair → Pair → Ordering
 pair_cmp reversed p ps = then_cmp (on (λ (x : Pair). x.0) (turned (differ reversed p.falling) key_cmp)) (on (λ (x : Pair). x.1) (keys_cmp reversed ps))
 
-pub keys_cmp_total : (reversed : Bool) (ps : List Predicate) → IsTotalOrder (keys_cmp reversed ps)
+longer_total : (reversed : Bool) (p : Predicate) (ps : List Predicate) → IsTotalOrder (pair_cmp reversed p ps) → IsTotalOrder (keys_cmp reversed (p ∷ ps))
 unfolding pair_cmp
-keys_cmp_total reversed [] = equal_total
-keys_cmp_total reversed (p ∷ ps) = record { antisymm = anti; trans = through; congr = alike }
+longer_total reversed p ps pairs = record { antisymm = anti; trans = through; congr = alike }
   where
-    pairs : IsTotalOrder (pair_cmp reversed p ps)
-    pairs = then_total (on_total (λ (x : Pair). x.0) (turned_total (differ reversed p.falling) key_cmp_total)) (on_total (λ (x : Pair). x.1) (keys_cmp_total reversed ps))
     anti : (x y : List Key) → keys_cmp reversed (p ∷ ps) x y ≡ ordering_reverse (keys_cmp reversed (p ∷ ps) y x)
     anti [] [] = refl
     anti [] (l ∷ ls) = refl
@@ -59,6 +56,11 @@ keys_cmp_total reversed (p ∷ ps) = record { antisymm = anti; trans = through; 
     alike (k ∷ ks) [] z h = absurd (cc)
     alike (k ∷ ks) (l ∷ ls) [] h = refl
     alike (k ∷ ks) (l ∷ ls) (m ∷ ms) h = pairs.congr (k, ks) (l, ls) (m, ms) h
+
+pub keys_cmp_total : (reversed : Bool) (ps : List Predicate) → IsTotalOrder (keys_cmp reversed ps)
+unfolding pair_cmp
+keys_cmp_total reversed [] = equal_total
+keys_cmp_total reversed (p ∷ ps) = longer_total reversed p ps (then_total (on_total (λ (x : Pair). x.0) (turned_total (differ reversed p.falling) key_cmp_total)) (on_total (λ (x : Pair). x.1) (keys_cmp_total reversed ps)))
 
 turned_on : (b : Bool) (f : ViewTree → Key) (t u : ViewTree) → turned b key_cmp (f t) (f u) ≡ turned b (on f key_cmp) t u
 turned_on true f t u = refl

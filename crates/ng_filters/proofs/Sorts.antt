@@ -35,11 +35,11 @@ rising_sorted lt (x ∷ y ∷ ys) r (suc k) d a b =
 
 all_put : {X : Type 0} (P : X → Type 0) (lt : X → X → Bool) (x : X) (ys : List X) → P x → AllByRecursion P ys → AllByRecursion P (put_in lt x ys)
 all_put P lt x [] p a = (p, tt)
-all_put P lt x (y ∷ ys) p a = by (lt y x)
+all_put P lt x (y ∷ ys) p a = by (lt y x) (all_put P lt x ys p a.1)
   where
-    by : (b : Bool) → AllByRecursion P (if b then y ∷ put_in lt x ys else x ∷ (y ∷ ys))
-    by true = (a.0, all_put P lt x ys p a.1)
-    by false = (p, a)
+    by : (b : Bool) → AllByRecursion P (put_in lt x ys) → AllByRecursion P (if b then y ∷ put_in lt x ys else x ∷ (y ∷ ys))
+    by true more = (a.0, more)
+    by false more = (p, a)
 
 pub all_in_order : {X : Type 0} (P : X → Type 0) (lt : X → X → Bool) (xs : List X) → AllByRecursion P xs → AllByRecursion P (in_order lt xs)
 all_in_order P lt [] a = tt
@@ -51,11 +51,11 @@ all_through P Q f (x ∷ xs) a = (f x a.0, all_through P Q f xs a.1)
 
 put_rises : {X : Type 0} (lt : X → X → Bool) → IsStrictWeakOrder lt → (x : X) (ys : List X) → Rises lt ys → Rises lt (put_in lt x ys)
 put_rises lt o x [] r = (tt, tt)
-put_rises lt o x (y ∷ ys) r = by (lt y x) refl
+put_rises lt o x (y ∷ ys) r = by (lt y x) refl (put_rises lt o x ys r.1)
   where
-    by : (b : Bool) → lt y x ≡ b → Rises lt (if b then y ∷ put_in lt x ys else x ∷ (y ∷ ys))
-    by true e = (all_put (λ z. lt z y ≡ false) lt x ys (o.one_way y x e) r.0, put_rises lt o x ys r.1)
-    by false e = ((e, all_through (λ z. lt z y ≡ false) (λ z. lt z x ≡ false) (λ z h. o.chain z y x h e) ys r.0), r)
+    by : (b : Bool) → lt y x ≡ b → Rises lt (put_in lt x ys) → Rises lt (if b then y ∷ put_in lt x ys else x ∷ (y ∷ ys))
+    by true e more = (all_put (λ z. lt z y ≡ false) lt x ys (o.one_way y x e) r.0, more)
+    by false e more = ((e, all_through (λ z. lt z y ≡ false) (λ z. lt z x ≡ false) (λ z h. o.chain z y x h e) ys r.0), r)
 
 pub in_order_rises : {X : Type 0} (lt : X → X → Bool) → IsStrictWeakOrder lt → (xs : List X) → Rises lt (in_order lt xs)
 in_order_rises lt o [] = tt
@@ -79,7 +79,7 @@ tied lt x y e f = rw (e, f) refl
 
 put_stable : {X : Type 0} (lt : X → X → Bool) → IsStrictWeakOrder lt → (a x : X) (ys : List X) → filter (ties lt a) (put_in lt x ys) ≡ filter (ties lt a) (x ∷ ys)
 put_stable lt o a x [] = refl
-put_stable {X} lt o a x (y ∷ ys) = by (lt y x) refl
+put_stable {X} lt o a x (y ∷ ys) = by (lt y x) refl (put_stable lt o a x ys)
   where
     t : X → Bool
     t = ties lt a
@@ -92,9 +92,9 @@ put_stable {X} lt o a x (y ∷ ys) = by (lt y x) refl
     pass e true false f g = refl
     pass e false true f g = refl
     pass e false false f g = refl
-    by : (b : Bool) → lt y x ≡ b → filter t (if b then y ∷ put_in lt x ys else x ∷ (y ∷ ys)) ≡ filter t (x ∷ (y ∷ ys))
-    by true e = ap (λ zs. cond (t y) (y ∷ zs) zs) (put_stable lt o a x ys) ∙ pass e (t x) (t y) refl refl
-    by false e = refl
+    by : (b : Bool) → lt y x ≡ b → filter t (put_in lt x ys) ≡ filter t (x ∷ ys) → filter t (if b then y ∷ put_in lt x ys else x ∷ (y ∷ ys)) ≡ filter t (x ∷ (y ∷ ys))
+    by true e more = ap (λ zs. cond (t y) (y ∷ zs) zs) more ∙ pass e (t x) (t y) refl refl
+    by false e more = refl
 
 pub in_order_stable : {X : Type 0} (lt : X → X → Bool) → IsStrictWeakOrder lt → (xs : List X) → IsStableBy lt xs (in_order lt xs)
 in_order_stable lt o [] a = refl
@@ -103,11 +103,11 @@ in_order_stable lt o (x ∷ xs) a =
 
 put_permutes : {X : Type 0} (lt : X → X → Bool) (x : X) (ys : List X) → IsPermutation (x ∷ ys) (put_in lt x ys)
 put_permutes lt x [] = IsPermutation-refl (x ∷ [])
-put_permutes lt x (y ∷ ys) = by (lt y x)
+put_permutes lt x (y ∷ ys) = by (lt y x) (put_permutes lt x ys)
   where
-    by : (b : Bool) → IsPermutation (x ∷ (y ∷ ys)) (if b then y ∷ put_in lt x ys else x ∷ (y ∷ ys))
-    by true = IsPermutation-trans (x ∷ (y ∷ ys)) (y ∷ (x ∷ ys)) (y ∷ put_in lt x ys) (IsPermutation-middle (x ∷ []) y ys) (IsPermutation-cons y (x ∷ ys) (put_in lt x ys) (put_permutes lt x ys))
-    by false = IsPermutation-refl (x ∷ (y ∷ ys))
+    by : (b : Bool) → IsPermutation (x ∷ ys) (put_in lt x ys) → IsPermutation (x ∷ (y ∷ ys)) (if b then y ∷ put_in lt x ys else x ∷ (y ∷ ys))
+    by true more = IsPermutation-trans (x ∷ (y ∷ ys)) (y ∷ (x ∷ ys)) (y ∷ put_in lt x ys) (IsPermutation-middle (x ∷ []) y ys) (IsPermutation-cons y (x ∷ ys) (put_in lt x ys) more)
+    by false more = IsPermutation-refl (x ∷ (y ∷ ys))
 
 pub in_order_permutes : {X : Type 0} (lt : X → X → Bool) (xs : List X) → IsPermutation xs (in_order lt xs)
 in_order_permutes lt [] = IsPermutation-refl []
@@ -124,11 +124,11 @@ never_before_itself lt o x = by (lt x x) refl
 -- the first of those that tie with an item is not above any that is above nothing
 not_above : {X : Type 0} (lt : X → X → Bool) → IsStrictWeakOrder lt → (z y : X) (xs rest : List X) → AllByRecursion (λ w. lt w y ≡ false) xs → filter (ties lt z) xs ≡ z ∷ rest → lt z y ≡ false
 not_above lt o z y [] rest a h = absurd (cc)
-not_above lt o z y (w ∷ ws) rest a h = by (ties lt z w) refl h
+not_above lt o z y (w ∷ ws) rest a h = by (ties lt z w) refl (λ k. not_above lt o z y ws rest a.1 k) h
   where
-    by : (b : Bool) → ties lt z w ≡ b → cond b (w ∷ filter (ties lt z) ws) (filter (ties lt z) ws) ≡ z ∷ rest → lt z y ≡ false
-    by true e k = o.chain z w y (tie lt z w e).right a.0
-    by false e k = not_above lt o z y ws rest a.1 k
+    by : (b : Bool) → ties lt z w ≡ b → (filter (ties lt z) ws ≡ z ∷ rest → lt z y ≡ false) → cond b (w ∷ filter (ties lt z) ws) (filter (ties lt z) ws) ≡ z ∷ rest → lt z y ≡ false
+    by true e more k = o.chain z w y (tie lt z w e).right a.0
+    by false e more k = more k
 
 with_itself : {X : Type 0} (lt : X → X → Bool) → IsStrictWeakOrder lt → (x : X) (xs : List X) → filter (ties lt x) (x ∷ xs) ≡ x ∷ filter (ties lt x) xs
 with_itself lt o x xs = let e = never_before_itself lt o x in rw (tied lt x x e e) refl
@@ -168,11 +168,11 @@ sorted_is lt o xs ys s t =
 -- sorting what a function gives is giving what was sorted
 put_map : {X Y : Type 0} (f : X → Y) (lt : Y → Y → Bool) (x : X) (ys : List X) → put_in lt (f x) (map f ys) ≡ map f (put_in (λ a b. lt (f a) (f b)) x ys)
 put_map f lt x [] = refl
-put_map f lt x (y ∷ ys) = by (lt (f y) (f x))
+put_map f lt x (y ∷ ys) = by (lt (f y) (f x)) (put_map f lt x ys)
   where
-    by : (b : Bool) → (if b then f y ∷ put_in lt (f x) (map f ys) else f x ∷ (f y ∷ map f ys)) ≡ map f (if b then y ∷ put_in (λ a b. lt (f a) (f b)) x ys else x ∷ (y ∷ ys))
-    by true = ap (λ zs. f y ∷ zs) (put_map f lt x ys)
-    by false = refl
+    by : (b : Bool) → put_in lt (f x) (map f ys) ≡ map f (put_in (λ a b. lt (f a) (f b)) x ys) → (if b then f y ∷ put_in lt (f x) (map f ys) else f x ∷ (f y ∷ map f ys)) ≡ map f (if b then y ∷ put_in (λ a b. lt (f a) (f b)) x ys else x ∷ (y ∷ ys))
+    by true more = ap (λ zs. f y ∷ zs) more
+    by false more = refl
 
 pub in_order_map : {X Y : Type 0} (f : X → Y) (lt : Y → Y → Bool) (xs : List X) → in_order lt (map f xs) ≡ map f (in_order (λ a b. lt (f a) (f b)) xs)
 in_order_map f lt [] = refl

@@ -1,9 +1,9 @@
 -- What filters read and give names objects that stand.
-use Rattle.std.proofs.Common.{◌≡◌, ◌∙◌, ◌+◌, ◌-◌, ◌<◌, ℕ, zero, suc, ℤ, pos, negsuc, Bool, true, false, List, [], ◌∷◌, ◌++◌, map, length, take, drop, Option, Some, None, refl, sym, ap, subst, if◌then◌else◌, Ordering, Less, Equal, Greater, decimal}
+use Rattle.std.proofs.Common.{◌≡◌, ◌∙◌, ◌+◌, ◌-◌, ◌<◌, ℕ, zero, suc, ℤ, pos, negsuc, Bool, true, false, List, [], ◌∷◌, ◌++◌, map, length, take, drop, Option, Some, None, refl, sym, ap, subst, if◌then◌else◌, Ordering, Less, Equal, Greater, decimal, cond, bytes_eq}
 use Rattle.std.specs.Prelude.{Result, Ok, Err}
 use Rattle.std.specs.BTreeMap.{insert_entry}
 use Rattle.std.specs.List.{AllByRecursion}
-use Rattle.std.specs.Map.{values_of}
+use Rattle.std.specs.Map.{lookup, values_of}
 use Rattle.std.specs.Ordering.{match_ordering, nat_cmp}
 use Rattle.ng_base.specs.Meets.{◌>>=◌}
 use Rattle.ng_base.specs.Objects.{Object, object_at, own_of, names_of, index_of, StandsAmong}
@@ -15,7 +15,7 @@ use Rattle.ng_language.specs.Objects.{AreObjects, IsObjectAt}
 use Rattle.ng_language.specs.Unfolding.{Field, prims, with_entry, entries_of, own_entries, with_indexed, indexed_from, with_other, others_of, in_key_order, is_nothing}
 use Rattle.ng_language.specs.Operators.{truthy}
 use Rattle.ng_language.specs.Texts.{json_text}
-use Rattle.ng_language.specs.Views.{ViewStands, ViewsStand}
+use Rattle.ng_language.specs.Views.{ViewStands, ViewsStand, FieldsStand}
 use Rattle.ng_store.proofs.ObjectReads.{object_is}
 use Rattle.ng_store.proofs.Looks.{own_stands}
 use Rattle.ng_value.proofs.ViewParts.{views_stand, fields_stand}
@@ -55,11 +55,11 @@ items_stand objects (rec fs) a s = tt
 
 entries_stand : (n o : ℕ) (x : Object) → IsObjectAt n o x → (names : List (List ℕ)) → AllByRecursion (FieldStands n) (entries_of x names)
 entries_stand n o x a [] = tt
-entries_stand n o x a (name ∷ names) = by (own_of x name) refl
+entries_stand n o x a (name ∷ names) = by (own_of x name) refl (entries_stand n o x a names)
   where
-    by : (u : Option Value) → own_of x name ≡ u → AllByRecursion (FieldStands n) (with_entry name u (entries_of x names))
-    by None e = entries_stand n o x a names
-    by (Some v) e = (own_stands n o x name v a e, entries_stand n o x a names)
+    by : (u : Option Value) → own_of x name ≡ u → AllByRecursion (FieldStands n) (entries_of x names) → AllByRecursion (FieldStands n) (with_entry name u (entries_of x names))
+    by None e more = more
+    by (Some v) e more = (own_stands n o x name v a e, more)
 
 indexed_stand : (n i : ℕ) (ts : List ViewTree) → AllByRecursion (ViewStands n) ts → AllByRecursion (FieldStands n) (indexed i ts)
 indexed_stand n i [] a = tt
@@ -70,12 +70,12 @@ EntryStands n e = FieldStands n e.1
 
 inserted_stand : (n : ℕ) (es : List (ℕ × Field)) (i : ℕ) (f : Field) → AllByRecursion (EntryStands n) es → FieldStands n f → AllByRecursion (EntryStands n) (insert_entry nat_cmp es i f)
 inserted_stand n [] i f a s = (s, tt)
-inserted_stand n (e ∷ es) i f a s = by (nat_cmp i e.0)
+inserted_stand n (e ∷ es) i f a s = by (nat_cmp i e.0) (inserted_stand n es i f a.1 s)
   where
-    by : (o : Ordering) → AllByRecursion (EntryStands n) (match_ordering o ((i, f) ∷ e ∷ es) ((e.0, f) ∷ es) (e ∷ insert_entry nat_cmp es i f))
-    by Less = (s, a)
-    by Equal = (s, a.1)
-    by Greater = (a.0, inserted_stand n es i f a.1 s)
+    by : (o : Ordering) → AllByRecursion (EntryStands n) (insert_entry nat_cmp es i f) → AllByRecursion (EntryStands n) (match_ordering o ((i, f) ∷ e ∷ es) ((e.0, f) ∷ es) (e ∷ insert_entry nat_cmp es i f))
+    by Less more = (s, a)
+    by Equal more = (s, a.1)
+    by Greater more = (a.0, more)
 
 indexed_from_stand : (n : ℕ) (done : List (ℕ × Field)) (fs : List Field) → AllByRecursion (EntryStands n) done → AllByRecursion (FieldStands n) fs → AllByRecursion (EntryStands n) (indexed_from done fs)
 indexed_from_stand n done [] d a = d
@@ -91,11 +91,11 @@ values_stand n (e ∷ es) a = (a.0, values_stand n es a.1)
 
 others_stand : (n : ℕ) (fs : List Field) → AllByRecursion (FieldStands n) fs → AllByRecursion (FieldStands n) (others_of fs)
 others_stand n [] a = tt
-others_stand n (f ∷ fs) a = by (index_of f.0)
+others_stand n (f ∷ fs) a = by (index_of f.0) (others_stand n fs a.1)
   where
-    by : (i : Option ℕ) → AllByRecursion (FieldStands n) (with_other i f (others_of fs))
-    by None = (a.0, others_stand n fs a.1)
-    by (Some i) = others_stand n fs a.1
+    by : (i : Option ℕ) → AllByRecursion (FieldStands n) (others_of fs) → AllByRecursion (FieldStands n) (with_other i f (others_of fs))
+    by None more = (a.0, more)
+    by (Some i) more = more
 
 all_append : {X : Type 0} (P : X → Type 0) (xs ys : List X) → AllByRecursion P xs → AllByRecursion P ys → AllByRecursion P (xs ++ ys)
 all_append P [] ys a b = b
@@ -222,16 +222,17 @@ abbrev ListStands : ℕ → Result (List ViewTree) Fault → Type 0
 ListStands n (Ok ts) = AllByRecursion (ViewStands n) ts
 ListStands n (Err e) = Unit {0}
 
+kept_stands : (n : ℕ) (t : ViewTree) (done : List ViewTree) (b : Bool) → AllByRecursion (ViewStands n) done → ViewStands n t → AllByRecursion (ViewStands n) (kept_with b t done)
+kept_stands n t done true d s = all_append (ViewStands n) done (t ∷ []) d (s, tt)
+kept_stands n t done false d s = d
+
 matching_stands : (n : ℕ) (objects : List Object) (p : ViewTree) (done ts : List ViewTree) → AllByRecursion (ViewStands n) done → AllByRecursion (ViewStands n) ts → ListStands n (matching_from objects p done ts)
 matching_stands n objects p done [] d a = d
-matching_stands n objects p done (t ∷ ts) d a = by (item_matches objects p t)
+matching_stands n objects p done (t ∷ ts) d a = by (item_matches objects p t) (λ found. matching_stands n objects p (kept_with found t done) ts (kept_stands n t done found d a.0) a.1)
   where
-    kept : (b : Bool) → AllByRecursion (ViewStands n) (kept_with b t done)
-    kept true = all_append (ViewStands n) done (t ∷ []) d (a.0, tt)
-    kept false = d
-    by : (r : Result Bool Fault) → ListStands n (r >>= λ found. matching_from objects p (kept_with found t done) ts)
-    by (Ok found) = matching_stands n objects p (kept_with found t done) ts (kept found) a.1
-    by (Err e) = tt
+    by : (r : Result Bool Fault) → ((found : Bool) → ListStands n (matching_from objects p (kept_with found t done) ts)) → ListStands n (r >>= λ found. matching_from objects p (kept_with found t done) ts)
+    by (Ok found) more = more found
+    by (Err e) more = tt
 
 as_list_stands : (n : ℕ) (r : Result (List ViewTree) Fault) → ListStands n r → ResultStands n (r >>= λ ts. Ok (list (views_from ts)))
 as_list_stands n (Ok ts) a = from_stands n ts a
@@ -278,3 +279,21 @@ applied_stands objects name input args v a s h = subst (ResultStands (length obj
     by : (f : Option Filter) → ResultStands (length objects) (applied_if f objects input args)
     by None = s
     by (Some f) = filter_stands f objects input args a s
+
+-- what is read of an array and of a record
+first_of_rest : (n i : ℕ) (ts us : List ViewTree) (t : ViewTree) → AllByRecursion (ViewStands n) ts → drop i ts ≡ t ∷ us → ViewStands n t
+first_of_rest n i ts us t a h = let b : AllByRecursion (ViewStands n) (t ∷ us) = subst (AllByRecursion (ViewStands n)) h (all_drop (ViewStands n) i ts a) in b.0
+
+pub list_item_stands : (n i : ℕ) (ts : ViewTrees) (us : List ViewTree) (t : ViewTree) → ViewsStand n ts → drop i (views_list ts) ≡ t ∷ us → ViewStands n t
+list_item_stands n i ts us t s h = first_of_rest n i (views_list ts) us t (views_stand n ts s) h
+
+found_stands : (n : ℕ) (name : List ℕ) (fs : List Field) (t : ViewTree) → AllByRecursion (FieldStands n) fs → lookup (bytes_eq name) fs ≡ Some t → ViewStands n t
+found_stands n name [] t a h = absurd (cc)
+found_stands n name (f ∷ fs) t a h = by (bytes_eq name f.0) (λ k. found_stands n name fs t a.1 k) h
+  where
+    by : (b : Bool) → (lookup (bytes_eq name) fs ≡ Some t → ViewStands n t) → cond b (Some f.1) (lookup (bytes_eq name) fs) ≡ Some t → ViewStands n t
+    by true more k = let e : f.1 ≡ t = cc in subst (ViewStands n) e a.0
+    by false more k = more k
+
+pub field_stands : (n : ℕ) (name : List ℕ) (fs : ViewFields) (t : ViewTree) → FieldsStand n fs → lookup (bytes_eq name) (fields_list fs) ≡ Some t → ViewStands n t
+field_stands n name fs t s h = found_stands n name (fields_list fs) t (fields_stand n fs s) h

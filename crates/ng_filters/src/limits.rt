@@ -1,9 +1,10 @@
 //! The filter `limitTo`.
 ghost use Rattle.std.specs.Prelude.{◌≡◌, ◌<◌, ◌≤◌, ◌-◌, length, min, take, drop, IfOk, IfErr};
-ghost use Rattle.ng_base.specs.Views.{views_list};
+ghost use Rattle.ng_base.specs.Views.{prim, views_list};
+ghost use Rattle.ng_base.specs.declared.value.Value.TheVariants.{Text as TextOf};
 ghost use Rattle.ng_base.specs.ViewOf.{view_of, views_of};
 ghost use Rattle.ng_base.specs.declared.fault.Memory.TheVariants.{Refused};
-ghost use Rattle.ng_language.specs.Operators.{only_spaces};
+ghost use Rattle.ng_language.specs.Operators.{is_space, only_spaces};
 ghost use Rattle.ng_language.specs.Views.{ViewStands};
 ghost use Rattle.ng_filters.specs.Parts.{items};
 ghost use Rattle.ng_filters.specs.Limits.{whole, begin_at, window, part, part_of_primitive, limited};
@@ -23,7 +24,7 @@ use std::alloc::Global;
 
 /// Space, tab, LF, FF, CR.
 fn is_space(c: char) -> bool
-    ensures { result ≡ Rattle.ng_language.specs.Operators.is_space c }
+    ensures { result ≡ is_space c }
 {
     c == ' ' || c == '\t' || c == '\n' || c == '\u{c}' || c == '\r'
 }
@@ -134,7 +135,7 @@ fn front(alloc: Global, mut reader: Plain<'_>, count: usize) -> Result<Txt, Memo
 
 /// A part of a text.
 fn part_of_text(alloc: Global, limit: i64, begin: &View, t: &Txt) -> Result<View, Memory>
-    ensures view { IfOk result (λ w. view_of w ≡ Rattle.ng_base.specs.Views.prim (Rattle.ng_base.specs.declared.value.Value.TheVariants.Text (part limit (view_of begin.now) t.now))) }
+    ensures view { IfOk result (λ w. view_of w ≡ prim (TextOf (part limit (view_of begin.now) t.now))) }
     ensures refused { IfErr result (λ e. e ≡ Refused) }
 {
     let (first, end) = places(limit, begin, t.len());
@@ -200,6 +201,7 @@ fn part_of_primitive(alloc: Global, limit: i64, begin: &View, v: &View) -> Resul
 }
 
 /// A part of an array, a text or a number.
+#[tactic(auto, using(crate::proofs::ViewParts::view_parts))]
 pub(crate) fn limited(
     alloc: Global,
     store: &Store,

@@ -1,5 +1,5 @@
 //! The filter `filter`: which items match a pattern.
-ghost use Rattle.std.specs.Prelude.{◌≡◌, ◌<◌, ◌++◌, length, map, IfOk, IfErr, drop, []};
+ghost use Rattle.std.specs.Prelude.{◌≡◌, ◌<◌, ◌∷◌, [], true, false, length, map, codes, IfOk, IfErr, MatchOption};
 ghost use Rattle.std.specs.List.{AllByRecursion};
 ghost use Rattle.ng_base.specs.Faults.{is_memory};
 ghost use Rattle.ng_base.specs.Meets.{Meets, Gives};
@@ -8,8 +8,8 @@ ghost use Rattle.ng_base.specs.ViewOf.{view_of, views_of};
 ghost use Rattle.ng_base.specs.declared.fault.Memory.TheVariants.{Refused};
 ghost use Rattle.ng_language.specs.Unfolding.{Field, is_dollar, is_nothing};
 ghost use Rattle.ng_language.specs.Views.{ViewStands};
-ghost use Rattle.ng_filters.specs.Parts.{items, properties};
-ghost use Rattle.ng_filters.specs.Matching.{some_item, some_property, property_matches, every_property, is_object, object_matches, shape_matches, negated, match_within, level_limit, match_limit, is_primitive, pattern_for, item_matches, matching, filtered};
+ghost use Rattle.ng_filters.specs.Parts.{shape_of, items, properties};
+ghost use Rattle.ng_filters.specs.Matching.{some_item, some_property, property_matches, every_property, is_object, object_matches, shape_matches, negated, match_within, level_limit, match_limit, is_primitive, pattern_for, item_matches, matching_from, matching, filtered};
 ghost use Rattle.ng_filters.specs.Seen.{seen, field_seen, views_seen};
 
 use crate::parts::{copied_item, count, item, member, property};
@@ -90,7 +90,7 @@ fn is_primitive(shape: Shape) -> bool
 fn first<'s, 'a>(
     properties: &'s [Property<'a>],
 ) -> Option<(&'s Property<'a>, &'s [Property<'a>])>
-    ensures { Rattle.std.specs.Prelude.MatchOption result (properties.now ≡ []) (λ r. properties.now ≡ Rattle.std.specs.Prelude.◌∷◌ r.0.now r.1.now) }
+    ensures { MatchOption result (properties.now ≡ []) (λ r. properties.now ≡ r.0.now ∷ r.1.now) }
 {
     properties.split_first()
 }
@@ -136,7 +136,7 @@ fn shape_matches(
 ) -> Result<(bool, u32), Fault>
     requires value { ViewStands (length store.now) (seen v) }
     requires pattern { ViewStands (length store.now) (seen p) }
-    ensures { Meets is_memory (shape_matches (Rattle.ng_filters.specs.Parts.shape_of store.now (seen v.entry)) store.now (match_within levels store.now) (seen v.entry) (seen p.entry) any left) result }
+    ensures { Meets is_memory (shape_matches (shape_of store.now (seen v.entry)) store.now (match_within levels store.now) (seen v.entry) (seen p.entry) any left) result }
 {
     match shape_of(store, v) {
         Shape::Items => some_item(alloc, store, levels, v, p, any, left),
@@ -239,22 +239,22 @@ fn property_matches(
     store: &Store,
     levels: u32,
     v: ViewRef<'_>,
-    wanted: &Property<'_>,
+    name: &Txt,
+    p: ViewRef<'_>,
     left: u32,
 ) -> Result<(bool, u32), Fault>
     requires value { ViewStands (length store.now) (seen v) }
-    requires pattern { ViewStands (length store.now) (seen wanted.now.value) }
-    ensures { Meets is_memory (property_matches store.now (match_within levels store.now) (seen v.entry) (field_seen wanted.now) left) result }
+    requires pattern { ViewStands (length store.now) (seen p) }
+    ensures { Meets is_memory (property_matches store.now (match_within levels store.now) (seen v.entry) (name.now, seen p.entry) left) result }
 {
-    if is_nothing(wanted.value) {
+    if is_nothing(p) {
         return Ok((true, left));
     }
-    if wanted.name.is_word("$") {
+    if name.is_word("$") {
         let own = properties(alloc, store, v)?;
-        return some_property(alloc, store, levels, own.as_slice(), wanted.value, left);
+        return some_property(alloc, store, levels, own.as_slice(), p, left);
     }
-    let value = member(store, v, &wanted.name);
-    matches(alloc, store, levels, value, wanted.value, false, left)
+    matches(alloc, store, levels, member(store, v, name), p, false, left)
 }
 
 /// Whether every property of a pattern matches.
@@ -274,7 +274,7 @@ fn every_property(
     let mut wanted = wanted;
     let mut left = left;
     while let Some((f, others)) = first(wanted) {
-        let (found, rest) = property_matches(alloc, store, levels, v, f, left)?;
+        let (found, rest) = property_matches(alloc, store, levels, v, &f.name, f.value, left)?;
         if !found {
             return Ok((false, rest));
         }
@@ -299,7 +299,7 @@ fn match_limit() -> u32
 }
 
 fn dollar(alloc: Global) -> Result<Txt, Memory>
-    ensures name { IfOk result (λ t. t ≡ Rattle.std.specs.Prelude.codes "$") }
+    ensures name { IfOk result (λ t. t ≡ codes "$") }
     ensures refused { IfErr result (λ e. e ≡ Refused) }
 {
     let mut name = Txt::new(alloc);
@@ -314,7 +314,7 @@ fn pattern_for<'a>(
     p: ViewRef<'a>,
     v: ViewRef<'_>,
 ) -> ViewRef<'a>
-    requires dollar { dollar.now ≡ Rattle.std.specs.Prelude.codes "$" }
+    requires dollar { dollar.now ≡ codes "$" }
     requires pattern { ViewStands (length store.now) (seen p) }
     requires value { ViewStands (length store.now) (seen v) }
     ensures pattern { seen result ≡ pattern_for store.now (seen p.entry) (seen v.entry) }
@@ -336,7 +336,7 @@ fn item_matches(
     p: ViewRef<'_>,
     v: ViewRef<'_>,
 ) -> Result<bool, Fault>
-    requires dollar { dollar.now ≡ Rattle.std.specs.Prelude.codes "$" }
+    requires dollar { dollar.now ≡ codes "$" }
     requires pattern { ViewStands (length store.now) (seen p) }
     requires value { ViewStands (length store.now) (seen v) }
     ensures { Meets is_memory (item_matches store.now (seen p.entry) (seen v.entry)) result }
@@ -356,7 +356,7 @@ fn matching_items(
 ) -> Result<Views, Fault>
     requires pattern { ViewStands (length store.now) (seen p) }
     requires value { ViewStands (length store.now) (seen v) }
-    ensures { Gives is_memory views_seen (Rattle.ng_filters.specs.Matching.matching_from store.now (seen p.entry) [] (items store.now (seen v.entry))) result }
+    ensures { Gives is_memory views_seen (matching_from store.now (seen p.entry) [] (items store.now (seen v.entry))) result }
 {
     let dollar = dollar(alloc)?;
     let mut done = Views::new(alloc);
@@ -399,6 +399,7 @@ fn matching(
 }
 
 /// Of an array the items that match; other input itself.
+#[tactic(auto, using(crate::proofs::ViewParts::view_parts))]
 pub(crate) fn filtered(
     alloc: Global,
     store: &Store,

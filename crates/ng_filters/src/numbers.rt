@@ -3,6 +3,8 @@ ghost use Rattle.std.specs.Prelude.{◌≡◌, ◌++◌, length, OnOk, IfOk, IfE
 ghost use Rattle.ng_base.specs.Faults.{is_memory};
 ghost use Rattle.ng_base.specs.Meets.{Gives};
 ghost use Rattle.ng_base.specs.ViewOf.{view_of};
+ghost use Rattle.ng_base.specs.Views.{prim};
+ghost use Rattle.ng_base.specs.declared.value.Value.TheVariants.{Text as TextOf};
 ghost use Rattle.ng_base.specs.declared.fault.Memory.TheVariants.{Refused};
 ghost use Rattle.ng_language.specs.Views.{ViewStands};
 ghost use Rattle.ng_filters.specs.Numbers.{grouped, grouped_number, zeros, fraction, formatted, number, indent, json};
@@ -80,7 +82,7 @@ fn push_fraction(out: &mut Txt, size: &View) -> Result<(), Memory>
 
 /// A number in groups with its zeros; NaN is the empty text.
 fn formatted(alloc: Global, n: Option<i64>, size: &View) -> Result<View, Memory>
-    ensures view { IfOk result (λ w. view_of w ≡ Rattle.ng_base.specs.Views.prim (Rattle.ng_base.specs.declared.value.Value.TheVariants.Text (formatted n (view_of size.now)))) }
+    ensures view { IfOk result (λ w. view_of w ≡ prim (TextOf (formatted n (view_of size.now)))) }
     ensures refused { IfErr result (λ e. e ≡ Refused) }
 {
     let mut out = Txt::new(alloc);

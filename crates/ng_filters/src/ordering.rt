@@ -154,6 +154,7 @@ fn items_in_order(
 }
 
 /// Of an array the items in order; other input itself.
+#[tactic(auto, using(crate::proofs::ViewParts::view_parts))]
 pub(crate) fn ordered(
     alloc: Global,
     store: &Store,

@@ -5,7 +5,7 @@ ghost use Rattle.std.specs.Str.{bytes_eq};
 ghost use Rattle.ng_base.specs.ViewOf.{view_of, field_of};
 ghost use Rattle.ng_base.specs.declared.fault.Memory.TheVariants.{Refused};
 ghost use Rattle.ng_language.specs.Views.{ViewStands};
-ghost use Rattle.ng_filters.specs.Parts.{items, property, length_of, member, member_at};
+ghost use Rattle.ng_filters.specs.Parts.{items, property, length_of, or_undefined, member, member_at};
 ghost use Rattle.ng_filters.specs.Seen.{seen};
 
 use crate::view_ref::{Shape, ViewRef, of_value, of_view, shape_of};
@@ -19,6 +19,7 @@ use ng_value::copies::copied;
 use std::alloc::Global;
 
 /// The number of an array's items.
+#[tactic(auto, using(crate::proofs::ViewParts::part_lengths))]
 pub(crate) fn count(store: &Store, v: ViewRef<'_>) -> usize
     requires { ViewStands (length store.now) (seen v) }
     ensures { result ≡ length (items store.now (seen v.entry)) }
@@ -117,7 +118,7 @@ fn length_of(store: &Store, v: ViewRef<'_>) -> Option<usize>
 }
 
 fn or_undefined(v: Option<ViewRef<'_>>) -> ViewRef<'_>
-    ensures { seen result ≡ Rattle.ng_filters.specs.Parts.or_undefined (option_map seen v.entry) }
+    ensures { seen result ≡ or_undefined (option_map seen v.entry) }
 {
     match v {
         None => ViewRef::Undefined,

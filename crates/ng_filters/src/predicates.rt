@@ -139,7 +139,10 @@ fn predicate_of(alloc: Global, v: ViewRef<'_>) -> Result<Predicate, Fault>
 {
     match v {
         ViewRef::Text(t) => predicate_in(alloc, t),
-        _ => with_path(alloc, false, Plain::new("")),
+        _ => Ok(Predicate {
+            falling: false,
+            path: Names::new(alloc),
+        }),
     }
 }
 

@@ -1,7 +1,9 @@
 //! The own properties of objects, in the order of keys.
-ghost use Rattle.std.specs.Prelude.{◌≡◌, ◌++◌, ◌∷◌, [], ◌<◌, length, map, IfOk, OnOk, IfErr};
+ghost use Rattle.std.specs.Prelude.{◌≡◌, ◌++◌, ◌∷◌, [], ◌<◌, length, map, IfOk, OnOk, IfErr, decimal};
 ghost use Rattle.std.specs.List.{AllByRecursion};
+ghost use Rattle.std.specs.BTreeMap.{insert_entry};
 ghost use Rattle.std.specs.Map.{values_of};
+ghost use Rattle.std.specs.Ordering.{nat_cmp};
 ghost use Rattle.ng_base.specs.Objects.{object_at, index_of};
 ghost use Rattle.ng_base.specs.ViewOf.{view_of, field_of};
 ghost use Rattle.ng_base.specs.declared.fault.Memory.TheVariants.{Refused};
@@ -49,7 +51,7 @@ fn stored(alloc: Global, store: &Store, o: Oid) -> Result<Vec<Property<'_>>, Mem
 
 /// The name of an index.
 fn index_name(alloc: Global, i: usize) -> Result<Txt, Memory>
-    ensures name { IfOk result (λ t. t ≡ Rattle.std.specs.Fmt.decimal i) }
+    ensures name { IfOk result (λ t. t ≡ decimal i) }
     ensures refused { IfErr result (λ e. e ≡ Refused) }
 {
     let mut name = Txt::new(alloc);
@@ -85,7 +87,7 @@ fn insert_indexed<'a>(
     i: u32,
     property: Property<'a>,
 ) -> Result<(), Memory>
-    ensures inserted { OnOk result (map indexed_seen done.new.entries ≡ Rattle.std.specs.BTreeMap.insert_entry Rattle.std.specs.Ordering.nat_cmp (map indexed_seen done.old.entries) i (field_seen property.entry)) }
+    ensures inserted { OnOk result (map indexed_seen done.new.entries ≡ insert_entry nat_cmp (map indexed_seen done.old.entries) i (field_seen property.entry)) }
     ensures refused { IfErr result (λ e. e ≡ Refused) }
 {
     done.insert(i, property)?;
@@ -164,14 +166,14 @@ fn ordered<'a>(alloc: Global, fields: &'a [(Txt, View)]) -> Result<Vec<Property<
     Ok(done)
 }
 
-/// An object's own properties; those of an array are its items.
-pub(crate) fn properties<'a>(
+/// The own properties of a value, as they stand.
+fn own_properties<'a>(
     alloc: Global,
     store: &'a Store,
     v: ViewRef<'a>,
 ) -> Result<Vec<Property<'a>>, Memory>
     requires { ViewStands (length store.now) (seen v) }
-    ensures properties { IfOk result (λ ps. map field_seen ps.items ≡ properties store.now (seen v.entry)) }
+    ensures properties { IfOk result (λ own. map field_seen own.items ≡ properties store.now (seen v.entry)) }
     ensures refused { IfErr result (λ e. e ≡ Refused) }
 {
     match v {
@@ -180,4 +182,20 @@ pub(crate) fn properties<'a>(
         ViewRef::Rec(fields) => ordered(alloc, fields.as_slice()),
         _ => Ok(Vec::new(alloc)),
     }
+}
+
+/// An object's own properties; those of an array are its items.
+pub(crate) fn properties<'a>(
+    alloc: Global,
+    store: &'a Store,
+    v: ViewRef<'a>,
+) -> Result<Vec<Property<'a>>, Memory>
+    requires { ViewStands (length store.now) (seen v) }
+    ensures properties { IfOk result (λ own. map field_seen own.items ≡ properties store.now (seen v.entry)) }
+    ensures stands { IfOk result (λ own. AllByRecursion (λ (f : Field). ViewStands (length store.now) f.1) (map field_seen own.items)) }
+    ensures refused { IfErr result (λ e. e ≡ Refused) }
+{
+    store.sound();
+    let own = own_properties(alloc, store, v)?;
+    Ok(own)
 }
