@@ -4,3 +4,4 @@ pub mod Sorts
 pub mod Stands
 pub mod Fields
 pub mod Rows
+pub mod Kept

@@ -1,5 +1,5 @@
 -- Lists of views, read item by item.
-use Rattle.std.proofs.Common.{◌≡◌, ◌∙◌, ◌+◌, ◌<◌, ℕ, zero, suc, List, [], ◌∷◌, map, length, drop, slice_get, slice_index_or, Some, refl, sym, ap, subst, arith}
+use Rattle.std.proofs.Common.{◌≡◌, ◌∙◌, ◌+◌, ◌-◌, ◌<◌, ℕ, zero, suc, List, [], ◌∷◌, map, length, take, drop, slice_get, slice_index_or, Some, refl, sym, ap, subst, arith}
 use Rattle.std.proofs.lemmas.List.{length-map}
 use Rattle.ng_base.specs.Views.{ViewTree, prim}
 use Rattle.ng_base.specs.ViewOf.{view_of}
@@ -28,3 +28,8 @@ at_mapped (x ∷ xs) (suc i) v l h = let e : suc i + 1 ≡ suc (i + 1) = omega a
 
 pub at_views : (vs : List View) (ts : List ViewTree) (i : ℕ) (v : View) → map view_of vs ≡ ts → i < length vs → v ≡ slice_index_or vs i v → drop i ts ≡ view_of v ∷ drop (i + 1) ts
 at_views vs ts i v e l h = subst (λ us. drop i us ≡ view_of v ∷ drop (i + 1) us) e (at_mapped vs i v l h)
+
+pub take_step : {A : Type 0} (xs : List A) (i end : ℕ) (x : A) → drop i xs ≡ x ∷ drop (i + 1) xs → i < end → take (end - i) (drop i xs) ≡ x ∷ take (end - (i + 1)) (drop (i + 1) xs)
+take_step xs i end x h l =
+    let e : end - i ≡ suc (end - (i + 1)) = omega arith in
+    rw (e, h) refl

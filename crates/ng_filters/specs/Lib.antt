@@ -7,3 +7,4 @@ pub mod Matching
 pub mod Ordering
 pub mod Applied
 pub mod Seen
+pub mod Laws

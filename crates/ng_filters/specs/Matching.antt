@@ -66,13 +66,24 @@ some_property ask (f ∷ fs) left =
     if is_dollar f.0 then some_property ask fs left
     else and_then (ask f.1 left) (λ found rest. if found then Ok (true, rest) else some_property ask fs rest)
 
--- a property of a pattern: undefined and functions are met by all, `$` is held against every property, and any other
--- name against the value's own of that name
+abbrev pub is_any : List ℕ → Bool
+is_any name = bytes_eq name (codes "$")
+
+-- what of a value is held against a property of a pattern: for `$` the value with its properties, and for any other
+-- name its own value of that name
+abbrev pub held : List Object → ViewTree → List ℕ → ViewTree
+held objects t name = if is_any name then t else member objects t name
+
+-- undefined and functions in a pattern are met by all, `$` by some property, and all else by the one value
+abbrev pub held_matches : List Object → Asked → Bool → ViewTree → ViewTree → ℕ → Spent Bool
+held_matches objects ask any u q left =
+    if is_nothing q then Ok (true, left)
+    else (if any then some_property (λ w. ask w q true) (properties objects u) left
+    else ask u q false left)
+
+-- a property of a pattern
 abbrev pub property_matches : List Object → Asked → ViewTree → Field → ℕ → Spent Bool
-property_matches objects ask t p left =
-    if is_nothing p.1 then Ok (true, left)
-    else (if bytes_eq p.0 (codes "$") then some_property (λ u. ask u p.1 true) (properties objects t) left
-    else ask (member objects t p.0) p.1 false left)
+property_matches objects ask t p left = held_matches objects ask (is_any p.0) (held objects t p.0) p.1 left
 
 -- every property of a pattern matches: up to the first that does not
 abbrev pub every_property : List Object → Asked → ViewTree → List Field → ℕ → Spent Bool

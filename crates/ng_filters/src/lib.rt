@@ -22,6 +22,7 @@ mod casing;
 mod dispatch;
 mod index;
 mod keys;
+pub mod laws;
 mod limits;
 mod matching;
 mod numbers;
@@ -31,6 +32,8 @@ mod predicates;
 mod primitives;
 mod properties;
 mod table;
+#[cfg(test)]
+mod tests;
 mod view_ref;
 
 pub use dispatch::apply;

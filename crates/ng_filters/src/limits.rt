@@ -158,7 +158,8 @@ fn items_between(
 {
     let mut done = Views::new(alloc);
     for i in first..end {
-        done.push(copied_item(alloc, store, v, i)?)?;
+        let item = copied_item(alloc, store, v, i)?;
+        done.push(item)?;
     }
     Ok(done)
 }

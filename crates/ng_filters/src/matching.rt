@@ -9,7 +9,7 @@ ghost use Rattle.ng_base.specs.declared.fault.Memory.TheVariants.{Refused};
 ghost use Rattle.ng_language.specs.Unfolding.{Field, is_dollar, is_nothing};
 ghost use Rattle.ng_language.specs.Views.{ViewStands};
 ghost use Rattle.ng_filters.specs.Parts.{shape_of, items, properties};
-ghost use Rattle.ng_filters.specs.Matching.{some_item, some_property, property_matches, every_property, is_object, object_matches, shape_matches, negated, match_within, level_limit, match_limit, is_primitive, pattern_for, item_matches, matching_from, matching, filtered};
+ghost use Rattle.ng_filters.specs.Matching.{some_item, some_property, held, held_matches, every_property, is_object, object_matches, shape_matches, negated, match_within, level_limit, match_limit, is_primitive, pattern_for, item_matches, matching_from, matching, filtered};
 ghost use Rattle.ng_filters.specs.Seen.{seen, field_seen, views_seen};
 
 use crate::parts::{copied_item, count, item, member, property};
@@ -86,6 +86,19 @@ fn is_primitive(shape: Shape) -> bool
     }
 }
 
+/// What of a value is held against a property of a pattern: for `$` the value itself.
+fn held<'a>(store: &'a Store, v: ViewRef<'a>, name: &Txt) -> ViewRef<'a>
+    requires { ViewStands (length store.now) (seen v) }
+    ensures held { seen result ≡ held store.now (seen v.entry) name.now }
+    ensures stands { ViewStands (length store.now) (seen result) }
+{
+    if name.is_word("$") {
+        v
+    } else {
+        member(store, v, name)
+    }
+}
+
 /// The first property and the rest.
 fn first<'s, 'a>(
     properties: &'s [Property<'a>],
@@ -97,12 +110,12 @@ fn first<'s, 'a>(
 
 /// Whether a value matches a pattern.
 #[cycle(matching)]
-fn matches(
+fn matches<'a>(
     alloc: Global,
-    store: &Store,
+    store: &'a Store,
     levels: u32,
-    v: ViewRef<'_>,
-    p: ViewRef<'_>,
+    v: ViewRef<'a>,
+    p: ViewRef<'a>,
     any: bool,
     left: u32,
 ) -> Result<(bool, u32), Fault>
@@ -125,12 +138,12 @@ fn matches(
 
 /// Whether a value matches by its shape.
 #[cycle(matching)]
-fn shape_matches(
+fn shape_matches<'a>(
     alloc: Global,
-    store: &Store,
+    store: &'a Store,
     levels: u32,
-    v: ViewRef<'_>,
-    p: ViewRef<'_>,
+    v: ViewRef<'a>,
+    p: ViewRef<'a>,
     any: bool,
     left: u32,
 ) -> Result<(bool, u32), Fault>
@@ -148,12 +161,12 @@ fn shape_matches(
 
 /// Whether some item of an array matches.
 #[cycle(matching)]
-fn some_item(
+fn some_item<'a>(
     alloc: Global,
-    store: &Store,
+    store: &'a Store,
     levels: u32,
-    v: ViewRef<'_>,
-    p: ViewRef<'_>,
+    v: ViewRef<'a>,
+    p: ViewRef<'a>,
     any: bool,
     left: u32,
 ) -> Result<(bool, u32), Fault>
@@ -174,12 +187,12 @@ fn some_item(
 
 /// Whether an object matches: some property or itself where any will do, and else property by property.
 #[cycle(matching)]
-fn object_matches(
+fn object_matches<'a>(
     alloc: Global,
-    store: &Store,
+    store: &'a Store,
     levels: u32,
-    v: ViewRef<'_>,
-    p: ViewRef<'_>,
+    v: ViewRef<'a>,
+    p: ViewRef<'a>,
     any: bool,
     left: u32,
 ) -> Result<(bool, u32), Fault>
@@ -204,12 +217,12 @@ fn object_matches(
 
 /// Whether some property matches whose name does not begin with `$`.
 #[cycle(matching)]
-fn some_property(
+fn some_property<'a>(
     alloc: Global,
-    store: &Store,
+    store: &'a Store,
     levels: u32,
-    own: &[Property<'_>],
-    p: ViewRef<'_>,
+    own: &[Property<'a>],
+    p: ViewRef<'a>,
     left: u32,
 ) -> Result<(bool, u32), Fault>
     requires value { AllByRecursion (λ (f : Field). ViewStands (length store.now) f.1) (map field_seen own.now) }
@@ -231,40 +244,40 @@ fn some_property(
     Ok((false, left))
 }
 
-/// Whether a property of a pattern matches: undefined and functions are met by all, `$` is held against every property,
-/// any other name against that of the name.
+/// Whether what is held against a property of a pattern matches: undefined and functions are met by all, `$` by some
+/// property.
 #[cycle(matching)]
-fn property_matches(
+fn held_matches<'a>(
     alloc: Global,
-    store: &Store,
+    store: &'a Store,
     levels: u32,
-    v: ViewRef<'_>,
-    name: &Txt,
-    p: ViewRef<'_>,
+    any: bool,
+    v: ViewRef<'a>,
+    p: ViewRef<'a>,
     left: u32,
 ) -> Result<(bool, u32), Fault>
     requires value { ViewStands (length store.now) (seen v) }
     requires pattern { ViewStands (length store.now) (seen p) }
-    ensures { Meets is_memory (property_matches store.now (match_within levels store.now) (seen v.entry) (name.now, seen p.entry) left) result }
+    ensures { Meets is_memory (held_matches store.now (match_within levels store.now) any (seen v.entry) (seen p.entry) left) result }
 {
     if is_nothing(p) {
         return Ok((true, left));
     }
-    if name.is_word("$") {
+    if any {
         let own = properties(alloc, store, v)?;
         return some_property(alloc, store, levels, own.as_slice(), p, left);
     }
-    matches(alloc, store, levels, member(store, v, name), p, false, left)
+    matches(alloc, store, levels, v, p, false, left)
 }
 
 /// Whether every property of a pattern matches.
 #[cycle(matching)]
-fn every_property(
+fn every_property<'a>(
     alloc: Global,
-    store: &Store,
+    store: &'a Store,
     levels: u32,
-    v: ViewRef<'_>,
-    wanted: &[Property<'_>],
+    v: ViewRef<'a>,
+    wanted: &[Property<'a>],
     left: u32,
 ) -> Result<(bool, u32), Fault>
     requires value { ViewStands (length store.now) (seen v) }
@@ -274,7 +287,9 @@ fn every_property(
     let mut wanted = wanted;
     let mut left = left;
     while let Some((f, others)) = first(wanted) {
-        let (found, rest) = property_matches(alloc, store, levels, v, &f.name, f.value, left)?;
+        let any = f.name.is_word("$");
+        let u = held(store, v, &f.name);
+        let (found, rest) = held_matches(alloc, store, levels, any, u, f.value, left)?;
         if !found {
             return Ok((false, rest));
         }

@@ -150,7 +150,8 @@ fn items_in_order(
 {
     let mut rows = rows(alloc, store, v, predicates)?;
     sort(&mut rows, reversed, predicates)?;
-    items_of(alloc, rows)
+    let sorted = items_of(alloc, rows)?;
+    Ok(sorted)
 }
 
 /// Of an array the items in order; other input itself.

@@ -22,8 +22,8 @@ decreases-object_matches l = 8 * l.levels + 6
 abbrev pub decreases-every_property : goal.decreases-every_property
 decreases-every_property l = 8 * l.levels + 5
 
-abbrev pub decreases-property_matches : goal.decreases-property_matches
-decreases-property_matches l = 8 * l.levels + 4
+abbrev pub decreases-held_matches : goal.decreases-held_matches
+decreases-held_matches l = 8 * l.levels + 4
 
 abbrev pub decreases-some_property : goal.decreases-some_property
 decreases-some_property l = 8 * l.levels + 3
