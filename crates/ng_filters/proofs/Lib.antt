@@ -4,4 +4,5 @@ pub mod Sorts
 pub mod Stands
 pub mod Fields
 pub mod Rows
+pub mod Matches
 pub mod Kept

@@ -98,11 +98,17 @@ is_object shapes.Names = true
 is_object shapes.Function = false
 is_object shapes.Primitive = false
 
--- an object: some property, or the object itself; or else property by property
-abbrev pub object_matches : List Object → Asked → ViewTree → ViewTree → Bool → ℕ → Spent Bool
-object_matches objects ask t p true left =
+-- an object where any property will do: some property, or else the object itself
+abbrev pub any_matches : List Object → Asked → ViewTree → ViewTree → ℕ → Spent Bool
+any_matches objects ask t p left =
     and_then (some_property (λ u. ask u p true) (properties objects t) left) (λ found rest. if found then Ok (true, rest) else ask t p false rest)
-object_matches objects ask t p false left = if is_object (shape_of objects p) then every_property objects ask t (properties objects p) left else Ok (false, left)
+
+-- and else property by property, where the pattern has any
+abbrev pub named_matches : List Object → Asked → ViewTree → ViewTree → ℕ → Spent Bool
+named_matches objects ask t p left = if is_object (shape_of objects p) then every_property objects ask t (properties objects p) left else Ok (false, left)
+
+abbrev pub object_matches : List Object → Asked → ViewTree → ViewTree → Bool → ℕ → Spent Bool
+object_matches objects ask t p any left = if any then any_matches objects ask t p left else named_matches objects ask t p left
 
 abbrev pub shape_matches : Shape → List Object → Asked → ViewTree → ViewTree → Bool → ℕ → Spent Bool
 shape_matches shapes.Items objects ask t p any left = some_item (λ u. ask u p any) (items objects t) left

@@ -77,6 +77,28 @@ fn applied_by(
     }
 }
 
+/// What the filter of a name makes of an input; where there is none, the input itself.
+fn applied(
+    alloc: Global,
+    name: &Txt,
+    store: &Store,
+    input: &View,
+    args: &Views,
+) -> Result<View, Fault>
+    requires input { ViewStands (length store.now) (view_of input.now) }
+    requires args { ViewsStand (length store.now) (views_of args.now) }
+    ensures { Gives is_memory view_of (applied store.now name.now (view_of input.now) (views_of args.now)) result }
+{
+    let missing = View::of_value(Value::Undefined);
+    let given = arguments(args);
+    let first = first_of(given, &missing);
+    let second = second_of(given, &missing);
+    match named(name) {
+        None => Ok(copied(alloc, input)?),
+        Some(filter) => applied_by(alloc, filter, store, input, first, second),
+    }
+}
+
 /// What a filter makes of an input with its arguments.
 pub fn apply(
     alloc: Global,
@@ -91,13 +113,7 @@ pub fn apply(
     ensures applied { Gives is_memory view_of (applied store.now name.now (view_of input.now) (views_of args.now)) result }
     ensures stands { IfOk result (λ v. ViewStands (length store.now) (view_of v)) }
 {
-    let missing = View::of_value(Value::Undefined);
-    let given = arguments(args);
-    let first = first_of(given, &missing);
-    let second = second_of(given, &missing);
     store.sound();
-    match named(name) {
-        None => Ok(copied(alloc, input)?),
-        Some(filter) => applied_by(alloc, filter, store, input, first, second),
-    }
+    let view = applied(alloc, name, store, input, args)?;
+    Ok(view)
 }

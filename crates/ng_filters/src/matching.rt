@@ -1,15 +1,15 @@
 //! The filter `filter`: which items match a pattern.
-ghost use Rattle.std.specs.Prelude.{◌≡◌, ◌<◌, ◌∷◌, [], true, false, length, map, codes, IfOk, IfErr, MatchOption};
+ghost use Rattle.std.specs.Prelude.{◌≡◌, Bool, ◌<◌, ◌∷◌, [], true, false, length, map, codes, IfOk, IfErr};
 ghost use Rattle.std.specs.List.{AllByRecursion};
 ghost use Rattle.ng_base.specs.Faults.{is_memory};
 ghost use Rattle.ng_base.specs.Meets.{Meets, Gives};
 ghost use Rattle.ng_base.specs.Views.{views_list};
 ghost use Rattle.ng_base.specs.ViewOf.{view_of, views_of};
 ghost use Rattle.ng_base.specs.declared.fault.Memory.TheVariants.{Refused};
-ghost use Rattle.ng_language.specs.Unfolding.{Field, is_dollar, is_nothing};
+ghost use Rattle.ng_language.specs.Unfolding.{Field, Spent, is_dollar, is_nothing};
 ghost use Rattle.ng_language.specs.Views.{ViewStands};
 ghost use Rattle.ng_filters.specs.Parts.{shape_of, items, properties};
-ghost use Rattle.ng_filters.specs.Matching.{some_item, some_property, held, held_matches, every_property, is_object, object_matches, shape_matches, negated, match_within, level_limit, match_limit, is_primitive, pattern_for, item_matches, matching_from, matching, filtered};
+ghost use Rattle.ng_filters.specs.Matching.{some_item, some_property, held, held_matches, every_property, is_object, any_matches, named_matches, object_matches, opposite, shape_matches, negated, match_within, level_limit, match_limit, is_primitive, pattern_for, item_matches, matching_from, matching, filtered};
 ghost use Rattle.ng_filters.specs.Seen.{seen, field_seen, views_seen};
 
 use crate::parts::{copied_item, count, item, member, property};
@@ -99,13 +99,14 @@ fn held<'a>(store: &'a Store, v: ViewRef<'a>, name: &Txt) -> ViewRef<'a>
     }
 }
 
-/// The first property and the rest.
-fn first<'s, 'a>(
-    properties: &'s [Property<'a>],
-) -> Option<(&'s Property<'a>, &'s [Property<'a>])>
-    ensures { MatchOption result (properties.now ≡ []) (λ r. properties.now ≡ r.0.now ∷ r.1.now) }
+/// The opposite of an answer.
+fn opposite(answer: Result<(bool, u32), Fault>) -> Result<(bool, u32), Fault>
+    ensures { (asked : Spent Bool) → Meets is_memory asked answer → Meets is_memory (opposite asked) result }
 {
-    properties.split_first()
+    match answer {
+        Ok((found, left)) => Ok((!found, left)),
+        Err(fault) => Err(fault),
+    }
 }
 
 /// Whether a value matches a pattern.
@@ -129,8 +130,7 @@ fn matches<'a>(
     match negated(alloc, p)? {
         Some(rest) => {
             let rest = ViewRef::Text(&rest);
-            let (found, left) = matches(alloc, store, levels - 1, v, rest, any, left - 1)?;
-            Ok((!found, left))
+            opposite(matches(alloc, store, levels - 1, v, rest, any, left - 1))
         }
         None => shape_matches(alloc, store, levels - 1, v, p, any, left - 1),
     }
@@ -185,7 +185,7 @@ fn some_item<'a>(
     Ok((false, left))
 }
 
-/// Whether an object matches: some property or itself where any will do, and else property by property.
+/// Whether an object matches.
 #[cycle(matching)]
 fn object_matches<'a>(
     alloc: Global,
@@ -201,18 +201,70 @@ fn object_matches<'a>(
     ensures { Meets is_memory (object_matches store.now (match_within levels store.now) (seen v.entry) (seen p.entry) any left) result }
 {
     if any {
-        let own = properties(alloc, store, v)?;
-        let (found, left) = some_property(alloc, store, levels, own.as_slice(), p, left)?;
-        if found {
-            return Ok((true, left));
-        }
-        return matches(alloc, store, levels, v, p, false, left);
+        any_matches(alloc, store, levels, v, p, left)
+    } else {
+        named_matches(alloc, store, levels, v, p, left)
     }
+}
+
+/// Whether some property of an object matches, or else the object itself.
+#[cycle(matching)]
+fn any_matches<'a>(
+    alloc: Global,
+    store: &'a Store,
+    levels: u32,
+    v: ViewRef<'a>,
+    p: ViewRef<'a>,
+    left: u32,
+) -> Result<(bool, u32), Fault>
+    requires value { ViewStands (length store.now) (seen v) }
+    requires pattern { ViewStands (length store.now) (seen p) }
+    ensures { Meets is_memory (any_matches store.now (match_within levels store.now) (seen v.entry) (seen p.entry) left) result }
+{
+    let (found, left) = some_own(alloc, store, levels, v, p, left)?;
+    if found {
+        return Ok((true, left));
+    }
+    matches(alloc, store, levels, v, p, false, left)
+}
+
+/// Whether an object matches property by property.
+#[cycle(matching)]
+fn named_matches<'a>(
+    alloc: Global,
+    store: &'a Store,
+    levels: u32,
+    v: ViewRef<'a>,
+    p: ViewRef<'a>,
+    left: u32,
+) -> Result<(bool, u32), Fault>
+    requires value { ViewStands (length store.now) (seen v) }
+    requires pattern { ViewStands (length store.now) (seen p) }
+    ensures { Meets is_memory (named_matches store.now (match_within levels store.now) (seen v.entry) (seen p.entry) left) result }
+{
     if !is_object(shape_of(store, p)) {
         return Ok((false, left));
     }
     let wanted = properties(alloc, store, p)?;
     every_property(alloc, store, levels, v, wanted.as_slice(), left)
+}
+
+/// Whether some own property of an object matches.
+#[cycle(matching)]
+fn some_own<'a>(
+    alloc: Global,
+    store: &'a Store,
+    levels: u32,
+    v: ViewRef<'a>,
+    p: ViewRef<'a>,
+    left: u32,
+) -> Result<(bool, u32), Fault>
+    requires value { ViewStands (length store.now) (seen v) }
+    requires pattern { ViewStands (length store.now) (seen p) }
+    ensures { Meets is_memory (some_property (λ t. match_within levels store.now t (seen p.entry) true) (properties store.now (seen v.entry)) left) result }
+{
+    let own = properties(alloc, store, v)?;
+    some_property(alloc, store, levels, own.as_slice(), p, left)
 }
 
 /// Whether some property matches whose name does not begin with `$`.
@@ -229,9 +281,8 @@ fn some_property<'a>(
     requires pattern { ViewStands (length store.now) (seen p) }
     ensures { Meets is_memory (some_property (λ t. match_within levels store.now t (seen p.entry) true) (map field_seen own.now) left) result }
 {
-    let mut own = own;
     let mut left = left;
-    while let Some((f, others)) = first(own) {
+    for f in own {
         if !is_dollar(&f.name) {
             let (found, rest) = matches(alloc, store, levels, f.value, p, true, left)?;
             if found {
@@ -239,7 +290,6 @@ fn some_property<'a>(
             }
             left = rest;
         }
-        own = others;
     }
     Ok((false, left))
 }
@@ -264,8 +314,7 @@ fn held_matches<'a>(
         return Ok((true, left));
     }
     if any {
-        let own = properties(alloc, store, v)?;
-        return some_property(alloc, store, levels, own.as_slice(), p, left);
+        return some_own(alloc, store, levels, v, p, left);
     }
     matches(alloc, store, levels, v, p, false, left)
 }
@@ -284,9 +333,8 @@ fn every_property<'a>(
     requires pattern { AllByRecursion (λ (f : Field). ViewStands (length store.now) f.1) (map field_seen wanted.now) }
     ensures { Meets is_memory (every_property store.now (match_within levels store.now) (seen v.entry) (map field_seen wanted.now) left) result }
 {
-    let mut wanted = wanted;
     let mut left = left;
-    while let Some((f, others)) = first(wanted) {
+    for f in wanted {
         let any = f.name.is_word("$");
         let u = held(store, v, &f.name);
         let (found, rest) = held_matches(alloc, store, levels, any, u, f.value, left)?;
@@ -294,7 +342,6 @@ fn every_property<'a>(
             return Ok((false, rest));
         }
         left = rest;
-        wanted = others;
     }
     Ok((true, left))
 }
