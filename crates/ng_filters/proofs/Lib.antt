@@ -6,3 +6,4 @@ pub mod Fields
 pub mod Rows
 pub mod Matches
 pub mod Kept
+pub mod Standing

@@ -1,13 +1,12 @@
 //! Every filter with every kind of argument.
-ghost use Rattle.std.specs.Prelude.{◌≡◌, ◌<◌, ◌++◌, ℕ, length, map, IfSome};
+ghost use Rattle.std.specs.Prelude.{◌<◌, ℕ, length, map, IfSome};
 ghost use Rattle.std.specs.List.{AllByRecursion};
 ghost use Rattle.ng_base.specs.Objects.{StandsAmong};
-ghost use Rattle.ng_base.specs.Views.{views_list};
 ghost use Rattle.ng_base.specs.ViewOf.{view_of, views_of};
 ghost use Rattle.ng_language.specs.Views.{ViewStands, ViewsStand};
 
 use crate::{apply, known};
-use ng_base::heap::{Heap, ObjKind};
+use ng_base::heap::Heap;
 use ng_base::name::{FunId, Oid};
 use ng_base::txt::Txt;
 use ng_base::value::Value;
@@ -82,6 +81,7 @@ fn shown_items(alloc: Global, store: &Store, views: &[View]) -> Option<Txt>
 }
 
 /// What a filter gave.
+#[tactic(auto, using(crate::proofs::Standing::standing))]
 fn shown(alloc: Global, store: &Store, v: &View) -> Option<Txt>
     requires { ViewStands (length store.now) (view_of v.now) }
 {
@@ -93,6 +93,7 @@ fn shown(alloc: Global, store: &Store, v: &View) -> Option<Txt>
 }
 
 /// The arguments of a row.
+#[tactic(auto, using(crate::proofs::Standing::standing))]
 fn arguments(alloc: Global, store: &Store, row: Oid, things: &Value) -> Option<Views>
     requires row { row.0 < length store.now }
     requires things { StandsAmong (length store.now) things.now }
@@ -106,13 +107,15 @@ fn arguments(alloc: Global, store: &Store, row: Oid, things: &Value) -> Option<V
 }
 
 /// What a filter makes of a row: its first item with the others as arguments.
+#[tactic(auto, using(crate::proofs::Standing::standing))]
 fn outcome_in(alloc: Global, store: &Store, name: &Txt, row: Oid, things: &Value) -> Option<Txt>
     requires row { row.0 < length store.now }
     requires things { StandsAmong (length store.now) things.now }
 {
     let input = view_at(store, row, 0, things)?;
     let args = arguments(alloc, store, row, things)?;
-    if !known(name, args.as_slice().len() as u32) {
+    let count = u32::try_from(args.as_slice().len()).ok()?;
+    if !known(name, count) {
         return Txt::from_str(alloc, "unknown").ok();
     }
     match apply(alloc, name, store, &input, &args) {

@@ -28,9 +28,6 @@ some_own-returns t c =
     rw (← e) c.some_property.ensures
 
 pub named_matches-every_property-requires : goal.named_matches-every_property-requires
-named_matches-every_property-requires t c κs =
+named_matches-every_property-requires t c =
     let s : AllByRecursion (λ (f : Field). ViewStands (length c.args.store.now) f.1) (map field_seen c.as_slice.result.now) = rw c.as_slice.ensures.value c.in_ok-wanted.ensures.stands in
     search rules
-
-pub named_matches-returns : goal.named_matches-returns
-named_matches-returns t c = ?
