@@ -1,0 +1,5 @@
+//! Small.
+#![tactic(auto)]
+
+pub mod calls;
+pub mod methods;
