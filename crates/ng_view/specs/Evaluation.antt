@@ -18,6 +18,7 @@ use Rattle.ng_language.specs.Operators.{in_range, sub, mul, div, remainder_of, t
 use Rattle.ng_language.specs.Sums.{add, as_view}
 use Rattle.ng_language.specs.Texts.{to_text}
 use Rattle.ng_language.specs.Trees.{Tree, Trees, PairTree, Pairs, a_number, a_text, a_name, the_scope, a_constant, member_of, item_of, call_of, a_list, a_record, in_brackets, signed, combined, both_of, either_of, choice_of, assigned, filtered, no_trees, tree_then, labelled, shorthand, computed, no_pairs, pair_then}
+use Rattle.ng_language.specs.Views.{ViewStands}
 use Rattle.ng_language.specs.declared.syntax.Constant.{Constant}
 use Rattle.ng_language.specs.declared.syntax.Constant.TheVariants as constants
 use Rattle.ng_language.specs.declared.syntax.Unary.{Unary}
@@ -113,6 +114,10 @@ called objects callees.Other t args = args >>= λ vs. Err NotAFunction
 
 abbrev pub Field : Type 0
 Field = List ℕ × ViewTree
+
+-- the values of fields name objects that stand
+abbrev pub FieldsAllStand : ℕ → List Field → Type 0
+FieldsAllStand count fs = AllByRecursion (λ (f : Field). ViewStands count f.1) fs
 
 abbrev mutual
   pub evaluated : List Object → ℕ → List Local → Tree → Result ViewTree Fault

@@ -1,0 +1,81 @@
+-- The items of arrays and fresh lists, one by one.
+use Rattle.std.proofs.Common.{◌≡◌, ◌∙◌, ◌<◌, ◌≤◌, ◌+◌, ◌-◌, ℕ, zero, suc, List, [], ◌∷◌, ◌++◌, map, take, drop, length, slice_get, Option, Some, None, refl, sym, ap, subst, arith, add-one}
+use Rattle.std.specs.List.{AllByRecursion}
+use Rattle.std.proofs.lemmas.Option.{slice_get-map}
+use Rattle.ng_base.specs.Views.{ViewTree, prim}
+use Rattle.ng_base.specs.ViewOf.{view_of}
+use Rattle.ng_base.specs.declared.view.View.{View}
+use Rattle.ng_base.specs.declared.value.Value.{Value}
+use Rattle.ng_language.specs.Unfolding.{prims}
+use Rattle.ng_language.specs.Operators.{strict_eq}
+use Rattle.ng_view.specs.Members.{view_or_undefined}
+use Rattle.ng_view.specs.Methods.{place_of}
+
+pub length-prims : (vs : List Value) → length (prims vs) ≡ length vs
+length-prims [] = refl
+length-prims (v ∷ vs) = ap suc (length-prims vs)
+
+pub get-prims : (vs : List Value) (i : ℕ) (v : Value) → slice_get vs i ≡ Some v → slice_get (prims vs) i ≡ Some (prim v)
+get-prims [] i v h = absurd (cc)
+get-prims (x ∷ xs) zero v h = let e : x ≡ v = cc in ap (λ y. Some (prim y)) e
+get-prims (x ∷ xs) (suc i) v h = get-prims xs i v h
+
+pub get-views : (vs : List View) (i : ℕ) (v : View) → slice_get vs i ≡ Some v → slice_get (map view_of vs) i ≡ Some (view_of v)
+get-views [] i v h = absurd (cc)
+get-views (x ∷ xs) zero v h = let e : x ≡ v = cc in ap (λ y. Some (view_of y)) e
+get-views (x ∷ xs) (suc i) v h = get-views xs i v h
+
+pub get-no_view : (vs : List View) (i : ℕ) → slice_get vs i ≡ None → slice_get (map view_of vs) i ≡ None
+get-no_view [] i h = refl
+get-no_view (x ∷ xs) zero h = absurd (cc)
+get-no_view (x ∷ xs) (suc i) h = get-no_view xs i h
+
+pub length-views : (vs : List View) → length (map view_of vs) ≡ length vs
+length-views [] = refl
+length-views (v ∷ vs) = ap suc (length-views vs)
+
+-- the item at a place stands in front of what is behind it
+pub at_place : (ts : List ViewTree) (i : ℕ) → i < length ts → drop i ts ≡ view_or_undefined (slice_get ts i) ∷ drop (i + 1) ts
+at_place [] i h = absurd (omega arith)
+at_place (t ∷ ts) zero h = refl
+at_place (t ∷ ts) (suc i) h = at_place ts i (omega arith)
+
+pub at_item : (ts : List ViewTree) (i : ℕ) (t : ViewTree) → slice_get ts i ≡ Some t → drop i ts ≡ t ∷ drop (i + 1) ts
+at_item [] i t h = absurd (cc)
+at_item (u ∷ us) zero t h = let e : u ≡ t = cc in ap (λ x. x ∷ us) e
+at_item (u ∷ us) (suc i) t h = at_item us i t h
+
+pub is_there : (ts : List ViewTree) (i : ℕ) → i < length ts → slice_get ts i ≡ Some (view_or_undefined (slice_get ts i))
+is_there [] i h = absurd (omega arith)
+is_there (t ∷ ts) zero h = refl
+is_there (t ∷ ts) (suc i) h = is_there ts i (omega arith)
+
+pub none_behind : (ts : List ViewTree) (i : ℕ) → length ts ≤ i → drop i ts ≡ []
+none_behind [] i h = refl
+none_behind (t ∷ ts) zero h = absurd (omega arith)
+none_behind (t ∷ ts) (suc i) h = none_behind ts i (omega arith)
+
+take_more : (ts : List ViewTree) (t : ViewTree) (i to : ℕ) → i < to → take (to - i) (t ∷ ts) ≡ t ∷ take (to - (i + 1)) ts
+take_more ts t i to h = let e : to - i ≡ suc (to - (i + 1)) = omega arith in rw e refl
+
+-- one more item of a part
+pub part_more : (done : List ViewTree) (ts : List ViewTree) (t : ViewTree) (i to : ℕ) → i < to → slice_get ts i ≡ Some t
+    → (done ++ t ∷ []) ++ take (to - (i + 1)) (drop (i + 1) ts) ≡ done ++ take (to - i) (drop i ts)
+part_more done ts t i to h g = rw (at_item ts i t g, take_more (drop (i + 1) ts) t i to h) (shifted done t (take (to - (i + 1)) (drop (i + 1) ts)))
+  where
+    shifted : (xs : List ViewTree) (x : ViewTree) (ys : List ViewTree) → (xs ++ x ∷ []) ++ ys ≡ xs ++ x ∷ ys
+    shifted [] x ys = refl
+    shifted (y ∷ xs) x ys = ap (λ zs. y ∷ zs) (shifted xs x ys)
+
+pub take_none : (ts : List ViewTree) (i : ℕ) → take (i - i) ts ≡ []
+take_none ts i = let e : i - i ≡ 0 = omega arith in rw e refl
+
+pub take_all : (ts : List ViewTree) → take (length ts - 0) (drop 0 ts) ≡ ts
+take_all ts = whole ts
+  where
+    whole : (us : List ViewTree) → take (length us) us ≡ us
+    whole [] = refl
+    whole (u ∷ us) = ap (λ xs. u ∷ xs) (whole us)
+
+pub take_less : (ts : List ViewTree) (from to : ℕ) → to ≤ from → take (to - from) ts ≡ []
+take_less ts from to h = let e : to - from ≡ 0 = omega arith in rw e refl

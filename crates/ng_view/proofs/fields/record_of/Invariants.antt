@@ -1,0 +1,7 @@
+use Rattle.std.proofs.Common.{◌≡◌, map}
+use Rattle.ng_base.specs.Views.{fields_list}
+use Rattle.ng_base.specs.ViewOf.{fields_of, field_of}
+use Rattle.ng_view.proofs.fields.record_of.Given as goal
+
+abbrev pub invariant-loop-name : goal.invariant-loop-name
+invariant-loop-name l = fields_list (fields_of l.done) ≡ map field_of l.yielded
