@@ -35,12 +35,12 @@ length-views [] = refl
 length-views (v ∷ vs) = ap suc (length-views vs)
 
 -- the item at a place stands in front of what is behind it
-pub at_place : (ts : List ViewTree) (i : ℕ) → i < length ts → drop i ts ≡ view_or_undefined (slice_get ts i) ∷ drop (i + 1) ts
+pub at_place : (ts : List ViewTree) (i : ℕ) → i < length ts → drop i ts ≡ view_or_undefined (slice_get ts i) ∷ drop (suc i) ts
 at_place [] i h = absurd (omega arith)
 at_place (t ∷ ts) zero h = refl
 at_place (t ∷ ts) (suc i) h = at_place ts i (omega arith)
 
-pub at_item : (ts : List ViewTree) (i : ℕ) (t : ViewTree) → slice_get ts i ≡ Some t → drop i ts ≡ t ∷ drop (i + 1) ts
+pub at_item : (ts : List ViewTree) (i : ℕ) (t : ViewTree) → slice_get ts i ≡ Some t → drop i ts ≡ t ∷ drop (suc i) ts
 at_item [] i t h = absurd (cc)
 at_item (u ∷ us) zero t h = let e : u ≡ t = cc in ap (λ x. x ∷ us) e
 at_item (u ∷ us) (suc i) t h = at_item us i t h
@@ -51,17 +51,18 @@ is_there (t ∷ ts) zero h = refl
 is_there (t ∷ ts) (suc i) h = is_there ts i (omega arith)
 
 pub none_behind : (ts : List ViewTree) (i : ℕ) → length ts ≤ i → drop i ts ≡ []
-none_behind [] i h = refl
+none_behind [] zero h = refl
+none_behind [] (suc i) h = refl
 none_behind (t ∷ ts) zero h = absurd (omega arith)
 none_behind (t ∷ ts) (suc i) h = none_behind ts i (omega arith)
 
-take_more : (ts : List ViewTree) (t : ViewTree) (i to : ℕ) → i < to → take (to - i) (t ∷ ts) ≡ t ∷ take (to - (i + 1)) ts
-take_more ts t i to h = let e : to - i ≡ suc (to - (i + 1)) = omega arith in rw e refl
+take_more : (ts : List ViewTree) (t : ViewTree) (i to : ℕ) → i < to → take (to - i) (t ∷ ts) ≡ t ∷ take (to - suc i) ts
+take_more ts t i to h = let e : to - i ≡ suc (to - suc i) = omega arith in rw e refl
 
 -- one more item of a part
 pub part_more : (done : List ViewTree) (ts : List ViewTree) (t : ViewTree) (i to : ℕ) → i < to → slice_get ts i ≡ Some t
     → (done ++ t ∷ []) ++ take (to - (i + 1)) (drop (i + 1) ts) ≡ done ++ take (to - i) (drop i ts)
-part_more done ts t i to h g = rw (at_item ts i t g, take_more (drop (i + 1) ts) t i to h) (shifted done t (take (to - (i + 1)) (drop (i + 1) ts)))
+part_more done ts t i to h g = rw (add-one, at_item ts i t g, take_more (drop (suc i) ts) t i to h) (shifted done t (take (to - suc i) (drop (suc i) ts)))
   where
     shifted : (xs : List ViewTree) (x : ViewTree) (ys : List ViewTree) → (xs ++ x ∷ []) ++ ys ≡ xs ++ x ∷ ys
     shifted [] x ys = refl
@@ -71,7 +72,7 @@ pub take_none : (ts : List ViewTree) (i : ℕ) → take (i - i) ts ≡ []
 take_none ts i = let e : i - i ≡ 0 = omega arith in rw e refl
 
 pub take_all : (ts : List ViewTree) → take (length ts - 0) (drop 0 ts) ≡ ts
-take_all ts = whole ts
+take_all ts = let e : length ts - 0 ≡ length ts = omega arith in rw e (whole ts)
   where
     whole : (us : List ViewTree) → take (length us) us ≡ us
     whole [] = refl
@@ -79,3 +80,5 @@ take_all ts = whole ts
 
 pub take_less : (ts : List ViewTree) (from to : ℕ) → to ≤ from → take (to - from) ts ≡ []
 take_less ts from to h = let e : to - from ≡ 0 = omega arith in rw e refl
+
+pub ruleset counts = (length-prims, length-views)

@@ -1,7 +1,10 @@
 -- The tests of purity and of filters, as properties.
-use Rattle.std.proofs.Common.{◌≡◌, ◌↔◌, refl, sym, Bool, true, false, IsTrue, true≢false, ◌&&◌}
-use Rattle.ng_language.specs.Trees.{Tree, Trees, PairTree, Pairs, a_number, a_text, a_name, the_scope, a_constant, member_of, item_of, call_of, a_list, a_record, in_brackets, signed, combined, both_of, either_of, choice_of, assigned, filtered, no_trees, tree_then, labelled, shorthand, computed, no_pairs, pair_then}
+use Rattle.std.proofs.Common.{ℕ, suc, List, [], ◌∷◌, map, length, ◌<◌, ap, arith, ◌≡◌, ◌↔◌, refl, sym, Bool, true, false, IsTrue, true≢false, ◌&&◌}
+use Rattle.ng_language.specs.Trees.{trees_from, Tree, Trees, PairTree, Pairs, a_number, a_text, a_name, the_scope, a_constant, member_of, item_of, call_of, a_list, a_record, in_brackets, signed, combined, both_of, either_of, choice_of, assigned, filtered, no_trees, tree_then, labelled, shorthand, computed, no_pairs, pair_then}
 use Rattle.ng_view.specs.Applied.{known}
+use Rattle.ng_parse.specs.TreeOf.{tree}
+use Rattle.ng_parse.specs.declared.tree.Expr.{Expr}
+use Rattle.std.proofs.lemmas.Bool.Decides.{nat_tests}
 use Rattle.ng_view.specs.Purity.{names_method, is_pure_tree, are_pure, is_pure_pair, are_pure_pairs, IsPure, ArePure, IsPurePair, ArePurePairs, filters_known_tree, all_filters_known, pair_filter_known, pair_filters_known, IsKnown, FiltersKnown, IsPairKnown, ArePairsKnown, count_of}
 
 both_hold : (a b : Bool) → (a && b) ≡ true → (a ≡ true) × (b ≡ true)
@@ -154,3 +157,13 @@ mutual
   pairs_known_test : (ps : Pairs) → ArePairsKnown ps → pair_filters_known ps ≡ true
   pairs_known_test no_pairs p = refl
   pairs_known_test (pair_then q ps) p = test_of (pair_filter_known q) (pair_filters_known ps) (pair_known_test q) (pairs_known_test ps) p
+
+pub count_of-trees : (es : List Expr) → count_of (trees_from (map tree es)) ≡ length es
+count_of-trees [] = refl
+count_of-trees (e ∷ es) = ap suc (count_of-trees es)
+
+-- no filter takes more than two arguments
+pub many_unknown : (name : List ℕ) (n : ℕ) → 2 < n → known name n ≡ false
+many_unknown name n h = grind (arith, nat_tests)
+
+pub ruleset argument_counts = (count_of-trees, many_unknown)

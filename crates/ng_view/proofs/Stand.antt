@@ -1,6 +1,8 @@
 -- What is made of views whose objects stand.
-use Rattle.std.proofs.Common.{◌≡◌, ◌∙◌, ◌<◌, ℕ, zero, suc, List, [], ◌∷◌, ◌++◌, map, slice_get, length, Option, Some, None, refl, sym, ap, subst, Bool, true, false, if◌then◌else◌, bytes_eq, inl, inr, ℤ}
+use Rattle.std.proofs.Common.{◌≡◌, ◌∙◌, ◌<◌, ℕ, zero, suc, List, [], ◌∷◌, ◌++◌, map, slice_get, length, Option, Some, None, refl, sym, ap, subst, Bool, true, false, if◌then◌else◌, bytes_eq, ℤ, pos, ◌*ℤ◌, ◌-ℤ◌, ◌+ℤ◌, int_div, int_rem}
 use Rattle.std.specs.Prelude.{Result, Ok, Err, ◌⊎◌, option_and_then}
+use Rattle.std.specs.Ordering.{int_eq}
+use Rattle.ng_base.specs.declared.fault.Fault.TheVariants.{NotWhole, Range}
 use Rattle.std.specs.List.{AllByRecursion}
 use Rattle.std.specs.Map.{lookup}
 use Rattle.indexmap.specs.IndexMap.{insert_entry}
@@ -13,7 +15,8 @@ use Rattle.ng_base.specs.declared.view.View.{View}
 use Rattle.ng_base.specs.declared.value.Value.{Value}
 use Rattle.ng_base.specs.declared.value.Value.TheVariants as value
 use Rattle.ng_base.specs.declared.fault.Fault.{Fault}
-use Rattle.ng_language.specs.Operators.{in_range, is_in_range, of_numbers, sum, difference, product, quotient, remainder, view_num, sub, mul, div, remainder_of, term_num}
+use Rattle.ng_language.specs.Operators.{in_range, of_numbers, sum, difference, product, quotient, remainder, view_num, sub, mul, div, remainder_of, term_num}
+use Rattle.ng_language.specs.Numbers.{is_in_range}
 use Rattle.ng_language.specs.Sums.{add, add_defined, joined, as_view, is_undefined, is_joined}
 use Rattle.ng_language.specs.Texts.{to_text}
 use Rattle.ng_language.specs.Views.{ViewStands, ViewsStand, FieldsStand}
@@ -102,7 +105,7 @@ ok_is a b h = cc
 in_range_numeric : (k : ℤ) → Numeric (in_range k)
 in_range_numeric k = by (is_in_range k)
   where
-    by : (b : Bool) → Numeric (if b then Ok (value.Int k) else Err _)
+    by : (b : Bool) → Numeric (if b then Ok (value.Int k) else Err Range)
     by true n v h = subst (StandsAmong n) (ok_is (value.Int k) v h) tt
     by false n v h = absurd (cc)
 
@@ -113,25 +116,36 @@ if_numeric false r s p q = q
 err_numeric : (e : Fault) → Numeric (Err e)
 err_numeric e n v h = absurd (cc)
 
+nan_numeric : Numeric (Ok value.Nan)
+nan_numeric n v h = subst (StandsAmong n) (ok_is value.Nan v h) tt
+
 of_numbers_numeric : (f : ℤ → ℤ → Result Value Fault) → ((a b : ℤ) → Numeric (f a b)) → (x y : Option ℤ) → Numeric (of_numbers f x y)
 of_numbers_numeric f p (Some a) (Some b) = p a b
-of_numbers_numeric f p (Some a) None n v h = subst (StandsAmong n) (ok_is value.Nan v h) tt
-of_numbers_numeric f p None y n v h = subst (StandsAmong n) (ok_is value.Nan v h) tt
+of_numbers_numeric f p (Some a) None = nan_numeric
+of_numbers_numeric f p None y = nan_numeric
 
 pub mul_stands : (t u : ViewTree) → Numeric (mul t u)
-mul_stands t u = of_numbers_numeric product (λ a b. in_range_numeric _) (view_num t) (view_num u)
+mul_stands t u = of_numbers_numeric product (λ a b. in_range_numeric (a *ℤ b)) (view_num t) (view_num u)
 
 pub sub_stands : (t u : ViewTree) → Numeric (sub t u)
-sub_stands t u = of_numbers_numeric difference (λ a b. in_range_numeric _) (term_num t) (term_num u)
+sub_stands t u = of_numbers_numeric difference (λ a b. in_range_numeric (a -ℤ b)) (term_num t) (term_num u)
+
+quotient_numeric : (m n : ℤ) → Numeric (quotient m n)
+quotient_numeric m n =
+    if_numeric (int_eq n (pos 0)) (Err NotWhole) (if int_eq (int_rem m n) (pos 0) then in_range (int_div m n) else Err NotWhole) (err_numeric NotWhole)
+        (if_numeric (int_eq (int_rem m n) (pos 0)) (in_range (int_div m n)) (Err NotWhole) (in_range_numeric (int_div m n)) (err_numeric NotWhole))
+
+remainder_numeric : (m n : ℤ) → Numeric (remainder m n)
+remainder_numeric m n = if_numeric (int_eq n (pos 0)) (Err NotWhole) (in_range (int_rem m n)) (err_numeric NotWhole) (in_range_numeric (int_rem m n))
 
 pub div_stands : (t u : ViewTree) → Numeric (div t u)
-div_stands t u = of_numbers_numeric quotient (λ a b. if_numeric _ _ _ (err_numeric _) (if_numeric _ _ _ (in_range_numeric _) (err_numeric _))) (view_num t) (view_num u)
+div_stands t u = of_numbers_numeric quotient quotient_numeric (view_num t) (view_num u)
 
 pub rem_stands : (t u : ViewTree) → Numeric (remainder_of t u)
-rem_stands t u = of_numbers_numeric remainder (λ a b. if_numeric _ _ _ (err_numeric _) (in_range_numeric _)) (view_num t) (view_num u)
+rem_stands t u = of_numbers_numeric remainder remainder_numeric (view_num t) (view_num u)
 
 sum_stands : (t u : ViewTree) → Numeric (of_numbers sum (view_num t) (view_num u))
-sum_stands t u = of_numbers_numeric sum (λ a b. in_range_numeric _) (view_num t) (view_num u)
+sum_stands t u = of_numbers_numeric sum (λ a b. in_range_numeric (a +ℤ b)) (view_num t) (view_num u)
 
 as_view_stands : (r : Result Value Fault) → Numeric r → (n : ℕ) (w : ViewTree) → as_view r ≡ Ok w → ViewStands n w
 as_view_stands (Ok v) p n w h = subst (ViewStands n) (ok_is (prim v) w h) (p n v refl)

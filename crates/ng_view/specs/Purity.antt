@@ -77,7 +77,7 @@ abbrev mutual
   IsPure (a_constant c) = ⊤
   IsPure (member_of t s) = IsPure t
   IsPure (item_of t i) = IsPure t × IsPure i
-  IsPure (call_of t ts) = IsTrue (names_method t) × IsPure t × ArePure ts
+  IsPure (call_of t ts) = IsTrue (names_method t) × (IsPure t × ArePure ts)
   IsPure (a_list ts) = ArePure ts
   IsPure (a_record ps) = ArePurePairs ps
   IsPure (in_brackets t) = IsPure t
@@ -85,7 +85,7 @@ abbrev mutual
   IsPure (combined o a b) = IsPure a × IsPure b
   IsPure (both_of a b) = IsPure a × IsPure b
   IsPure (either_of a b) = IsPure a × IsPure b
-  IsPure (choice_of c a b) = IsPure c × IsPure a × IsPure b
+  IsPure (choice_of c a b) = IsPure c × (IsPure a × IsPure b)
   IsPure (assigned a b) = ⊥
   IsPure (filtered t s ts) = IsPure t × ArePure ts
 
@@ -160,9 +160,9 @@ abbrev mutual
   IsKnown (combined o a b) = IsKnown a × IsKnown b
   IsKnown (both_of a b) = IsKnown a × IsKnown b
   IsKnown (either_of a b) = IsKnown a × IsKnown b
-  IsKnown (choice_of c a b) = IsKnown c × IsKnown a × IsKnown b
+  IsKnown (choice_of c a b) = IsKnown c × (IsKnown a × IsKnown b)
   IsKnown (assigned a b) = IsKnown a × IsKnown b
-  IsKnown (filtered t s ts) = IsTrue (known s (count_of ts)) × IsKnown t × FiltersKnown ts
+  IsKnown (filtered t s ts) = IsTrue (known s (count_of ts)) × (IsKnown t × FiltersKnown ts)
 
   pub FiltersKnown : Trees → Type 0
   FiltersKnown no_trees = ⊤

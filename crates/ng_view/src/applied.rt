@@ -16,7 +16,7 @@ use std::alloc::Global;
 pub fn known(_name: &Txt, _args: u32) -> bool
     ensures { result ≡ known _name.now _args }
 {
-    true
+    _args <= 2
 }
 
 pub fn apply(alloc: Global, name: &Txt, _store: &Store, input: &View, _args: &Views) -> Result<View, Fault>

@@ -10,14 +10,18 @@ use crate::applied::known;
 use ng_base::txt::Txt;
 use ng_parse::{Expr, Pair, Program};
 
+/// No filter takes more arguments.
+const MOST_ARGUMENTS: usize = 2;
+
 /// Whether a filter is there and takes as many arguments.
+#[tactic(auto, using(crate::proofs::Pure::argument_counts))]
 fn is_filter_known(name: &Txt, args: &[Expr]) -> bool
     ensures { result ≡ known name.now (count_of (trees_from (map tree args.now))) }
 {
-    match u32::try_from(args.len()) {
-        Ok(count) => known(name, count),
-        Err(_) => false,
+    if args.len() > MOST_ARGUMENTS {
+        return false;
     }
+    known(name, args.len() as u32)
 }
 
 #[cycle(known)]

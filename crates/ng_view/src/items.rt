@@ -4,7 +4,7 @@ ghost use Rattle.std.specs.List.{AllByRecursion};
 ghost use Rattle.ng_base.specs.Views.{prim, views_list};
 ghost use Rattle.ng_base.specs.ViewOf.{view_of, views_of};
 ghost use Rattle.ng_language.specs.Operators.{strict_eq, strict_same};
-ghost use Rattle.ng_language.specs.Views.{ViewStands, ViewsStand};
+ghost use Rattle.ng_language.specs.Views.{ViewStands};
 ghost use Rattle.ng_language.specs.Objects.{items_at};
 ghost use Rattle.ng_language.specs.Unfolding.{prims};
 ghost use Rattle.ng_base.specs.Objects.{StandsAmong};
@@ -42,13 +42,22 @@ pub(crate) fn views_count(views: &Views) -> usize
     views.as_slice().len()
 }
 
+/// How many items a stored array has.
+#[tactic(auto, using(crate::proofs::Places::counts))]
+fn stored_count(store: &Store, o: Oid) -> usize
+    requires { o.0 < length store.now }
+    ensures { result ≡ length (prims (items_at store.now o.0)) }
+{
+    store.len(o) as usize
+}
+
 /// How many items there are.
 pub(crate) fn items_count(store: &Store, v: &View) -> usize
     requires { ViewStands (length store.now) (view_of v.now) }
     ensures { result ≡ length (items_of store.now (view_of v.now)) }
 {
     match v {
-        View::Prim(Value::Obj(o)) => store.len(*o) as usize,
+        View::Prim(Value::Obj(o)) => stored_count(store, *o),
         View::Prim(_) => 0,
         View::List(views) => views_count(views),
         View::Rec(_) => 0,
@@ -56,6 +65,7 @@ pub(crate) fn items_count(store: &Store, v: &View) -> usize
 }
 
 /// An item of a stored array.
+#[tactic(auto, using(crate::proofs::Places::counts))]
 fn stored_item(store: &Store, o: Oid, i: usize) -> &Value
     requires object { o.0 < length store.now }
     requires below { i < length (prims (items_at store.now o.0)) }
@@ -69,8 +79,7 @@ fn stored_item(store: &Store, o: Oid, i: usize) -> &Value
 /// A view of a fresh list.
 fn listed_view(views: &Views, i: usize) -> &View
     requires { i < length (views_list (views_of views.now)) }
-    ensures item { slice_get (views_list (views_of views.now)) i ≡ Some (view_of result.now) }
-    ensures stands { (n : ℕ) → ViewsStand n (views_of views.now) → ViewStands n (view_of result.now) }
+    ensures { slice_get (views_list (views_of views.now)) i ≡ Some (view_of result.now) }
 {
     &views.as_slice()[i]
 }
