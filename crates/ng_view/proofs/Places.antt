@@ -1,7 +1,8 @@
 -- The items of arrays and fresh lists, one by one.
 use Rattle.std.proofs.Common.{◌≡◌, ◌∙◌, ◌<◌, ◌≤◌, ◌+◌, ◌-◌, ℕ, zero, suc, List, [], ◌∷◌, ◌++◌, map, take, drop, length, slice_get, Option, Some, None, refl, sym, ap, subst, arith, add-one}
-use Rattle.std.specs.List.{AllByRecursion}
-use Rattle.std.proofs.lemmas.Option.{slice_get-map}
+use Rattle.std.specs.Prelude.{Ok, Err, true, false}
+use Rattle.ng_base.specs.Objects.{Object}
+use Rattle.ng_base.specs.declared.fault.Fault.{Fault}
 use Rattle.ng_base.specs.Views.{ViewTree, prim}
 use Rattle.ng_base.specs.ViewOf.{view_of}
 use Rattle.ng_base.specs.declared.view.View.{View}
@@ -9,7 +10,7 @@ use Rattle.ng_base.specs.declared.value.Value.{Value}
 use Rattle.ng_language.specs.Unfolding.{prims}
 use Rattle.ng_language.specs.Operators.{strict_eq}
 use Rattle.ng_view.specs.Members.{view_or_undefined}
-use Rattle.ng_view.specs.Methods.{place_of}
+use Rattle.ng_view.specs.Methods.{place_of, part_text, joined_behind}
 
 pub length-prims : (vs : List Value) → length (prims vs) ≡ length vs
 length-prims [] = refl
@@ -80,5 +81,19 @@ take_all ts = let e : length ts - 0 ≡ length ts = omega arith in rw e (whole t
 
 pub take_less : (ts : List ViewTree) (from to : ℕ) → to ≤ from → take (to - from) ts ≡ []
 take_less ts from to h = let e : to - from ≡ 0 = omega arith in rw e refl
+
+pub place_here : (x : ViewTree) (ts : List ViewTree) (i : ℕ) → i < length ts → strict_eq (view_or_undefined (slice_get ts i)) x ≡ true → place_of x i (drop i ts) ≡ Some i
+place_here x ts i h e = rw (at_place ts i h, e) refl
+
+pub place_later : (x : ViewTree) (ts : List ViewTree) (i : ℕ) → i < length ts → strict_eq (view_or_undefined (slice_get ts i)) x ≡ false → place_of x i (drop i ts) ≡ place_of x (i + 1) (drop (i + 1) ts)
+place_later x ts i h e = rw (add-one, at_place ts i h, e) refl
+
+pub joined_ok : (objects : List Object) (between done : List ℕ) (ts : List ViewTree) (i : ℕ) (s : List ℕ) → i < length ts → part_text objects (view_or_undefined (slice_get ts i)) ≡ Ok s
+    → joined_behind objects between done (drop i ts) ≡ joined_behind objects between ((done ++ between) ++ s) (drop (i + 1) ts)
+joined_ok objects between done ts i s h e = rw (add-one, at_place ts i h, e) refl
+
+pub joined_err : (objects : List Object) (between done : List ℕ) (ts : List ViewTree) (i : ℕ) (f : Fault) → i < length ts → part_text objects (view_or_undefined (slice_get ts i)) ≡ Err f
+    → joined_behind objects between done (drop i ts) ≡ Err f
+joined_err objects between done ts i f h e = rw (at_place ts i h, e) refl
 
 pub ruleset counts = (length-prims, length-views)

@@ -1,13 +1,14 @@
 -- What is made of views whose objects stand.
 use Rattle.std.proofs.Common.{◌≡◌, ◌∙◌, ◌<◌, ℕ, zero, suc, List, [], ◌∷◌, ◌++◌, map, slice_get, length, Option, Some, None, refl, sym, ap, subst, Bool, true, false, if◌then◌else◌, bytes_eq, ℤ, pos, ◌*ℤ◌, ◌-ℤ◌, ◌+ℤ◌, int_div, int_rem}
-use Rattle.std.specs.Prelude.{Result, Ok, Err, ◌⊎◌, option_and_then}
+use Rattle.std.specs.Prelude.{Result, Ok, Err, ◌⊎◌, option_and_then, IfOk}
 use Rattle.std.specs.Ordering.{int_eq}
 use Rattle.ng_base.specs.declared.fault.Fault.TheVariants.{NotWhole, Range}
 use Rattle.std.specs.List.{AllByRecursion}
 use Rattle.std.specs.Map.{lookup}
 use Rattle.indexmap.specs.IndexMap.{insert_entry}
 use Rattle.ng_base.proofs.Binds.{bind_ok, chosen}
-use Rattle.ng_base.specs.Meets.{◌>>=◌}
+use Rattle.ng_base.specs.Faults.{is_memory}
+use Rattle.ng_base.specs.Meets.{◌>>=◌, Gives}
 use Rattle.ng_base.specs.Objects.{Object, StandsAmong, index_of}
 use Rattle.ng_base.specs.Views.{ViewTree, ViewTrees, ViewFields, prim, list, rec, no_views, view_then, no_fields, field_then, views_list, fields_list, views_from, fields_from}
 use Rattle.ng_base.specs.ViewOf.{view_of, field_of}
@@ -22,7 +23,7 @@ use Rattle.ng_language.specs.Texts.{to_text}
 use Rattle.ng_language.specs.Views.{ViewStands, ViewsStand, FieldsStand}
 use Rattle.ng_value.proofs.ViewParts.{views_stand, fields_stand}
 use Rattle.ng_view.specs.Members.{view_or_undefined, list_member, record_member, is_length, indexed, count}
-use Rattle.ng_view.specs.Evaluation.{Field, FieldsAllStand}
+use Rattle.ng_view.specs.Evaluation.{Field, FieldsAllStand, Local, LocalsStand}
 
 abbrev pub Named : Type 0
 Named = List ℕ × View
@@ -167,3 +168,21 @@ add_stands objects t u n w s r h = first (is_undefined t) (is_undefined u) (is_j
     first false false true d k = joined_stands objects t u n w k
     first false false false true k = joined_stands objects t u n w k
     first false false false false k = as_view_stands (of_numbers sum (view_num t) (view_num u)) (sum_stands t u) n w k
+
+local_step : (n : ℕ) (l : Local) (rest : Option Value) (v : Value) (b : Bool) → StandsAmong n l.1 → (rest ≡ Some v → StandsAmong n v) → (if b then Some l.1 else rest) ≡ Some v → StandsAmong n v
+local_step n l rest v true s more h = let e : l.1 ≡ v = cc in subst (StandsAmong n) e s
+local_step n l rest v false s more h = more h
+
+pub local_stands : (n : ℕ) (ls : List Local) (name : List ℕ) (v : Value) → lookup (bytes_eq name) ls ≡ Some v → LocalsStand n ls → StandsAmong n v
+local_stands n [] name v h a = absurd (cc)
+local_stands n (l ∷ ls) name v h a = local_step n l (lookup (bytes_eq name) ls) v (bytes_eq name l.0) a.0 (λ k. local_stands n ls name v k a.1) h
+
+-- what holds of a view holds of its copy
+pub carried : {E : Type 0} (n : ℕ) (r : Result View E) (t : ViewTree) → IfOk r (λ v. view_of v ≡ t) → ViewStands n t → IfOk r (λ v. ViewStands n (view_of v))
+carried n (Ok v) t h s = subst (ViewStands n) (sym h) s
+carried n (Err e) t h s = tt
+
+-- what stands wherever it is asked for stands where it is given
+pub given_stands : (n : ℕ) (r : Result View Fault) (asked : Result ViewTree Fault) → Gives is_memory view_of asked r → ((w : ViewTree) → asked ≡ Ok w → ViewStands n w) → IfOk r (λ v. ViewStands n (view_of v))
+given_stands n (Ok v) asked g s = s (view_of v) g
+given_stands n (Err e) asked g s = tt

@@ -24,7 +24,8 @@ pub(crate) fn record_of(alloc: Global, fields: IndexMap<Txt, View>) -> Result<Fi
     ensures { IfOk result (λ r. fields_list (fields_of r) ≡ map field_of fields.entries) }
 {
     let mut done = Fields::new(alloc);
-    for (name, view) in fields {
+    let mut left = fields.into_iter();
+    while let Some((name, view)) = left.next() {
         done.push(name, view)?;
     }
     Ok(done)

@@ -21,13 +21,14 @@
 //! ng_filters and ng_value.
 #![tactic(auto)]
 
-pub mod calls;
 mod applied;
+pub mod calls;
 mod evaluation;
 mod fields;
 mod filters;
 mod index;
 mod items;
+pub mod laws;
 mod lists;
 mod literals;
 mod members;
@@ -35,6 +36,8 @@ pub mod methods;
 mod operators;
 mod program;
 mod purity;
+#[cfg(test)]
+mod tests;
 mod texts;
 
 pub use filters::filters_known;

@@ -1,5 +1,5 @@
 //! The methods of arrays and fresh lists.
-ghost use Rattle.std.specs.Prelude.{◌≡◌, ◌<◌, ◌++◌, ℕ, length, map, drop, IfOk};
+ghost use Rattle.std.specs.Prelude.{◌≡◌, ◌<◌, ◌++◌, ℕ, length, map, drop, IfOk, OnOk};
 ghost use Rattle.std.specs.List.{AllByRecursion};
 ghost use Rattle.ng_base.specs.Faults.{is_memory};
 ghost use Rattle.ng_base.specs.Meets.{Meets, Gives};
@@ -169,6 +169,15 @@ fn item_text(alloc: Global, store: &Store, v: &View, i: usize) -> Result<Txt, Fa
     part_text(alloc, store, &item_at(alloc, store, v, i)?)
 }
 
+/// Adds a separator and a text.
+fn append_text(done: &mut Txt, between: &Txt, text: &Txt) -> Result<(), Memory>
+    ensures { OnOk result (done.new ≡ (done.old ++ between.now) ++ text.now) }
+{
+    done.push_txt(between)?;
+    done.push_txt(text)?;
+    Ok(())
+}
+
 /// The texts of the items behind the first, each behind a separator.
 fn join_behind(alloc: Global, store: &Store, v: &View, between: &Txt, done: Txt) -> Result<Txt, Fault>
     requires { ViewStands (length store.now) (view_of v.now) }
@@ -176,9 +185,10 @@ fn join_behind(alloc: Global, store: &Store, v: &View, between: &Txt, done: Txt)
 {
     let mut done = done;
     for i in 1..items_count(store, v) {
-        let text = item_text(alloc, store, v, i)?;
-        done.push_txt(between)?;
-        done.push_txt(&text)?;
+        match item_text(alloc, store, v, i) {
+            Ok(text) => append_text(&mut done, between, &text)?,
+            Err(fault) => return Err(fault),
+        }
     }
     Ok(done)
 }
