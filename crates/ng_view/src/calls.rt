@@ -1,5 +1,5 @@
 //! What a call calls.
-ghost use Rattle.std.specs.Prelude.{◌≡◌, ◌<◌, length, IfOk};
+ghost use Rattle.std.specs.Prelude.{◌≡◌, Ok, length, IfOk};
 ghost use Rattle.std.specs.List.{AllByRecursion};
 ghost use Rattle.ng_base.specs.Faults.{is_memory};
 ghost use Rattle.ng_base.specs.Meets.{Gives};
@@ -8,11 +8,11 @@ ghost use Rattle.ng_base.specs.Views.{prim, views_list};
 ghost use Rattle.ng_base.specs.ViewOf.{view_of, views_of};
 ghost use Rattle.ng_language.specs.Views.{ViewStands};
 ghost use Rattle.ng_view.specs.Methods.{method_value};
-ghost use Rattle.ng_view.specs.Evaluation.{method_of, member_callee, callee};
+ghost use Rattle.ng_view.specs.Evaluation.{method_of, member_callee, callee, called};
 
 use crate::items::is_list;
-use crate::lists::{argument, concat, join, place_of, place_or_none, slice};
-use crate::members::member;
+use crate::lists::{argument, concat, join, list_view, place_of, place_or_none, slice};
+use crate::members::{member, undefined};
 use crate::methods::{Method, list_method, text_method};
 use crate::texts::{find, lower, text_in, trim, upper};
 use ng_base::fault::{Fault, Memory};
@@ -73,7 +73,6 @@ pub(crate) fn find_callee(alloc: Global, store: &Store, v: &View, name: &Txt) ->
 }
 
 /// What a method gives.
-#[tactic(auto, using(ng_value::proofs::ViewParts::view_parts))]
 pub(crate) fn method_value(
     alloc: Global,
     store: &Store,
@@ -92,8 +91,8 @@ pub(crate) fn method_value(
             let x = argument(alloc, args, 0)?;
             Ok(place_or_none(place_of(store, v, &x))?)
         }
-        Method::Slice => Ok(View::of_list(slice(alloc, store, v, args)?)),
-        Method::Concat => Ok(View::of_list(concat(alloc, store, v, args)?)),
+        Method::Slice => Ok(list_view(slice(alloc, store, v, args)?)),
+        Method::Concat => Ok(list_view(concat(alloc, store, v, args)?)),
         Method::Join => {
             let between = argument(alloc, args, 0)?;
             Ok(text_view(join(alloc, store, v, &between)?))
@@ -105,6 +104,27 @@ pub(crate) fn method_value(
         Method::Trim => Ok(text_view(trim(alloc, text_in(v, &empty))?)),
         Method::Upper => Ok(text_view(upper(alloc, text_in(v, &empty))?)),
         Method::Lower => Ok(text_view(lower(alloc, text_in(v, &empty))?)),
+    }
+}
+
+/// The value of a call whose arguments were evaluated.
+pub(crate) fn called(
+    alloc: Global,
+    store: &Store,
+    callee: Callee,
+    v: &View,
+    args: &Views,
+) -> Result<View, Fault>
+    requires value { ViewStands (length store.now) (view_of v.now) }
+    requires args { AllByRecursion (ViewStands (length store.now)) (views_list (views_of args.now)) }
+    ensures exact { Gives is_memory view_of (called store.now callee (view_of v.now) (Ok (views_list (views_of args.now)))) result }
+    ensures stands { IfOk result (λ w. ViewStands (length store.now) (view_of w)) }
+{
+    match callee {
+        Callee::Method(method) => method_value(alloc, store, method, v, args),
+        Callee::Nothing => Ok(undefined()),
+        Callee::Function => Err(Fault::ImpureCall),
+        Callee::Other => Err(Fault::NotAFunction),
     }
 }
 

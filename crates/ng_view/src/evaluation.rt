@@ -9,11 +9,12 @@ ghost use Rattle.ng_language.specs.Trees.{trees_from, pairs_from};
 ghost use Rattle.ng_language.specs.Views.{ViewStands};
 ghost use Rattle.ng_parse.specs.TreeOf.{tree, pair_tree};
 ghost use Rattle.ng_view.specs.Purity.{count_of, IsKnown, FiltersKnown, IsPairKnown, ArePairsKnown};
-ghost use Rattle.ng_view.specs.Evaluation.{evaluated, receiver, evaluated_all, evaluated_pair, evaluated_pairs, called, callee, LocalsStand, Field, FieldsAllStand};
+ghost use Rattle.ng_view.specs.Evaluation.{evaluated, receiver, evaluated_all, evaluated_pair, evaluated_pairs, LocalsStand, Field, FieldsAllStand};
 
 use crate::applied::apply;
-use crate::calls::{Callee, find_callee, method_value};
-use crate::fields::{put_field, record_of};
+use crate::calls::{Callee, called, find_callee};
+use crate::fields::{put_field, record_of, record_view};
+use crate::lists::list_view;
 use crate::literals::{constant, label_name, named, number};
 use crate::members::{item, member, undefined};
 use crate::operators::{operator_value, sign_value};
@@ -32,7 +33,6 @@ use std::alloc::Global;
 
 /// The value of an expression.
 #[cycle(evaluation)]
-#[tactic(auto, using(ng_value::proofs::ViewParts::view_parts))]
 pub(crate) fn evaluated(
     alloc: Global,
     store: &Store,
@@ -63,15 +63,20 @@ pub(crate) fn evaluated(
         }
         Expr::Call(t, args) => {
             let (v, name) = receiver(alloc, store, scope, locals, t)?;
-            call(alloc, store, scope, locals, &v, name, args.as_slice())
+            let callee = find_callee(alloc, store, &v, name)?;
+            if callee == Callee::Nothing {
+                return Ok(undefined());
+            }
+            let args = evaluated_all(alloc, store, scope, locals, args.as_slice())?;
+            called(alloc, store, callee, &v, &args)
         }
         Expr::List(items) => {
             let views = evaluated_all(alloc, store, scope, locals, items.as_slice())?;
-            Ok(View::of_list(views))
+            Ok(list_view(views))
         }
         Expr::Record(pairs) => {
             let fields = evaluated_pairs(alloc, store, scope, locals, pairs.as_slice())?;
-            Ok(View::of_fields(record_of(alloc, fields)?))
+            Ok(record_view(record_of(alloc, fields)?))
         }
         Expr::Bracketed(t) => evaluated(alloc, store, scope, locals, t),
         Expr::Unary(op, t) => {
@@ -134,37 +139,6 @@ fn receiver<'a>(
     match e {
         Expr::Member(t, name) => Ok((evaluated(alloc, store, scope, locals, t)?, name)),
         _ => Err(Fault::ImpureCall),
-    }
-}
-
-/// The value of a call. Where nothing is called the arguments are not evaluated.
-#[cycle(evaluation)]
-fn call(
-    alloc: Global,
-    store: &Store,
-    scope: Oid,
-    locals: &Locals,
-    v: &View,
-    name: &Txt,
-    args: &[Expr],
-) -> Result<View, Fault>
-    requires scope { scope.0 < length store.now }
-    requires locals { LocalsStand (length store.now) locals.now }
-    requires value { ViewStands (length store.now) (view_of v.now) }
-    requires known { FiltersKnown (trees_from (map tree args.now)) }
-    ensures exact { Gives is_memory view_of (called store.now (callee store.now (view_of v.now) name.now) (view_of v.now) (evaluated_all store.now scope.0 locals.now [] (trees_from (map tree args.now)))) result }
-    ensures stands { IfOk result (λ w. ViewStands (length store.now) (view_of w)) }
-{
-    let callee = find_callee(alloc, store, v, name)?;
-    if callee == Callee::Nothing {
-        return Ok(undefined());
-    }
-    let args = evaluated_all(alloc, store, scope, locals, args)?;
-    match callee {
-        Callee::Method(method) => method_value(alloc, store, method, v, &args),
-        Callee::Nothing => Ok(undefined()),
-        Callee::Function => Err(Fault::ImpureCall),
-        Callee::Other => Err(Fault::NotAFunction),
     }
 }
 

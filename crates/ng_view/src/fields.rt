@@ -1,8 +1,10 @@
 //! The fields of a fresh record.
-ghost use Rattle.std.specs.Prelude.{◌≡◌, map, IfOk, OnOk};
+ghost use Rattle.std.specs.Prelude.{◌≡◌, ℕ, map, IfOk, OnOk};
 ghost use Rattle.std.specs.Str.{bytes_eq};
 ghost use Rattle.indexmap.specs.IndexMap.{insert_entry};
-ghost use Rattle.ng_base.specs.Views.{fields_list};
+ghost use Rattle.ng_base.specs.Views.{rec, fields_from, fields_list};
+ghost use Rattle.ng_language.specs.Views.{ViewStands};
+ghost use Rattle.ng_view.specs.Evaluation.{FieldsAllStand};
 ghost use Rattle.ng_base.specs.ViewOf.{view_of, fields_of, field_of};
 
 use indexmap::IndexMap;
@@ -29,4 +31,13 @@ pub(crate) fn record_of(alloc: Global, fields: IndexMap<Txt, View>) -> Result<Fi
         done.push(name, view)?;
     }
     Ok(done)
+}
+
+/// The view of a fresh record.
+#[tactic(auto, using(ng_value::proofs::ViewParts::view_parts))]
+pub(crate) fn record_view(fields: Fields) -> View
+    ensures exact { view_of result ≡ rec (fields_from (fields_list (fields_of fields))) }
+    ensures stands { (n : ℕ) → FieldsAllStand n (fields_list (fields_of fields)) → ViewStands n (view_of result) }
+{
+    View::of_fields(fields)
 }

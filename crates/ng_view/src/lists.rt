@@ -3,7 +3,7 @@ ghost use Rattle.std.specs.Prelude.{◌≡◌, ◌<◌, ◌++◌, ℕ, length, m
 ghost use Rattle.std.specs.List.{AllByRecursion};
 ghost use Rattle.ng_base.specs.Faults.{is_memory};
 ghost use Rattle.ng_base.specs.Meets.{Meets, Gives};
-ghost use Rattle.ng_base.specs.Views.{views_list};
+ghost use Rattle.ng_base.specs.Views.{list, views_from, views_list};
 ghost use Rattle.ng_base.specs.ViewOf.{view_of, views_of};
 ghost use Rattle.ng_language.specs.Views.{ViewStands};
 ghost use Rattle.ng_view.specs.Methods.{items_of, place_of, place_or_none, argument, from_end, place_at, sliced, parts_of, concatenated, separator, part_text, joined_behind, joined_items, joined};
@@ -19,6 +19,15 @@ use ng_value::copies::copied;
 use ng_value::numbers::view_num;
 use ng_value::texts::to_text;
 use std::alloc::Global;
+
+/// The view of a fresh list.
+#[tactic(auto, using(ng_value::proofs::ViewParts::view_parts))]
+pub(crate) fn list_view(views: Views) -> View
+    ensures exact { view_of result ≡ list (views_from (views_list (views_of views))) }
+    ensures stands { (n : ℕ) → AllByRecursion (ViewStands n) (views_list (views_of views)) → ViewStands n (view_of result) }
+{
+    View::of_list(views)
+}
 
 /// An argument; one that is missing is undefined.
 pub(crate) fn argument(alloc: Global, args: &Views, i: usize) -> Result<View, Memory>
