@@ -1,0 +1,5 @@
+pub mod Applied
+pub mod Purity
+pub mod Members
+pub mod Methods
+pub mod Evaluation
