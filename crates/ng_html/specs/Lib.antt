@@ -2,7 +2,12 @@ pub mod Free
 pub mod Attrs
 pub mod Pieces
 pub mod Seen
+pub mod Closing
+pub mod Building
 pub mod Reading
 pub mod TreeSeen
-pub mod Reached
+pub mod Grammar
+pub mod Running
+pub mod Standing
+pub mod Refusals
 pub mod Laws

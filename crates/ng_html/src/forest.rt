@@ -3,8 +3,8 @@ ghost use Rattle.std.specs.Prelude.{◌≡◌, OnOk, map};
 ghost use Rattle.ng_markup.specs.Forest.{no_nodes, with_node, element, text, comment, forest_from};
 ghost use Rattle.ng_html.specs.Seen.{node_of, forest_of};
 
-use crate::attrs::Attrs;
 use ng_base::txt::Txt;
+use ng_tags::attrs::Attrs;
 use std::alloc::{AllocError, Global};
 
 /// A node.

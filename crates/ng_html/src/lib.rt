@@ -3,30 +3,30 @@
 //! A document is a `Forest`: a list of nodes, each an element with its attributes, a text or a comment.
 //! Contracts see it through `forest_of`, as the forest of `ng_markup`.
 //!
-//! - `read` gives the forest of a document, with the place of each node in bytes, or refuses it. Its clauses `found`
-//!   and `only` are what the crates above use: the answer is a forest exactly where the bytes spell it.
-//!   Today the form is that of the first path, elements without attributes and texts whose holes are paths, and
-//!   what is not of the form is refused as `Later`.
+//! - `read` gives the forest of a document, with the place of each node in bytes, or its first refusal from the left.
+//!   Its clauses `found` and `only` are what the crates above use: the answer is a forest exactly where the bytes
+//!   spell it.
 //! - `write` appends the print of a forest: the crates above show a page by it. `prints_back` is the law that the
 //!   print of what was read is read as the same forest.
 //! - `split` of `holes` gives the parts of a text, its plain words and its holes.
 //!
-//! The reader takes one character after another: `step` is the table of what a character does where it stands, and
-//! `build` the tree so far; the reader's stack knows no names of tags, which stand in `tables`.
-//! The rules are those of the HTML standard's sections on writing documents, cut down to a profile without
-//! scripts, which AngularJS's guide calls the template (guide: Templates).
+//! The reader takes one event of `ng_tags` after another: a tag, a text or a comment. `build` keeps the open elements
+//! and the tree so far; which start tag closes which element stands in `closings`, and the other elements with rules
+//! of their own in `tables`.
+//! The rules are those of the HTML standard's sections on writing documents and on optional tags, cut down to a
+//! profile without scripts, which AngularJS's guide calls the template (guide: Templates).
 //! It knows no directive and no hole's value, and it mends nothing: what is no document is refused.
 #![tactic(auto)]
 
 pub mod attrs;
 pub mod build;
+pub mod closings;
 pub mod fault;
 pub mod forest;
 pub mod form;
 pub mod holes;
 pub mod reading;
 pub mod source;
-pub mod step;
 pub mod tables;
 #[cfg(test)]
 mod tests;

@@ -9,12 +9,12 @@ ghost use Rattle.ng_html.specs.Attrs.{attr_of};
 ghost use Rattle.ng_html.specs.Laws.{PrintsBack};
 ghost use Rattle.ng_html.specs.Seen.{node_of, forest_of};
 
-use crate::attrs::{Attr, Attrs};
 use crate::forest::{Forest, Node};
 use crate::tables::void;
 use ng_base::fault::Memory;
 use ng_base::reader::Plain;
 use ng_base::txt::Txt;
+use ng_tags::attrs::{Attr, Attrs};
 use std::alloc::AllocError;
 
 #[tactic(auto, using(crate::proofs::Prints::print_steps))]
@@ -194,8 +194,7 @@ pub fn write(f: &Forest, into: &mut Vec<u8>) -> Result<(), Memory>
     Ok(())
 }
 
-/// A document of the first path whose texts print as themselves is printed byte for byte, so that its print is read as
-/// the same forest.
+/// The print of a document's forest is read as the same forest: it spells it, and what is spelled is read.
 pub fn prints_back()
     ensures { PrintsBack }
 {}

@@ -1,5 +1,5 @@
 -- Names that are none of the core's.
-use Rattle.std.proofs.Common.{◌≡◌, ℕ, Bool, true, false, List, [], ◌∷◌, ◌==◌, refl}
+use Rattle.std.proofs.Common.{◌≡◌, ℕ, false, List, [], ◌∷◌, refl}
 use Rattle.ng_page.specs.Names.{camel, begins_n, kind_of_directive}
 use Rattle.ng_page.specs.declared.names.NameKind.TheVariants.{Plain}
 

@@ -1,19 +1,18 @@
 -- Reading an application, a step at a time.
-use Rattle.std.proofs.Common.{◌≡◌, ℕ, List, [], ◌∷◌, Bool, true, false, if◌then◌else◌, refl, ap, sym, ◌∙◌, Option, Some, None, option_map, is_some, cond, String, Global, string_bytes, nat_cmp, is_eq}
+use Rattle.std.proofs.Common.{◌≡◌, ℕ, List, [], ◌∷◌, Bool, true, false, if◌then◌else◌, refl, ap, ◌∙◌, Option, Some, None, option_map, is_some, cond, String, Global, string_bytes, nat_cmp, is_eq}
 use Rattle.std.proofs.lemmas.Str.{IsUtf8-from_is_utf8, is_utf8-from_IsUtf8}
 use Rattle.std.proofs.lemmas.Map.Text.{is_eq-slice_cmp}
 use Rattle.std.specs.Cmp.Lexicographic.{slice_cmp}
 use Rattle.std.specs.Map.{remove_entry}
 use Rattle.std.specs.BTreeMap.{is_at}
-use Rattle.std.specs.Prelude.{Result, Err}
+use Rattle.std.specs.Prelude.{Err}
 use Rattle.std.specs.Str.{IsUtf8, is_utf8, bytes_eq}
-use Rattle.serde_json.specs.Data.{Data, Members, member}
+use Rattle.serde_json.specs.Data.{Data, member}
 use Rattle.serde_json.specs.Read.{read}
 use Rattle.serde_json.specs.Find.{as_object}
 use Rattle.serde_json.specs.View.{view, members_view}
 use Rattle.serde_json.specs.declared.value.Value.{Value}
-use Rattle.ng_page.specs.App.{Facts, facts_of, facts_of_json, facts_of_object, fault, without}
-use Rattle.ng_page.specs.declared.fault.AppFault.{AppFault}
+use Rattle.ng_page.specs.App.{facts_of, facts_of_json, facts_of_object, fault, without}
 use Rattle.ng_page.specs.declared.fault.AppKind.TheVariants.{Json}
 use Rattle.ng_page.specs.declared.fault.Member.TheVariants.{File}
 

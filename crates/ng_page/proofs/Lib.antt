@@ -1,7 +1,7 @@
 pub mod PartLists
 pub mod Draws
-pub mod Turns
-pub mod Rounds
+pub mod Compiling
+pub mod Linking
 pub mod Json
 pub mod Builds
 pub mod CoreNames

@@ -1,6 +1,6 @@
 -- A text without `{{` is one plain word.
 use Rattle.std.proofs.Common.{◌≡◌, ℕ, Bool, true, false, List, [], ◌∷◌, ◌++◌, ◌==◌, ◌&&◌, refl, ap, sym, ◌∙◌, append_assoc, append-nil, arith}
-use Rattle.std.specs.Prelude.{Option, Some, option_map, if◌then◌else◌}
+use Rattle.std.specs.Prelude.{Some, if◌then◌else◌}
 use Rattle.std.proofs.lemmas.Bool.Decides.{nat_tests}
 use Rattle.ng_markup.specs.Holes.{Part, plain, is_pair, parts_from, parts_of}
 use Rattle.ng_page.specs.Texts.{has_mark_from, has_mark}

@@ -1,5 +1,5 @@
 -- The lists that parts hold.
-use Rattle.std.proofs.Common.{◌≡◌, ℕ, List, [], ◌∷◌, ◌++◌, map, refl, ap, length}
+use Rattle.std.proofs.Common.{◌≡◌, List, [], ◌∷◌, ◌++◌, map, refl, ap}
 use Rattle.std.proofs.lemmas.List.{map-append}
 use Rattle.ng_pages.specs.Parts.{Part, Parts, part_then, parts_from, with_part}
 use Rattle.ng_page.specs.Seen.{part_step, parts_step, part_of, parts_of}

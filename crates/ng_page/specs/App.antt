@@ -1,5 +1,5 @@
 -- What an application file is: its data in a store, or the first refusal.
-use Rattle.std.specs.Prelude.{ℕ, Bool, true, false, ◌==◌, ◌&&◌, List, [], ◌∷◌, codes, Option, None, Some, is_some, option_map, option_and_then, Result, Ok, Err, if◌then◌else◌}
+use Rattle.std.specs.Prelude.{ℕ, Bool, true, false, ◌==◌, ◌&&◌, List, [], codes, Option, None, Some, is_some, option_and_then, Result, Ok, Err, if◌then◌else◌}
 use Rattle.std.specs.Str.{bytes_eq, is_utf8}
 use Rattle.serde_json.specs.Data.{Data, object, Members, no_members, member}
 use Rattle.serde_json.specs.Read.{read}
@@ -15,7 +15,7 @@ use Rattle.ng_page.specs.declared.fault.AppKind.{AppKind}
 use Rattle.ng_page.specs.declared.fault.AppKind.TheVariants as kind
 use Rattle.ng_page.specs.declared.fault.AppFault.{AppFault}
 
--- the data of an application: the objects, and the value that names the root's
+-- the data of an application: the place of the root's object, and the objects
 abbrev pub Facts : Type 0
 Facts = Value × List Object
 

@@ -9,4 +9,5 @@ pub mod Cloak
 pub mod Compiles
 pub mod TemplateOf
 pub mod State
+pub mod Answered
 pub mod PageOf

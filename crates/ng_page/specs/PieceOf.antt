@@ -1,9 +1,8 @@
 -- What a piece of the code stands for.
-use Rattle.std.specs.Prelude.{ℕ, List}
 use Rattle.ng_pages.specs.Parts as parts
 use Rattle.ng_page.specs.declared.parts.Piece.{Piece}
 use Rattle.ng_page.specs.declared.parts.Piece.TheVariants.{Word, Hole}
 
 abbrev pub piece_of : Piece → parts.Piece
 piece_of (Word w) = parts.word w
-piece_of (Hole h) = parts.hole h.path h.kept
+piece_of (Hole n) = parts.hole n

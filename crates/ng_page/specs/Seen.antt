@@ -1,5 +1,4 @@
 -- What the parts of the code stand for.
-use Rattle.std.specs.Prelude.{ℕ, List}
 use Rattle.ng_pages.specs.Parts.{Part, Parts, text_part, comment_part, element_part, parts_from}
 use Rattle.ng_page.specs.declared.parts.Part as code_part
 use Rattle.ng_page.specs.declared.parts.Parts as code_parts

@@ -1,6 +1,7 @@
 //! Why an application or a template is refused.
 ghost use Rattle.std.specs.Prelude.{◌≡◌, true};
-ghost use Rattle.ng_page.specs.Free.{is_app_want, is_tpl_want};
+ghost use Rattle.ng_page.specs.Free.{is_app_want, is_tpl_want, is_refused_tpl};
+ghost use Rattle.ng_page.specs.declared.fault.TplKind.TheVariants.{Memory as OfMemory};
 
 use ng_base::fault::Memory;
 use std::alloc::{AllocError, AllocFailed};
@@ -112,6 +113,22 @@ pub enum TplKind {
 pub struct TplFault {
     pub place: u64,
     pub kind: TplKind,
+}
+
+impl From<AllocError> for TplKind {
+    ghost from_gives = { λ _ e. is_refused_tpl e ≡ true };
+
+    fn from(_: AllocError) -> Self {
+        TplKind::Memory(Memory::Refused)
+    }
+}
+
+impl From<Memory> for TplKind {
+    ghost from_gives = { λ m e. e ≡ OfMemory m };
+
+    fn from(memory: Memory) -> Self {
+        TplKind::Memory(memory)
+    }
 }
 
 impl From<AllocError> for TplFault {

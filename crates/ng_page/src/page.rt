@@ -1,41 +1,39 @@
 //! The page: linked, digested and printed.
-ghost use Rattle.std.specs.Prelude.{◌≡◌, ◌++◌, IfOk, OnOk, None, Some, Ok, encode_utf8_all, length, ◌<◌, min, ◌^◌, ◌-◌, [], IfErr, nat_lt};
+ghost use Rattle.std.specs.Prelude.{◌≡◌, ◌<◌, ◌++◌, ◌+◌, ◌^◌, ◌-◌, [], length, map, min, nat_lt, IfOk, OnOk, IfErr, None, Some, Ok, encode_utf8_all};
 ghost use Rattle.ng_base.specs.declared.fault.Memory.TheVariants.{Refused};
-ghost use Rattle.ng_base.specs.declared.value.Value.TheVariants.{Obj};
 ghost use Rattle.ng_markup.specs.Forest.{print};
-ghost use Rattle.ng_pages.specs.Drawing.{shown, rendering};
-ghost use Rattle.ng_pages.specs.Digest.{settled, is_dirty, piece_watchers, pieces_watchers, part_watchers, watchers};
 ghost use Rattle.ng_pages.specs.Nodes.{part_nodes as part_nodes_of, nodes, node_limit, link_fault, linked};
+ghost use Rattle.ng_sites.specs.PlaceOf.{state_of as engine_state};
+ghost use Rattle.ng_sites.specs.SiteOf.{site_of};
+ghost use Rattle.ng_sites.specs.Settled.{IsSettled, HasSameData};
+ghost use Rattle.ng_page.specs.Answered.{Answered, Opened, WhenOk};
 ghost use Rattle.ng_page.specs.Facts.{facts};
 ghost use Rattle.ng_page.specs.PageOf.{state_of, document_of};
-ghost use Rattle.ng_page.specs.PieceOf.{piece_of};
 ghost use Rattle.ng_page.specs.Seen.{part_of, parts_of};
-ghost use Rattle.ng_page.specs.State.{started, opening_report, counted, fault_count};
+ghost use Rattle.ng_page.specs.State.{shown, rendering, Settles, linked_sites, fault_count};
 ghost use Rattle.ng_page.specs.TemplateOf.{template_of};
+ghost use Rattle.ng_sites.specs.Sites.{unset_again};
 
 use crate::app::App;
 use crate::draw::drawn;
-use crate::parts::{Part, Parts, Piece, Pieces};
-use crate::round::test_parts;
+use crate::parts::{Part, Parts};
 use crate::tpl::Tpl;
 use ng_base::fault::{Fault, Memory};
 use ng_base::lists::Words;
-use ng_base::name::Oid;
 use ng_digest::log::Report;
 use ng_digest::rounds::DigestFault;
 use ng_html::forest::Forest;
 use ng_html::writing::write;
-use ng_store::store::Store;
-use std::alloc::{AllocError, Global};
+use ng_sites::{Engine, Site};
+use std::alloc::Global;
 
 /// The most nodes of a page.
 const NODE_LIMIT: u64 = 200_000;
 
-/// A page: its data, its parts with what their watchers have kept, and the document that it shows.
+/// A page: its data and watchers, the parts that stand, and the document that it shows.
 #[derive(Drop)]
 pub struct Page {
-    store: Store,
-    root: Oid,
+    engine: Engine,
     parts: Parts,
     document: Forest,
 }
@@ -50,52 +48,7 @@ pub struct Outcome {
     pub probed: Words,
 }
 
-/// One where a piece is a hole, which a watcher stands for.
-fn count_piece(piece: &Piece) -> u64
-    ensures { result ≡ piece_watchers (piece_of piece.now) }
-{
-    match piece {
-        Piece::Word(_) => 0,
-        Piece::Hole(_) => 1,
-    }
-}
-
-/// The number of watchers of a text, up to the largest count.
-fn count_pieces(pieces: &Pieces) -> u64
-    ensures { result ≡ min (pieces_watchers pieces.now) (2 ^ 64 - 1) }
-{
-    let mut count: u64 = 0;
-    for piece in pieces.as_slice() {
-        count = count.saturating_add(count_piece(piece));
-    }
-    count
-}
-
-/// The number of watchers of a part, up to the largest count.
-#[cycle(count)]
-fn count_part(part: &Part) -> u64
-    ensures { result ≡ min (part_watchers (part_of part.now)) (2 ^ 64 - 1) }
-{
-    match part {
-        Part::Text(pieces) => count_pieces(pieces),
-        Part::Comment(_) => 0,
-        Part::Element { parts, .. } => count_parts(parts),
-    }
-}
-
-/// The number of watchers of all parts, up to the largest count.
-#[cycle(count)]
-fn count_parts(parts: &Parts) -> u64
-    ensures { result ≡ counted (parts_of parts.now) }
-{
-    let mut count: u64 = 0;
-    for part in &parts.items {
-        count = count.saturating_add(count_part(part));
-    }
-    count
-}
-
-/// The number of nodes that a part is drawn as, up to the largest count.
+/// The number of nodes of a part, up to the largest count.
 #[cycle(nodes)]
 fn part_nodes(part: &Part) -> u64
     ensures { result ≡ min (part_nodes_of (part_of part.now)) (2 ^ 64 - 1) }
@@ -107,7 +60,7 @@ fn part_nodes(part: &Part) -> u64
     }
 }
 
-/// The number of nodes that all parts are drawn as, up to the largest count.
+/// The number of nodes of all parts, up to the largest count.
 #[cycle(nodes)]
 fn count_nodes(parts: &Parts) -> u64
     ensures { result ≡ min (nodes (parts_of parts.now)) (2 ^ 64 - 1) }
@@ -119,26 +72,28 @@ fn count_nodes(parts: &Parts) -> u64
     count
 }
 
-/// Whether a page of these parts would have too many nodes.
+/// Whether a page would have too many nodes.
 fn is_too_large(parts: &Parts) -> bool
     ensures { result ≡ nat_lt node_limit (nodes (parts_of parts.now)) }
 {
     count_nodes(parts) > NODE_LIMIT
 }
 
-/// Links a template: what stands then, and the fault of one that would have too many nodes.
-fn link(alloc: Global, template: Parts) -> (Parts, Option<Fault>)
-    ensures linked { parts_of result.0 ≡ linked (parts_of template) }
-    ensures fault { result.1 ≡ link_fault (parts_of template) }
+/// Links a template: what stands then, its watchers, and the fault that linking met.
+fn link(alloc: Global, t: Tpl) -> (Parts, Vec<Site>, Option<Fault>)
+    ensures parts { parts_of result.0 ≡ linked (template_of t).parts }
+    ensures sites { map unset_again (map site_of result.1.items) ≡ map unset_again (linked_sites (template_of t)) }
+    ensures fault { result.2 ≡ link_fault (template_of t).parts }
 {
-    if is_too_large(&template) {
-        (Parts::new(alloc), Some(Fault::NodeLimit))
+    let Tpl { parts, holes } = t;
+    if is_too_large(&parts) {
+        (Parts::new(alloc), Vec::new(alloc), Some(Fault::NodeLimit))
     } else {
-        (template, None)
+        (parts, holes, None)
     }
 }
 
-/// The number of faults of linking, of which this is the first.
+/// How many faults these are.
 fn count_faults(first: &Option<Fault>) -> u32
     ensures { result ≡ fault_count first.now }
 {
@@ -148,64 +103,45 @@ fn count_faults(first: &Option<Fault>) -> u32
     }
 }
 
-/// The report of the digest that opens a page with so many watchers.
-fn report(count: u64) -> Report
-    ensures { result ≡ opening_report count }
+/// A digest whose answer isn't want of memory.
+fn digested(engine: &mut Engine) -> Result<Result<Report, DigestFault>, Memory>
+    ensures plain { IfOk result (λ d. Answered (engine_state engine.old) d (engine_state engine.new)) }
+    ensures settled { IfOk result (λ d. IfOk d (λ _. IsSettled (engine_state engine.new))) }
+    ensures unchanged { OnOk result (HasSameData (engine_state engine.old) (engine_state engine.new)) }
 {
-    if count == 0 {
-        return Report {
-            rounds: 1,
-            fires: 0,
-            tests: 0,
-            tests_after_last_fire: 0,
-        };
+    match engine.digest() {
+        Ok(report) => Ok(Ok(report)),
+        Err(DigestFault::Memory(memory)) => Err(memory),
+        Err(fault) => Ok(Err(fault)),
     }
-    Report {
-        rounds: 2,
-        fires: count.min(u32::MAX as u64) as u32,
-        tests: count.saturating_add(count),
-        tests_after_last_fire: count,
-    }
-}
-
-/// Digests the parts: rounds go on while a watcher is dirty.
-fn settle(alloc: Global, store: &Store, root: Oid, parts: &mut Parts) -> Result<(), AllocError>
-    requires { root.0 < length store.now }
-    ensures { OnOk result (parts_of parts.new ≡ settled store.now (Obj root) (parts_of parts.old)) }
-{
-    if test_parts(alloc, store, root, parts)? {
-        let _clean = test_parts(alloc, store, root, parts)?;
-    }
-    Ok(())
 }
 
 impl Page {
     /// Opens a page: links the template over the data, and digests (guide: Scopes, "Integration with the browser
-    /// event loop"). The outcome has the report of the digest. A page that would have more than 200,000 nodes is
-    /// not linked: that is the one fault, and the page is empty.
+    /// event loop"). The outcome has the fault of linking, `NodeLimit` alone, and the digest's answer.
     pub fn start(alloc: Global, t: Tpl, app: App) -> Result<(Page, Outcome), Memory>
-        ensures state { IfOk result (λ r. state_of r.0 ≡ started (facts app) (template_of t)) }
-        // The document is what the watchers kept, and it is the rendering of the template over the data.
-        ensures shown { IfOk result (λ r. document_of r.0 ≡ shown (state_of r.0).parts) }
-        ensures rendering { IfOk result (λ r. document_of r.0 ≡ rendering (facts app).1 (facts app).0 (linked (template_of t))) }
-        ensures faults { IfOk result (λ r. (r.1.faults ≡ fault_count r.1.first) × (r.1.first ≡ link_fault (template_of t)) × (r.1.probed ≡ [])) }
-        ensures digest { IfOk result (λ r. r.1.digest ≡ Some (Ok (opening_report (counted (linked (template_of t)))))) }
-        ensures refused { IfErr result (λ e. e ≡ Refused) }
+        // The page is where the plain digest over the linked template ends, with its answer.
+        ensures state { IfOk result (λ r. Opened (facts app) (template_of t) r.1.digest (state_of r.0)) }
+        // The document is what the watchers kept.
+        ensures shown { IfOk result (λ r. document_of r.0 ≡ shown (state_of r.0)) }
+        // After a digest that answered Ok no watcher is dirty, and the document is the rendering.
+        ensures settled { IfOk result (λ r. WhenOk r.1.digest (Settles (state_of r.0))) }
+        ensures rendering { IfOk result (λ r. WhenOk r.1.digest (rendering (facts app) (template_of t) ≡ Ok (document_of r.0))) }
+        ensures faults { IfOk result (λ r. (r.1.faults ≡ fault_count r.1.first) × (r.1.first ≡ link_fault (template_of t).parts) × (r.1.probed ≡ [])) }
     {
         let App { store, root } = app;
-        let (mut parts, first) = link(alloc, t.parts);
-        let count = count_parts(&parts);
-        settle(alloc, &store, root, &mut parts)?;
-        let document = drawn(alloc, &parts)?;
+        let (parts, sites, first) = link(alloc, t);
+        let mut engine = Engine::new(alloc, store, root, sites);
+        let digest = digested(&mut engine)?;
+        let document = drawn(alloc, &engine, &parts)?;
         let outcome = Outcome {
             faults: count_faults(&first),
             first,
-            digest: Some(Ok(report(count))),
+            digest: Some(digest),
             probed: Words::new(alloc),
         };
         let page = Page {
-            store,
-            root,
+            engine,
             parts,
             document,
         };

@@ -4,24 +4,16 @@ ghost use Rattle.ng_pages.specs.Parts.{text_part, comment_part, element_part, no
 ghost use Rattle.ng_page.specs.PieceOf.{piece_of};
 ghost use Rattle.ng_page.specs.Seen.{part_of, parts_of};
 
-use ng_base::lists::Names;
 use ng_base::txt::Txt;
 use ng_html::attrs::Attrs;
 use std::alloc::{AllocError, Global};
 use std::marker::Model;
 
-/// A hole: the names of its path, and the text that its watcher has kept.
-#[derive(Drop)]
-pub struct Hole {
-    pub path: Names,
-    pub kept: Option<Txt>,
-}
-
-/// A plain word of a text, or a hole.
+/// A plain word of a text, or a hole by its number.
 #[derive(Drop)]
 pub enum Piece {
     Word(Txt),
-    Hole(Hole),
+    Hole(usize),
 }
 
 /// The pieces of a text, in order.

@@ -1,11 +1,11 @@
--- The parts of a template: texts cut at their holes, comments and elements.
-use Rattle.std.specs.Prelude.{ℕ, List, [], ◌∷◌, Option}
+-- The parts of a template: texts cut at their holes, comments and elements. Each hole has a number, in document order.
+use Rattle.std.specs.Prelude.{ℕ, List, [], ◌∷◌}
 use Rattle.ng_markup.specs.Forest.{Attributes}
 
--- a plain word of a text, or a hole: the names of its path, and the text that its watcher has kept
+-- a plain word of a text, or a hole under its number
 pub data Piece : Type 0 where
   word : List ℕ → Piece
-  hole : List (List ℕ) → Option (List ℕ) → Piece
+  hole : ℕ → Piece
 
 mutual
   pub data Part : Type 0 where

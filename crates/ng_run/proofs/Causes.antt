@@ -7,7 +7,7 @@ use Rattle.std.specs.Io.KnownBytes.{Appends}
 use Rattle.ng_base.specs.Outside.{longest}
 use Rattle.ng_markup.specs.Forest.{Forest, no_nodes}
 use Rattle.ng_html.specs.Reading.{read_bytes}
-use Rattle.ng_html.specs.declared.fault.HtmlFault.{HtmlFault}
+use Rattle.ng_tags.specs.declared.fault.HtmlFault.{HtmlFault}
 use Rattle.ng_pages.specs.Parts.{Parts, no_parts}
 use Rattle.ng_pages.specs.Digest.{settled}
 use Rattle.ng_pages.specs.Drawing.{shown}

@@ -4,7 +4,7 @@ use Rattle.std.specs.Io.KnownBytes.{Appends}
 use Rattle.ng_base.specs.Outside.{TookAll, longest}
 use Rattle.ng_markup.specs.Forest.{Forest}
 use Rattle.ng_html.specs.Reading.{read_bytes}
-use Rattle.ng_html.specs.declared.fault.HtmlFault.{HtmlFault}
+use Rattle.ng_tags.specs.declared.fault.HtmlFault.{HtmlFault}
 use Rattle.ng_pages.specs.Parts.{Parts}
 use Rattle.ng_pages.specs.Digest.{is_dirty}
 use Rattle.ng_pages.specs.Nodes.{nodes, node_limit}

@@ -3,9 +3,9 @@ use Rattle.std.specs.Prelude.{ℕ, ◌≡◌, ◌==◌, ◌&&◌, ◌<◌, ◌�
 use Rattle.std.specs.Fmt.{decimal}
 use Rattle.ng_markup.specs.Forest.{Forest, print}
 use Rattle.ng_html.specs.Reading.{read_bytes}
-use Rattle.ng_html.specs.declared.fault.HtmlFault.{HtmlFault}
-use Rattle.ng_html.specs.declared.fault.HtmlKind.{HtmlKind}
-use Rattle.ng_html.specs.declared.fault.HtmlKind.TheVariants as html
+use Rattle.ng_tags.specs.declared.fault.HtmlFault.{HtmlFault}
+use Rattle.ng_tags.specs.declared.fault.HtmlKind.{HtmlKind}
+use Rattle.ng_tags.specs.declared.fault.HtmlKind.TheVariants as html
 use Rattle.ng_pages.specs.Parts.{Parts}
 use Rattle.ng_pages.specs.Drawing.{rendering}
 use Rattle.ng_pages.specs.Nodes.{link_fault, linked}
@@ -42,7 +42,6 @@ html_name html.BadAttr = codes "BadAttr"
 html_name html.BadReference = codes "BadReference"
 html_name html.TooDeep = codes "TooDeep"
 html_name html.SelfClosed = codes "SelfClosed"
-html_name html.Later = codes "Later"
 html_name (html.Memory m) = codes "Memory"
 
 abbrev pub tpl_name : TplKind → List ℕ

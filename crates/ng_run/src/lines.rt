@@ -66,7 +66,6 @@ pub(crate) fn html_word(kind: &HtmlKind) -> &'static str
         HtmlKind::BadReference => "BadReference",
         HtmlKind::TooDeep => "TooDeep",
         HtmlKind::SelfClosed => "SelfClosed",
-        HtmlKind::Later => "Later",
         HtmlKind::Memory(_) => "Memory",
     }
 }

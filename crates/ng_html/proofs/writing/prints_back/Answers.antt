@@ -1,4 +1,4 @@
-use Rattle.ng_html.proofs.Printed.{prints_back}
+use Rattle.ng_html.proofs.Back.{prints_back}
 use Rattle.ng_html.proofs.writing.prints_back.Goals as goal
 
 pub returns : goal.returns

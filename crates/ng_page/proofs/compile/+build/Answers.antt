@@ -1,31 +1,21 @@
-use Rattle.std.proofs.Common.{arith, ◌≡◌, ap, sym, ◌∙◌, map}
-use Rattle.std.proofs.lemmas.List.{take_all, drop_all}
-use Rattle.ng_base.specs.declared.value.Value.TheVariants.{Obj}
+use Rattle.std.proofs.Common.{◌+◌, arith, ap, sym, ◌∙◌, map, drop}
 use Rattle.ng_markup.specs.Forest.{forest_from}
 use Rattle.ng_html.specs.Seen.{node_of}
 use Rattle.ng_html.proofs.Forests.{forest_of-items}
-use Rattle.ng_pages.specs.Parts.{with_part}
-use Rattle.ng_page.specs.Compiles.{part_from, parts_from_forest, checked}
-use Rattle.ng_page.proofs.Builds.{built-turn}
-use Rattle.ng_page.proofs.Draws.{compiled_list, compiled-more, checked-turn}
+use Rattle.ng_page.specs.Compiles.{compiled_forest}
+use Rattle.ng_page.specs.Seen.{part_of, parts_of}
+use Rattle.ng_page.specs.TemplateOf.{made_of}
+use Rattle.ng_page.proofs.Compiling.{behind, compiled_list, compiled-turn, compiled-end}
 use Rattle.ng_page.proofs.compile.+build.Goals as goal
 
 pub parts_at-loop-node-preserved : goal.parts_at-loop-node-preserved
-parts_at-loop-node-preserved t c = record {
-  built = built-turn node_of compiled_list with_part part_from compiled-more
-      c.deref-node-items.result.now c.loop-node.node-index c.node-item.result _ _ _ (omega arith) c.node-item.is c.loop-node.invariant.built c.in_ok-part.ensures.built c.in_ok-push.ensures;
-  led = checked-turn c.args.store.now (Obj c.args.root) c.deref-node-items.result.now c.loop-node.node-index c.node-item.result _ _ (omega arith) c.node-item.is c.in_ok-part.ensures.checked
-      ∙ c.loop-node.invariant.led;
-}
+parts_at-loop-node-preserved t c =
+    ap (λ ps. behind ps (compiled_list (map node_of (drop (c.loop-node.node-index + 1) c.deref-node-items.result.now)) (made_of c.in_ok-part.behind))) c.in_ok-push.ensures
+    ∙ (compiled-turn c.deref-node-items.result.now c.loop-node.node-index c.node-item.result (parts_of c.loop-node.parts) (made_of c.loop-node.now) (made_of c.in_ok-part.behind) (part_of c.in_ok-part.part) (omega arith) c.node-item.is c.in_ok-part.ensures
+    ∙ c.loop-node.invariant)
 
-pub parts_at-returns-clause-checked : goal.parts_at-returns-clause-checked
-parts_at-returns-clause-checked t c =
-    ap (λ f. checked c.args.store.now (Obj c.args.root) f c.args.places.now) (forest_of-items c.args.forest.now ∙ ap (λ xs. forest_from (map node_of xs)) (sym c.deref-node-items.ensures.value))
-    ∙ (sym c.loop-node.invariant.led
-    ∙ ap (λ xs. checked c.args.store.now (Obj c.args.root) (forest_from (map node_of xs)) c.loop-node.rest.now) (drop_all c.loop-node.node-index c.deref-node-items.result.now (omega arith)))
-
-pub parts_at-returns-clause-built : goal.parts_at-returns-clause-built
-parts_at-returns-clause-built t c =
-    c.loop-node.invariant.built
-    ∙ (ap (λ ns. compiled_list (map node_of ns)) (take_all c.loop-node.node-index c.deref-node-items.result.now (omega arith) ∙ c.deref-node-items.ensures.value)
-    ∙ ap parts_from_forest (sym (forest_of-items c.args.forest.now)))
+pub parts_at-returns : goal.parts_at-returns
+parts_at-returns t c =
+    ap (λ f. compiled_forest f (made_of c.args.made)) (forest_of-items c.args.forest.now ∙ ap (λ xs. forest_from (map node_of xs)) (sym c.deref-node-items.ensures.value))
+    ∙ (sym c.loop-node.invariant
+    ∙ compiled-end c.deref-node-items.result.now c.loop-node.node-index (parts_of c.loop-node.parts) (made_of c.loop-node.now) c.loop-node-test.false)

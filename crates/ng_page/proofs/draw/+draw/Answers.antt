@@ -1,7 +1,9 @@
-use Rattle.std.proofs.Common.{arith, ◌≡◌, ap, sym, ◌∙◌, map}
+use Rattle.std.proofs.Common.{arith, ap, sym, ◌∙◌, map}
 use Rattle.std.proofs.lemmas.List.{take_all}
 use Rattle.ng_markup.specs.Forest.{with_node}
-use Rattle.ng_pages.specs.Drawing.{kept_look, draw, draw_part}
+use Rattle.ng_pages.specs.Drawing.{draw, draw_part}
+use Rattle.ng_sites.specs.PlaceOf.{state_of}
+use Rattle.ng_page.specs.State.{kept_texts}
 use Rattle.ng_page.specs.Seen.{part_of}
 use Rattle.ng_page.proofs.Builds.{built-turn}
 use Rattle.ng_page.proofs.Draws.{drawn_list, drawn-more}
@@ -10,11 +12,11 @@ use Rattle.ng_page.proofs.draw.+draw.Goals as goal
 
 pub drawn-loop-part-preserved : goal.drawn-loop-part-preserved
 drawn-loop-part-preserved t c =
-    built-turn part_of (drawn_list kept_look) with_node (draw_part kept_look) (drawn-more kept_look)
+    built-turn part_of (drawn_list (kept_texts (state_of c.args.engine.now))) with_node (draw_part (kept_texts (state_of c.args.engine.now))) (drawn-more (kept_texts (state_of c.args.engine.now)))
     c.deref-part-items.result.now c.loop-part.part-index c.part-item.result _ _ _ (omega arith) c.part-item.is c.loop-part.invariant c.in_ok-drawn_part.ensures c.in_ok-push.ensures
 
 pub drawn-returns : goal.drawn-returns
 drawn-returns t c =
     c.loop-part.invariant
-    ∙ (ap (λ ps. drawn_list kept_look (map part_of ps)) (take_all c.loop-part.part-index c.deref-part-items.result.now (omega arith) ∙ c.deref-part-items.ensures.value)
-    ∙ ap (draw kept_look) (sym (parts_of-items c.args.parts.now)))
+    ∙ (ap (λ ps. drawn_list (kept_texts (state_of c.args.engine.now)) (map part_of ps)) (take_all c.loop-part.part-index c.deref-part-items.result.now (omega arith) ∙ c.deref-part-items.ensures.value)
+    ∙ ap (draw (kept_texts (state_of c.args.engine.now))) (sym (parts_of-items c.args.parts.now)))

@@ -1,4 +1,4 @@
-use Rattle.std.proofs.Common.{rules, ◌≡◌, ap, sym, ◌∙◌, is_some}
+use Rattle.std.proofs.Common.{rules, ap, sym, ◌∙◌, is_some}
 use Rattle.serde_json.specs.View.{view}
 use Rattle.serde_json.proofs.Views.{view-lookup}
 use Rattle.ng_page.proofs.Json.{is_some-map}

@@ -1,4 +1,4 @@
-use Rattle.std.proofs.Common.{◌≡◌, IsTrue, Err}
+use Rattle.std.proofs.Common.{IsTrue}
 use Rattle.serde_json.specs.View.{view}
 use Rattle.ng_page.proofs.Json.{facts_of-read, facts_of-refused}
 use Rattle.ng_page.proofs.read_app.parsed.Goals as goal

@@ -1,4 +1,4 @@
-use Rattle.std.proofs.Common.{rules, ◌≡◌}
+use Rattle.std.proofs.Common.{rules}
 use Rattle.serde_json.proofs.Views.{view-Object}
 use Rattle.ng_page.proofs.read_app.read_data.Goals as goal
 

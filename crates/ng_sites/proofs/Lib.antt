@@ -1,0 +1,5 @@
+pub mod Keeps
+pub mod Ranges
+pub mod SettledLaws
+pub mod SiteSteps
+pub mod Turns

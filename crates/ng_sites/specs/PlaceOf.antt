@@ -1,0 +1,19 @@
+-- The watchers as a world.
+use Rattle.std.specs.Prelude.{ℕ, map}
+use Rattle.ng_digest.specs.Place.{Place, Moves}
+use Rattle.ng_sites.specs.SiteOf.{site_of}
+use Rattle.ng_sites.specs.Sites.{State, page_machine}
+use Rattle.ng_sites.specs.declared.engine.Engine.{Engine}
+
+abbrev pub state_of : Engine → State
+state_of e = record { objects = e.store; root = e.root.0; sites = map site_of e.sites.items; handed = e.handed }
+
+abbrev pub place_of : Engine → Place State ℕ
+place_of e = record { state = state_of e; cursor = e.cursor; remembered = e.remembered; log = e.log; stage = e.stage }
+
+-- the same place with another state
+abbrev pub with_state : Place State ℕ → State → Place State ℕ
+with_state p s = record p { state = s }
+
+abbrev pub engine_moves : Moves Engine
+engine_moves = record { State = State; Key = ℕ; machine = page_machine; at = place_of }

@@ -1,0 +1,10 @@
+pub mod Free
+pub mod Letters
+pub mod Attrs
+pub mod Skips
+pub mod References
+pub mod Texts
+pub mod Attributes
+pub mod Tags
+pub mod Lexing
+pub mod Spelling

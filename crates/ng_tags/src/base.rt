@@ -1,0 +1,8 @@
+//! The bases of numbers in references.
+
+/// Ten or sixteen.
+#[derive(Clone, Copy, Debug, PartialEq, Eq)]
+pub enum Base {
+    Decimal,
+    Hexadecimal,
+}
