@@ -1,2 +1,4 @@
 pub mod Words
+pub mod One
 pub mod Causes
+pub mod Opening

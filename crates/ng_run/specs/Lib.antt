@@ -1,3 +1,4 @@
 pub mod Session
 pub mod Run
 pub mod ReplyOf
+pub mod Laws

@@ -6,12 +6,12 @@ use Rattle.ng_html.specs.Reading.{read_bytes}
 use Rattle.ng_tags.specs.declared.fault.HtmlFault.{HtmlFault}
 use Rattle.ng_tags.specs.declared.fault.HtmlKind.{HtmlKind}
 use Rattle.ng_tags.specs.declared.fault.HtmlKind.TheVariants as html
-use Rattle.ng_pages.specs.Parts.{Parts}
-use Rattle.ng_pages.specs.Drawing.{rendering}
-use Rattle.ng_pages.specs.Nodes.{link_fault, linked}
+use Rattle.ng_digest.specs.declared.rounds.DigestFault.{DigestFault}
+use Rattle.ng_digest.specs.declared.rounds.DigestFault.TheVariants as digest
+use Rattle.ng_pages.specs.Nodes.{link_fault}
 use Rattle.ng_page.specs.App.{Facts, facts_of}
-use Rattle.ng_page.specs.Compiles.{compiled}
-use Rattle.ng_page.specs.State.{State, started, fault_count}
+use Rattle.ng_page.specs.Compiles.{Template, compiled}
+use Rattle.ng_page.specs.State.{State, Opens, rendering, fault_count}
 use Rattle.ng_page.specs.declared.fault.Member.{Member}
 use Rattle.ng_page.specs.declared.fault.Member.TheVariants as the
 use Rattle.ng_page.specs.declared.fault.AppKind.{AppKind}
@@ -106,43 +106,66 @@ fault_name fault.OutOfProfile = codes "OutOfProfile"
 fault_name fault.ImpureCall = codes "ImpureCall"
 fault_name (fault.Memory m) = codes "Memory"
 
--- the line of a program that handed over so many faults, of which this is the first
-abbrev pub fault_line : ℕ → Fault → List ℕ
-fault_line count f = codes "action: fault " ++ decimal count ++ codes " " ++ fault_name f ++ codes "\n"
+-- so many faults, of which this is the first
+abbrev pub faults : ℕ → Fault → List ℕ
+faults count f = decimal count ++ codes " " ++ fault_name f ++ codes "\n"
 
+-- the line of a program that handed faults over
 abbrev pub action_line : ℕ → Option Fault → List ℕ
 action_line count None = []
-action_line count (Some f) = fault_line count f
+action_line count (Some f) = codes "action: fault " ++ faults count f
 
--- a step with a fault
-abbrev pub step_status : Option Fault → ℕ
-step_status None = 0
-step_status (Some f) = 1
+-- the line of a digest that did not answer Ok
+abbrev pub digest_line : Result (ℕ × ℕ) DigestFault → List ℕ
+digest_line (Ok counts) = []
+digest_line (Err digest.Infdig) = codes "digest: infdig\n"
+digest_line (Err digest.FireLimit) = codes "digest: firelimit\n"
+digest_line (Err digest.AsyncLimit) = codes "digest: asynclimit\n"
+digest_line (Err (digest.Faulted first count)) = codes "digest: fault " ++ faults count first
+digest_line (Err (digest.Memory m)) = []
 
--- the step that opens the page: its header, the fault of linking, and the rendering of what was linked on one line
-abbrev pub opened : Facts → Parts → State → Reply
-opened facts template state = record {
-    status = step_status (link_fault template);
-    bytes = codes "# 0 open\n" ++ action_line (fault_count (link_fault template)) (link_fault template)
-        ++ encode_utf8_all (print (rendering facts.1 facts.0 (linked template))) ++ codes "\n";
+-- the document on one line, where the digest answered Ok
+abbrev pub document_line : Result (ℕ × ℕ) DigestFault → Result Forest Fault → List ℕ
+document_line (Ok counts) (Ok f) = encode_utf8_all (print f) ++ codes "\n"
+document_line (Ok counts) (Err e) = []
+document_line (Err e) f = []
+
+-- a step has gone well where its program handed no fault over and its digest answered Ok
+abbrev pub step_status : Option Fault → Result (ℕ × ℕ) DigestFault → ℕ
+step_status None (Ok counts) = 0
+step_status None (Err e) = 1
+step_status (Some f) answer = 1
+
+-- the step that opens the page, whose digest has this answer: its header, the fault of linking, the digest, and the
+-- rendering of what was linked
+abbrev pub opened : Facts → Template → Result (ℕ × ℕ) DigestFault → State → Reply
+opened facts template answer state = record {
+    status = step_status (link_fault template.parts) answer;
+    bytes = codes "# 0 open\n" ++ action_line (fault_count (link_fault template.parts)) (link_fault template.parts)
+        ++ digest_line answer ++ document_line answer (rendering facts template);
     page = Some state;
   }
 
-abbrev pub compiled_then : Facts → Result Parts TplFault → Reply
-compiled_then facts (Ok template) = opened facts template (started facts template)
-compiled_then facts (Err f) = template_line f.place (tpl_name f.kind)
+-- the plain digest that opens the page ends in the state, with the answer
+abbrev pub OpensPage : Facts → Template → Reply → Type 0
+OpensPage facts template r = (answer : Result (ℕ × ℕ) DigestFault) × (state : State) × Opens facts template answer state × (r ≡ opened facts template answer state)
 
-abbrev pub facts_then : Forest × List ℕ → Result Facts AppFault → Reply
-facts_then source (Ok facts) = compiled_then facts (compiled facts source)
-facts_then source (Err f) = application_line f
+abbrev pub CompiledThen : Facts → Result Template TplFault → Reply → Type 0
+CompiledThen facts (Ok template) r = OpensPage facts template r
+CompiledThen facts (Err f) r = r ≡ template_line f.place (tpl_name f.kind)
 
-abbrev pub source_then : List ℕ → Result (Forest × List ℕ) HtmlFault → Reply
-source_then application (Ok source) = facts_then source (facts_of application)
-source_then application (Err f) = template_line f.place (html_name f.kind)
+abbrev pub FactsThen : Forest × List ℕ → Result Facts AppFault → Reply → Type 0
+FactsThen source (Ok facts) r = CompiledThen facts (compiled source) r
+FactsThen source (Err f) r = r ≡ application_line f
 
--- the template is read, then the application, then the template is compiled; the first refusal ends the run
-abbrev pub session : List ℕ → List ℕ → Reply
-session template application = source_then application (read_bytes template)
+abbrev pub SourceThen : List ℕ → Result (Forest × List ℕ) HtmlFault → Reply → Type 0
+SourceThen application (Ok source) r = FactsThen source (facts_of application) r
+SourceThen application (Err f) r = r ≡ template_line f.place (html_name f.kind)
+
+-- The session: the template is read, then the application, then the template is compiled, and the first refusal ends the
+-- run; else the page opens
+abbrev pub Session : List ℕ → List ℕ → Reply → Type 0
+Session template application r = SourceThen application (read_bytes template) r
 
 -- what a fetch brought
 pub data Got : Type 0 where
@@ -151,15 +174,15 @@ pub data Got : Type 0 where
   file : List ℕ → Got
 
 -- the answer, by what the two fetches brought
-abbrev pub answer_to_application : List ℕ → Got → Reply
-answer_to_application t failed = line 6 (codes "read: application")
-answer_to_application t (too_long n) = line 9 (codes "long: application " ++ decimal n)
-answer_to_application t (file a) = session t a
+abbrev pub AnswersApplication : List ℕ → Got → Reply → Type 0
+AnswersApplication t failed r = r ≡ line 6 (codes "read: application")
+AnswersApplication t (too_long n) r = r ≡ line 9 (codes "long: application " ++ decimal n)
+AnswersApplication t (file a) r = Session t a r
 
-abbrev pub answer_to : Got → Got → Reply
-answer_to failed a = line 6 (codes "read: template")
-answer_to (too_long n) a = line 9 (codes "long: template " ++ decimal n)
-answer_to (file t) a = answer_to_application t a
+abbrev pub AnswersFiles : Got → Got → Reply → Type 0
+AnswersFiles failed a r = r ≡ line 6 (codes "read: template")
+AnswersFiles (too_long n) a r = r ≡ line 9 (codes "long: template " ++ decimal n)
+AnswersFiles (file t) a r = AnswersApplication t a r
 
 abbrev pub usage : Reply
 usage = line 2 (codes "usage: ngrun [--trace] [--patches] [--static] TEMPLATE APP [SCRIPT] or ngrun --load N")

@@ -12,6 +12,7 @@
 #![tactic(auto)]
 
 mod answer;
+pub mod laws;
 mod lines;
 mod reply;
 pub mod run;

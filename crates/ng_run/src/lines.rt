@@ -1,11 +1,13 @@
 //! The lines of refusals.
-ghost use Rattle.std.specs.Prelude.{◌≡◌, ◌++◌, codes, IfOk, OnOk};
+ghost use Rattle.std.specs.Prelude.{◌≡◌, ◌++◌, codes, Err, IfOk, OnOk};
 ghost use Rattle.std.specs.Fmt.{decimal};
-ghost use Rattle.ng_run.specs.ReplyOf.{reply_of, IsDrawn};
-ghost use Rattle.ng_run.specs.Session.{line as line_of, fault_name, fault_line as fault_line_of, action_line, html_name, tpl_name, member_name, app_name, template_line as template_line_of, application_line as application_line_of};
+ghost use Rattle.ng_run.specs.ReplyOf.{reply_of, digest_lines, IsDrawn};
+ghost use Rattle.ng_run.specs.Session.{line as line_of, fault_name, faults, action_line, digest_line, html_name, tpl_name, member_name, app_name, template_line as template_line_of, application_line as application_line_of};
 
 use crate::reply::Reply;
 use ng_base::fault::Fault;
+use ng_digest::log::Report;
+use ng_digest::rounds::DigestFault;
 use ng_html::fault::HtmlKind;
 use ng_page::fault::{AppFault, AppKind, Member, TplKind};
 use std::alloc::{AllocError, Global};
@@ -150,36 +152,75 @@ fn fault_word(fault: &Fault) -> &'static str
     }
 }
 
-/// The line of a program that handed over so many faults, of which this is the first.
-fn fault_line(alloc: Global, count: u32, fault: &Fault) -> Result<Vec<u8>, AllocError>
-    ensures { IfOk result (λ v. v.items ≡ fault_line_of count fault.now) }
+/// So many faults, of which this is the first.
+fn fault_words(alloc: Global, count: u32, first: &Fault) -> Result<Vec<u8>, AllocError>
+    ensures { IfOk result (λ v. v.items ≡ faults count first.now) }
 {
     let mut bytes = Vec::new(alloc);
-    bytes.extend_from_slice("action: fault ".as_bytes())?;
     push_number(&mut bytes, u64::from(count))?;
     bytes.extend_from_slice(" ".as_bytes())?;
-    bytes.extend_from_slice(fault_word(fault).as_bytes())?;
+    bytes.extend_from_slice(fault_word(first).as_bytes())?;
     bytes.extend_from_slice("\n".as_bytes())?;
     Ok(bytes)
 }
 
-/// Adds that line, where there is a fault.
-pub(crate) fn push_action(
+/// A word and so many faults.
+fn fault_line(alloc: Global, word: &str, count: u32, first: &Fault) -> Result<Vec<u8>, AllocError>
+    ensures { IfOk result (λ v. v.items ≡ word.now ++ faults count first.now) }
+{
+    let mut bytes = Vec::new(alloc);
+    bytes.extend_from_slice(word.as_bytes())?;
+    let words = fault_words(alloc, count, first)?;
+    bytes.extend_from_slice(words.as_slice())?;
+    Ok(bytes)
+}
+
+/// The line of a program that handed faults over.
+pub(crate) fn action(
     alloc: Global,
-    into: &mut Vec<u8>,
     count: u32,
     first: &Option<Fault>,
-) -> Result<(), AllocError>
-    ensures { OnOk result (into.new.items ≡ into.old.items ++ action_line count first.now) }
+) -> Result<Vec<u8>, AllocError>
+    ensures { IfOk result (λ v. v.items ≡ action_line count first.now) }
 {
     match first {
-        None => {}
-        Some(fault) => {
-            let line = fault_line(alloc, count, fault)?;
-            into.extend_from_slice(line.as_slice())?;
-        }
+        None => Ok(Vec::new(alloc)),
+        Some(fault) => fault_line(alloc, "action: fault ", count, fault),
     }
-    Ok(())
+}
+
+/// The bytes of a text.
+fn bytes_of(alloc: Global, text: &str) -> Result<Vec<u8>, AllocError>
+    ensures { IfOk result (λ v. v.items ≡ text.now) }
+{
+    Vec::from_slice(alloc, text.as_bytes())
+}
+
+/// The line of a digest that did not answer Ok.
+fn failed_digest(alloc: Global, fault: &DigestFault) -> Result<Vec<u8>, AllocError>
+    ensures { IfOk result (λ v. v.items ≡ digest_line (Err fault.now)) }
+{
+    match fault {
+        DigestFault::Infdig => bytes_of(alloc, "digest: infdig\n"),
+        DigestFault::FireLimit => bytes_of(alloc, "digest: firelimit\n"),
+        DigestFault::AsyncLimit => bytes_of(alloc, "digest: asynclimit\n"),
+        DigestFault::Faulted { first, count } => fault_line(alloc, "digest: fault ", *count, first),
+        DigestFault::Memory(_) => Ok(Vec::new(alloc)),
+    }
+}
+
+/// The line of a step's digest.
+pub(crate) fn digested(
+    alloc: Global,
+    digest: &Option<Result<Report, DigestFault>>,
+) -> Result<Vec<u8>, AllocError>
+    ensures { IfOk result (λ v. v.items ≡ digest_lines digest.now) }
+{
+    match digest {
+        None => Ok(Vec::new(alloc)),
+        Some(Ok(_)) => Ok(Vec::new(alloc)),
+        Some(Err(fault)) => failed_digest(alloc, fault),
+    }
 }
 
 /// The line of a refused template.

@@ -3,11 +3,10 @@ ghost use Rattle.std.specs.Prelude.{◌≡◌, ◌≢◌, ◌⊎◌, [], Some, N
 ghost use Rattle.std.specs.Option.{IfSome};
 ghost use Rattle.std.specs.Io.KnownBytes.{Appends};
 ghost use Rattle.ng_base.specs.Outside.{Rose};
-ghost use Rattle.ng_markup.specs.Forest.{no_nodes};
 ghost use Rattle.ng_page.specs.PageOf.{state_of, document_of};
-ghost use Rattle.ng_pages.specs.Drawing.{shown};
+ghost use Rattle.ng_page.specs.State.{shown, Settles};
 ghost use Rattle.ng_run.specs.Session.{names_of};
-ghost use Rattle.ng_run.specs.Run.{Told, Began, RunsSession, HasCause, FaultsByNodes, FetchFailed, LongFile, HasLong, IsSettled};
+ghost use Rattle.ng_run.specs.Run.{Told, Began, RunsSession, HasCause, FaultsByCause, EmptyByNodes, FetchFailed, LongFile, HasLong};
 
 use crate::answer::answer;
 use ng_base::outside::{Shelf, Sink, put_all};
@@ -34,8 +33,10 @@ pub fn run<S: Shelf, K: Sink>(alloc: Global, words: &[Txt], shelf: &mut S, sink:
     ensures session { result.status ≢ 7 → result.status ≢ 8 → RunsSession (names_of words.now) (S.bytes shelf.old) (S.failed shelf.old) (S.failed shelf.new) (K.taken sink.old) (K.taken sink.new) result.status (option_map state_of result.page) }
     // 0, 1, 3 and 4 have their causes in the two files.
     ensures causes { result.status ≢ 7 → result.status ≢ 8 → HasCause (names_of words.now) (S.bytes shelf.old) (S.failed shelf.old) (S.failed shelf.new) result.status }
-    // 1 comes exactly where the page would have too many nodes.
-    ensures node_limit { result.status ≢ 7 → result.status ≢ 8 → FaultsByNodes (names_of words.now) (S.bytes shelf.old) (S.failed shelf.old) (S.failed shelf.new) result.status }
+    // 1 comes exactly where linking met a fault or the digest did not answer Ok.
+    ensures faulted { result.status ≢ 7 → result.status ≢ 8 → FaultsByCause (names_of words.now) (S.bytes shelf.old) (S.failed shelf.old) (S.failed shelf.new) result.status }
+    // A page that would have too many nodes is empty, and the status is 1.
+    ensures node_limit { result.status ≢ 7 → result.status ≢ 8 → EmptyByNodes (names_of words.now) (S.bytes shelf.old) (S.failed shelf.old) (S.failed shelf.new) result.status (option_map state_of result.page) }
     // 2 comes exactly where the words are not of the form.
     ensures words { result.status ≡ 2 → names_of words.now ≡ None }
     ensures usage { names_of words.now ≡ None → result.status ≢ 7 → result.status ≢ 8 → result.status ≡ 2 }
@@ -51,14 +52,13 @@ pub fn run<S: Shelf, K: Sink>(alloc: Global, words: &[Txt], shelf: &mut S, sink:
     ensures no_fault { result.status ≢ 7 → K.faults sink.new ≡ K.faults sink.old }
     // 8 is want of memory; nothing was taken then.
     ensures untaken { result.status ≡ 8 → Appends (K.taken sink.old) (K.taken sink.new) [] }
-    // A page is there exactly where the status is 0 or 1. No watcher of it is dirty, and its document is what they
-    // kept; at status 1 it is empty.
+    // A page is there exactly where the status is 0 or 1. Its document is what its watchers kept, and at status 0 no
+    // watcher of it is dirty.
     ensures page { IsSome result.page → (result.status ≡ 0) ⊎ (result.status ≡ 1) }
     ensures paged { result.status ≡ 0 → IsSome result.page }
-    ensures faulted { result.status ≡ 1 → IsSome result.page }
-    ensures empty { result.status ≡ 1 → IfSome result.page (λ p. document_of p ≡ no_nodes) }
-    ensures settled { IfSome result.page (λ p. IsSettled (state_of p)) }
-    ensures drawn { IfSome result.page (λ p. document_of p ≡ shown (state_of p).parts) }
+    ensures paged_faulted { result.status ≡ 1 → IsSome result.page }
+    ensures settled { result.status ≡ 0 → IfSome result.page (λ p. Settles (state_of p)) }
+    ensures drawn { IfSome result.page (λ p. document_of p ≡ shown (state_of p)) }
 {
     match answer(alloc, words, shelf) {
         Err(_) => Ran {

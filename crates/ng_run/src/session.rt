@@ -8,46 +8,84 @@ ghost use Rattle.ng_page.specs.Compiles.{compiled};
 ghost use Rattle.ng_page.specs.Facts.{facts};
 ghost use Rattle.ng_page.specs.Free.{is_tpl_want};
 ghost use Rattle.ng_page.specs.TemplateOf.{template_of};
-ghost use Rattle.ng_page.specs.State.{started};
-ghost use Rattle.ng_run.specs.ReplyOf.{reply_of, IsDrawn};
-ghost use Rattle.ng_run.specs.Session.{session as session_of, source_then, facts_then, compiled_then, opened, step_status as status_of_step};
+ghost use Rattle.ng_page.specs.PageOf.{document_of};
+ghost use Rattle.ng_run.specs.ReplyOf.{reply_of, document_lines, opening as opening_of, status_of, IsDrawn};
+ghost use Rattle.ng_run.specs.Session.{Session, SourceThen, FactsThen, OpensPage};
 
-use crate::lines::{application_line, html_word, push_action, template_line, tpl_word};
+use crate::lines::{action, application_line, digested, html_word, template_line, tpl_word};
 use crate::reply::Reply;
 use ng_base::fault::{Fault, Memory};
+use ng_digest::log::Report;
+use ng_digest::rounds::DigestFault;
 use ng_html::fault::{HtmlFault, HtmlKind};
 use ng_html::reading::read;
 use ng_html::source::Source;
 use ng_page::app::App;
 use ng_page::compile::compile;
 use ng_page::fault::{AppKind, TplFault, TplKind};
-use ng_page::page::Page;
+use ng_page::page::{Outcome, Page};
 use ng_page::tpl::Tpl;
 use std::alloc::Global;
 
-/// The status of a step, by the first fault that its program handed over.
-fn step_status(first: &Option<Fault>) -> u8
-    ensures { result ≡ status_of_step first.now }
+/// The status of a step, by the first fault that its program handed over and by its digest.
+fn step_status(first: &Option<Fault>, digest: &Option<Result<Report, DigestFault>>) -> u8
+    ensures { result ≡ status_of first.now digest.now }
 {
     match first {
-        None => 0,
         Some(_) => 1,
+        None => match digest {
+            None => 0,
+            Some(Ok(_)) => 0,
+            Some(Err(_)) => 1,
+        },
     }
+}
+
+/// The line of the document that a step leaves.
+fn document(
+    alloc: Global,
+    digest: &Option<Result<Report, DigestFault>>,
+    page: &Page,
+) -> Result<Vec<u8>, Memory>
+    ensures { IfOk result (λ v. v.items ≡ document_lines digest.now (document_of page.now)) }
+{
+    let mut bytes = Vec::new(alloc);
+    match digest {
+        None => Ok(bytes),
+        Some(Err(_)) => Ok(bytes),
+        Some(Ok(_)) => {
+            page.print(&mut bytes)?;
+            bytes.extend_from_slice("\n".as_bytes())?;
+            Ok(bytes)
+        }
+    }
+}
+
+/// What the step that opens a page prints.
+fn opening(alloc: Global, page: &Page, outcome: &Outcome) -> Result<Vec<u8>, Memory>
+    ensures { IfOk result (λ v. v.items ≡ opening_of outcome.now.faults outcome.now.first outcome.now.digest (document_of page.now)) }
+{
+    let mut bytes = Vec::new(alloc);
+    bytes.extend_from_slice("# 0 open\n".as_bytes())?;
+    let action = action(alloc, outcome.faults, &outcome.first)?;
+    bytes.extend_from_slice(action.as_slice())?;
+    let digest = digested(alloc, &outcome.digest)?;
+    bytes.extend_from_slice(digest.as_slice())?;
+    let document = document(alloc, &outcome.digest, page)?;
+    bytes.extend_from_slice(document.as_slice())?;
+    Ok(bytes)
 }
 
 /// Opens the page and prints it.
 fn open(alloc: Global, template: Tpl, app: App) -> Result<Reply, Memory>
-    ensures reply { IfOk result (λ r. reply_of r ≡ opened (facts app) (template_of template) (started (facts app) (template_of template))) }
+    ensures reply { IfOk result (λ r. OpensPage (facts app) (template_of template) (reply_of r)) }
     ensures drawn { IfOk result (λ r. IsDrawn r) }
 {
     let (page, outcome) = Page::start(alloc, template, app)?;
-    let mut bytes = Vec::new(alloc);
-    bytes.extend_from_slice("# 0 open\n".as_bytes())?;
-    push_action(alloc, &mut bytes, outcome.faults, &outcome.first)?;
-    page.print(&mut bytes)?;
-    bytes.extend_from_slice("\n".as_bytes())?;
+    let bytes = opening(alloc, &page, &outcome)?;
+    let status = step_status(&outcome.first, &outcome.digest);
     Ok(Reply {
-        status: step_status(&outcome.first),
+        status,
         bytes,
         page: Some(page),
     })
@@ -55,14 +93,14 @@ fn open(alloc: Global, template: Tpl, app: App) -> Result<Reply, Memory>
 
 /// The template of a document, which is let go.
 fn compile_source(alloc: Global, source: Source, app: &App) -> Result<Tpl, TplFault>
-    ensures { Gives is_tpl_want template_of (compiled (facts app.now) (source_of source)) result }
+    ensures { Gives is_tpl_want template_of (compiled (source_of source)) result }
 {
     compile(alloc, &source, app)
 }
 
 /// What an application and a document give.
 fn session_of_app(alloc: Global, source: Source, app: App) -> Result<Reply, Memory>
-    ensures reply { IfOk result (λ r. reply_of r ≡ facts_then (source_of source) (Ok (facts app))) }
+    ensures reply { IfOk result (λ r. FactsThen (source_of source) (Ok (facts app)) (reply_of r)) }
     ensures drawn { IfOk result (λ r. IsDrawn r) }
 {
     match compile_source(alloc, source, &app) {
@@ -76,7 +114,7 @@ fn session_of_app(alloc: Global, source: Source, app: App) -> Result<Reply, Memo
 
 /// What an application file and a document give.
 fn session_of_source(alloc: Global, source: Source, application: Vec<u8>) -> Result<Reply, Memory>
-    ensures reply { IfOk result (λ r. reply_of r ≡ source_then application.items (Ok (source_of source))) }
+    ensures reply { IfOk result (λ r. SourceThen application.items (Ok (source_of source)) (reply_of r)) }
     ensures drawn { IfOk result (λ r. IsDrawn r) }
 {
     match App::read(alloc, application.as_slice()) {
@@ -101,7 +139,7 @@ pub(crate) fn session(
     template: Vec<u8>,
     application: Vec<u8>,
 ) -> Result<Reply, Memory>
-    ensures reply { IfOk result (λ r. reply_of r ≡ session_of template.items application.items) }
+    ensures reply { IfOk result (λ r. Session template.items application.items (reply_of r)) }
     ensures drawn { IfOk result (λ r. IsDrawn r) }
 {
     match read_template(alloc, template) {
