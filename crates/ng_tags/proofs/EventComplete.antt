@@ -122,7 +122,7 @@ end_read total n p us rest l =
     }
 
 -- a word of signs at the front
-word_on : (w : List ℕ) (us cs : List Cell) → chars_of us ≡ w → map lower w ≡ w → past_word w (us ++ cs) ≡ Some cs
+pub word_on : (w : List ℕ) (us cs : List Cell) → chars_of us ≡ w → map lower w ≡ w → past_word w (us ++ cs) ≡ Some cs
 word_on [] [] cs h k = refl
 word_on [] (c ∷ us) cs h k = absurd (cc (h))
 word_on (x ∷ w) [] cs h k = absurd (cc (h))

@@ -8,6 +8,7 @@ pub mod EventLess
 pub mod Runs
 pub mod ReferenceSound
 pub mod ReferenceComplete
+pub mod NoReferences
 pub mod TextSound
 pub mod TextComplete
 pub mod AttributeSound

@@ -15,7 +15,7 @@ use Rattle.ng_tags.proofs.Runs.{code_is, both_true, past_on, letter_run_on, digi
 letter_no_sign : (c : ℕ) → is_letter c ≡ true → (c == 35) ≡ false
 letter_no_sign c h = grind (arith, nat_tests)
 
-digit_no_x : (c : ℕ) → is_digit c ≡ true → (c == 120) ≡ false
+pub digit_no_x : (c : ℕ) → is_digit c ≡ true → (c == 120) ≡ false
 digit_no_x c h = grind (arith, nat_tests)
 
 semicolon_no_letter : (z : Cell) (cs : List Cell) → z.0 ≡ 59 → BeginsNot is_letter (z ∷ cs)

@@ -3,12 +3,13 @@ use Rattle.std.proofs.Common.{◌≡◌, ◌<◌, ℕ, zero, suc, false, List, [
 use Rattle.std.specs.Prelude.{Option, None, Some}
 use Rattle.ng_base.specs.Cells.{Cell}
 use Rattle.ng_base.proofs.Binds.{chosen}
-use Rattle.ng_tags.specs.References.{reference, character}
+use Rattle.ng_tags.specs.References.{character}
 use Rattle.ng_tags.specs.Texts.{ends, with_character, text_within, text_from}
-use Rattle.ng_tags.specs.Spelling.{Reads, no_more, itself, by_reference, ampersand, Ended}
+use Rattle.ng_tags.specs.Spelling.{Reads, no_more, itself, by_reference, ampersand, NoReference, Ended}
 use Rattle.ng_tags.specs.declared.texts.Decoded.{Decoded}
 use Rattle.ng_tags.specs.declared.until.Until.{Until}
 use Rattle.ng_tags.proofs.Shorter.{character_less}
+use Rattle.ng_tags.proofs.NoReferences.{none_spelled}
 use Rattle.ng_tags.proofs.ReferenceSound.{CharacterRead, plain, referred, alone, character_is}
 
 -- a text behind what was read
@@ -40,7 +41,7 @@ one_read u d x us c cs more rest t (plain n) w e r =
 one_read u d x us c cs more rest t (referred y ms i f) w e r =
     (c ∷ (f.us ++ us), ap (λ xs. c ∷ xs) (f.whole ∙ (ap (λ xs. f.us ++ xs) w ∙ sym (append_assoc f.us us rest))), by_reference c f.us us t x i f.names r)
 one_read u d x us c cs more rest t (alone i n) w e r =
-    (c ∷ us, ap (λ xs. c ∷ xs) w, ampersand c us t i (ap reference (sym w) ∙ n) r)
+    (c ∷ us, ap (λ xs. c ∷ xs) w, ampersand c us t i (subst NoReference w (none_spelled cs n)) r)
 
 abbrev TextsRead : ℕ → Type 0
 TextsRead k = (u : Until) (d e : Decoded) (cs rest : List Cell) → length cs < k → text_within k u d cs ≡ (e, rest) → e.fault ≡ None → TextRead u d e cs rest

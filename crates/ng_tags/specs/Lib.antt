@@ -8,3 +8,4 @@ pub mod Attributes
 pub mod Tags
 pub mod Lexing
 pub mod Spelling
+pub mod Laws

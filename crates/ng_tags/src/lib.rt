@@ -8,6 +8,7 @@ pub mod comments;
 pub mod doctype;
 pub mod event;
 pub mod fault;
+pub mod laws;
 pub mod letters;
 pub mod lexing;
 pub mod references;
