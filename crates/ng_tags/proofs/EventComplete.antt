@@ -88,12 +88,15 @@ tagged total t us rest e left s h =
     let a = s.first in
     let cs = n.w ++ (s.inside ++ rest) in
     let whole : us ++ rest ≡ a ∷ n.c ∷ cs =
-      ap (λ xs. xs ++ rest) s.whole ∙ (ap (λ xs. a ∷ xs) (append_assoc s.name s.inside rest) ∙ ap (λ xs. a ∷ (xs ++ (s.inside ++ rest))) n.whole) in
-    (a, n.c ∷ cs, whole,
+    ap (λ xs. xs ++ rest) s.whole ∙ (ap (λ xs. a ∷ xs) (append_assoc s.name s.inside rest) ∙ ap (λ xs. a ∷ (xs ++ (s.inside ++ rest))) n.whole) in (
+      a,
+      n.c ∷ cs,
+      whole,
       markup_on total a n.c cs s.sign (begins_letter n.c.0 n.is_one)
-      ∙ (letter_on total a.1 n.c cs n.is_one
-      ∙ (tag_on total t us rest s n.c n.w n.whole
-      ∙ ap (λ (r : Event × List Cell). let q : Result (Event × List Cell) HtmlFault = Ok r in q) h)))
+          ∙ (letter_on total a.1 n.c cs n.is_one
+          ∙ (tag_on total t us rest s n.c n.w n.whole
+          ∙ ap (λ (r : Event × List Cell). let q : Result (Event × List Cell) HtmlFault = Ok r in q) h)),
+    )
 
 start_read : (total : ℕ) (t : Tag) (us rest : List Cell) → IsStart t us rest → LexRead total (event.Start t) us rest
 start_read total t us rest s =
@@ -118,7 +121,7 @@ end_read total n p us rest l =
       more = e.second ∷ cs;
       whole = end_cells n p us rest e ∙ ap (λ xs. e.first ∷ e.second ∷ (xs ++ more)) m.whole;
       read = markup_on total e.first e.second cs e.sign (begins_slash e.second.0 e.slash)
-        ∙ (slash_on total e.first.1 e.second cs e.slash ∙ end_tag_on total n p us rest e l.1 m.c m.w m.whole);
+          ∙ (slash_on total e.first.1 e.second cs e.slash ∙ end_tag_on total n p us rest e l.1 m.c m.w m.whole);
     }
 
 -- a word of signs at the front
@@ -161,21 +164,21 @@ comment_read total t p us rest s =
     let cs = o.ds ++ (s.inner ++ zs) in
     let close : past_word (codes "-->") zs ≡ Some rest = word_on (codes "-->") s.closing rest s.closes refl in
     let whole : us ++ rest ≡ a ∷ o.b ∷ cs =
-      ap (λ xs. xs ++ rest) s.whole
-      ∙ (ap (λ xs. a ∷ xs) (append_assoc s.opening (s.inner ++ s.closing) rest)
-      ∙ (ap (λ xs. a ∷ (s.opening ++ xs)) (append_assoc s.inner s.closing rest)
-      ∙ ap (λ xs. a ∷ (xs ++ (s.inner ++ zs))) o.whole)) in
+    ap (λ xs. xs ++ rest) s.whole
+    ∙ (ap (λ xs. a ∷ xs) (append_assoc s.opening (s.inner ++ s.closing) rest)
+    ∙ (ap (λ xs. a ∷ (s.opening ++ xs)) (append_assoc s.inner s.closing rest)
+    ∙ ap (λ xs. a ∷ (xs ++ (s.inner ++ zs))) o.whole)) in
     record {
       first = a;
       more = o.b ∷ cs;
       whole = whole;
       read = markup_on total a o.b cs s.sign (begins_mark o.b.0 o.mark)
-        ∙ (mark_on total a.1 o.b cs o.mark
-        ∙ (ap (comment total a.1) (word_on (codes "--") o.ds (s.inner ++ zs) o.dashes refl)
-        ∙ (ap (comment_from total a.1) (comment_run_on [] s.inner zs s.goes_on (ap is_some close))
-        ∙ (ap (comment_with total a.1 (map as_space (chars_of s.inner))) close
-        ∙ (ap (λ (m : List ℕ). let q : Result (Event × List Cell) HtmlFault = Ok (event.Comment m a.1, rest) in q) (sym s.reads)
-        ∙ ap (λ (m : ℕ). let q : Result (Event × List Cell) HtmlFault = Ok (event.Comment t m, rest) in q) s.place)))));
+          ∙ (mark_on total a.1 o.b cs o.mark
+          ∙ (ap (comment total a.1) (word_on (codes "--") o.ds (s.inner ++ zs) o.dashes refl)
+          ∙ (ap (comment_from total a.1) (comment_run_on [] s.inner zs s.goes_on (ap is_some close))
+          ∙ (ap (comment_with total a.1 (map as_space (chars_of s.inner))) close
+          ∙ (ap (λ (m : List ℕ). let q : Result (Event × List Cell) HtmlFault = Ok (event.Comment m a.1, rest) in q) (sym s.reads)
+          ∙ ap (λ (m : ℕ). let q : Result (Event × List Cell) HtmlFault = Ok (event.Comment t m, rest) in q) s.place)))));
     }
 
 -- no tag begins with the first character of a text
@@ -204,8 +207,8 @@ text_read total t p us rest s =
       more = cs;
       whole = whole;
       read = if_false (a.0 == 60 && tag_follows cs) (markup total a.1 cs) (text_event a.1 d) n
-        ∙ (ap (text_event a.1) (sym (text_on until.Tag no_text a cs n) ∙ (ap (text_run until.Tag) (sym whole) ∙ reads_run until.Tag us rest t s.reads s.ended))
-        ∙ ap (λ (m : ℕ). let q : Result (Event × List Cell) HtmlFault = Ok (event.Text t m, rest) in q) s.place);
+          ∙ (ap (text_event a.1) (sym (text_on until.Tag no_text a cs n) ∙ (ap (text_run until.Tag) (sym whole) ∙ reads_run until.Tag us rest t s.reads s.ended))
+          ∙ ap (λ (m : ℕ). let q : Result (Event × List Cell) HtmlFault = Ok (event.Text t m, rest) in q) s.place);
     }
 
 lexeme_read : (total : ℕ) (e : Event) (us rest : List Cell) → Lexeme e us rest → LexRead total e us rest

@@ -28,8 +28,8 @@ no_named n (Some more) rest h = no_so (named_character n) more rest h
 number_first : (b : Base) (c : Cell) (cs : List Cell) (r : Read) → number_at b (c ∷ cs) ≡ Some r → is_digit_of b c.0 ≡ true
 number_first b c cs r h =
     elim (chosen (is_digit_of b c.0) (Some (number_from (digit_run b 0 (c ∷ cs)))) None (Some r) h) [
-      inl g ↦ g.0
-    | inr g ↦ absurd (cc (g.1))
+      | inl g ↦ g.0
+      | inr g ↦ absurd (cc (g.1))
     ]
 
 hexadecimal_first : (a b : Cell) (cs : List Cell) (r : Read) → a.0 ≡ 35 → b.0 ≡ 120 → number_at base.Hexadecimal cs ≡ Some r → BeginsNumber (a ∷ b ∷ cs)
@@ -40,8 +40,8 @@ sign_begins : (a : Cell) (cs : List Cell) (r : Read) → a.0 ≡ 35 → behind_s
 sign_begins a [] r i h = absurd (cc (h))
 sign_begins a (c ∷ cs) r i h =
     elim (chosen (c.0 == 120) (number_at base.Hexadecimal cs) (number_at base.Decimal (c ∷ cs)) (Some r) h) [
-      inl g ↦ hexadecimal_first a c cs r i (is_code c.0 120 g.0) g.1
-    | inr g ↦ with_digit_first a c cs i (number_first base.Decimal c cs r g.1)
+      | inl g ↦ hexadecimal_first a c cs r i (is_code c.0 120 g.0) g.1
+      | inr g ↦ with_digit_first a c cs i (number_first base.Decimal c cs r g.1)
     ]
 
 -- a reference that is refused is a number
@@ -50,27 +50,29 @@ number_begins [] rest h = absurd (cc (h))
 number_begins (c ∷ cs) rest h =
     let r = letter_run (c.0 ∷ []) cs in
     elim (chosen (c.0 == 35) (behind_sign cs) (if is_letter c.0 then name_from r else None) (Some (None, rest)) h) [
-      inl g ↦ sign_begins c cs (None, rest) (is_code c.0 35 g.0) g.1
-    | inr g ↦ elim (chosen (is_letter c.0) (name_from r) None (Some (None, rest)) g.1) [
-        inl l ↦ absurd (no_named r.0 (past 59 r.1) rest l.1)
-      | inr l ↦ absurd (cc (l.1))
+      | inl g ↦ sign_begins c cs (None, rest) (is_code c.0 35 g.0) g.1
+      | inr g ↦ elim (chosen (is_letter c.0) (name_from r) None (Some (None, rest)) g.1) [
+        | inl l ↦ absurd (no_named r.0 (past 59 r.1) rest l.1)
+        | inr l ↦ absurd (cc (l.1))
       ]
     ]
 
 -- what begins a number is a reference
 pub number_refers : (cs : List Cell) → BeginsNumber cs → (r : Read) × (reference cs ≡ Some r)
 number_refers cs (with_digit_first a d ds i k) =
-    let r = number_from (digit_run base.Decimal 0 (d ∷ ds)) in
-    (r,
+    let r = number_from (digit_run base.Decimal 0 (d ∷ ds)) in (
+      r,
       if_true (a.0 == 35) (behind_sign (d ∷ ds)) (if is_letter a.0 then name_from (letter_run (a.0 ∷ []) (d ∷ ds)) else None) (code_is a.0 35 i)
-      ∙ (if_false (d.0 == 120) (number_at base.Hexadecimal ds) (number_at base.Decimal (d ∷ ds)) (digit_no_x d.0 k)
-      ∙ if_true (is_digit_of base.Decimal d.0) (Some r) None k))
+          ∙ (if_false (d.0 == 120) (number_at base.Hexadecimal ds) (number_at base.Decimal (d ∷ ds)) (digit_no_x d.0 k)
+          ∙ if_true (is_digit_of base.Decimal d.0) (Some r) None k),
+    )
 number_refers cs (with_sign_first a b d ds i j k) =
-    let r = number_from (digit_run base.Hexadecimal 0 (d ∷ ds)) in
-    (r,
+    let r = number_from (digit_run base.Hexadecimal 0 (d ∷ ds)) in (
+      r,
       if_true (a.0 == 35) (behind_sign (b ∷ d ∷ ds)) (if is_letter a.0 then name_from (letter_run (a.0 ∷ []) (b ∷ d ∷ ds)) else None) (code_is a.0 35 i)
-      ∙ (if_true (b.0 == 120) (number_at base.Hexadecimal (d ∷ ds)) (number_at base.Decimal (b ∷ d ∷ ds)) (code_is b.0 120 j)
-      ∙ if_true (is_digit_of base.Hexadecimal d.0) (Some r) None k))
+          ∙ (if_true (b.0 == 120) (number_at base.Hexadecimal (d ∷ ds)) (number_at base.Decimal (b ∷ d ∷ ds)) (code_is b.0 120 j)
+          ∙ if_true (is_digit_of base.Hexadecimal d.0) (Some r) None k),
+    )
 
 pub none_spelled : (cs : List Cell) → reference cs ≡ None → NoReference cs
 none_spelled cs h = record {

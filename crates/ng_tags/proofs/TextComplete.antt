@@ -23,7 +23,7 @@ amp_goes_on (until.EndTag m) c cs h = subst (λ (n : ℕ). ends (until.EndTag m)
 
 -- one character more, and what follows
 character_on : (u : Until) (s t : List ℕ) (f : Option HtmlFault) (c : Cell) (cs more rest : List Cell) (x : ℕ) → ends u c.0 cs ≡ false → character c.0 cs ≡ (Some x, more) →
-  text_from u (decoded (s ++ x ∷ []) f) more ≡ (decoded ((s ++ x ∷ []) ++ t) f, rest) → text_from u (decoded s f) (c ∷ cs) ≡ (decoded (s ++ x ∷ t) f, rest)
+    text_from u (decoded (s ++ x ∷ []) f) more ≡ (decoded ((s ++ x ∷ []) ++ t) f, rest) → text_from u (decoded s f) (c ∷ cs) ≡ (decoded (s ++ x ∷ t) f, rest)
 character_on u s t f c cs more rest x e h i =
     text_on u (decoded s f) c cs e
     ∙ (ap (λ (r : Read). text_from u (with_character (decoded s f) c.1 r.0) r.1) h

@@ -29,9 +29,9 @@ digits_value b n (c ∷ cs) = digits_value b (with_digit b n (digit_value c)) cs
 pub data Names : ℕ → List Cell → Type 0 where
   by_name : (x : ℕ) (w : List Cell) (z : Cell) → list_all is_letter (chars_of w) ≡ true → named_character (chars_of w) ≡ Some x → z.0 ≡ 59 → Names x (w ++ z ∷ [])
   by_number : (a d : Cell) (w : List Cell) (z : Cell) → a.0 ≡ 35 → list_all (is_digit_of base.Decimal) (chars_of (d ∷ w)) ≡ true → is_character (digits_value base.Decimal 0 (chars_of (d ∷ w))) ≡ true → z.0 ≡ 59 →
-    Names (digits_value base.Decimal 0 (chars_of (d ∷ w))) (a ∷ d ∷ (w ++ z ∷ []))
+      Names (digits_value base.Decimal 0 (chars_of (d ∷ w))) (a ∷ d ∷ (w ++ z ∷ []))
   by_hexadecimal : (a b d : Cell) (w : List Cell) (z : Cell) → a.0 ≡ 35 → b.0 ≡ 120 → list_all (is_digit_of base.Hexadecimal) (chars_of (d ∷ w)) ≡ true → is_character (digits_value base.Hexadecimal 0 (chars_of (d ∷ w))) ≡ true → z.0 ≡ 59 →
-    Names (digits_value base.Hexadecimal 0 (chars_of (d ∷ w))) (a ∷ b ∷ d ∷ (w ++ z ∷ []))
+      Names (digits_value base.Hexadecimal 0 (chars_of (d ∷ w))) (a ∷ b ∷ d ∷ (w ++ z ∷ []))
 
 -- the cells behind an `&` begin a number: `#` and a digit, or `#x` and a hexadecimal digit
 pub data BeginsNumber : List Cell → Type 0 where

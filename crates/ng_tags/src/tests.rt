@@ -120,11 +120,17 @@ const ROWS: [(&str, &str); 96] = [
     ("&amp", "(&amp@0)"),
     ("&amp &AMP; &foo; &;", "(&amp &AMP; &foo; &;@0)"),
     ("&am&amp;", "(&am&@0)"),
-    ("&#; &#x; &#xg; &#X41; &# 65;", "(&#; &#x; &#xg; &#X41; &# 65;@0)"),
+    (
+        "&#; &#x; &#xg; &#X41; &# 65;",
+        "(&#; &#x; &#xg; &#X41; &# 65;@0)",
+    ),
     // References by number.
     ("&#65;&#x41;&#x6A;&#x6a;&#0000065;", "(AAjjA@0)"),
     ("&#1;&#127;&#160;", "(\u{1}\u{7f}\u{a0}@0)"),
-    ("&#xD7FF;&#xE000;&#x10FFFF;", "(\u{d7ff}\u{e000}\u{10ffff}@0)"),
+    (
+        "&#xD7FF;&#xE000;&#x10FFFF;",
+        "(\u{d7ff}\u{e000}\u{10ffff}@0)",
+    ),
     ("&#10;&#13;", "(\n\r@0)"),
     ("&#0;", "!BadReference@0"),
     ("a&#x80;", "!BadReference@1"),
@@ -209,12 +215,18 @@ const ROWS: [(&str, &str); 96] = [
 /// Elements of text alone, dropped line feeds, and the doctype.
 const MORE: [(&str, &str); 26] = [
     ("<title>a<b>&amp;</title>", "<title@0>{a<b>&@7}"),
-    ("<textarea>\r\n\nx</textarea>y", "<textarea@0>{\nx@12}(y@25)"),
+    (
+        "<textarea>\r\n\nx</textarea>y",
+        "<textarea@0>{\nx@12}(y@25)",
+    ),
     ("<title>\nx</title>", "<title@0>{\nx@7}"),
     ("<title></title>", "<title@0>{@7}"),
     ("<title></TITLE\n>", "<title@0>{@7}"),
     ("<title></title x></title>", "<title@0>{</title x>@7}"),
-    ("<title></titles></b></ title></title>", "<title@0>{</titles></b></ title>@7}"),
+    (
+        "<title></titles></b></ title></title>",
+        "<title@0>{</titles></b></ title>@7}",
+    ),
     ("<title>a", "<title@0!Unclosed@8>"),
     ("<title>a</title", "<title@0!Unclosed@15>"),
     ("<title>&#0;</title>", "<title@0!BadReference@7>"),
@@ -228,7 +240,7 @@ const MORE: [(&str, &str); 26] = [
     ("<pre>x\n", "<pre@0>(x\n@5)"),
     ("<b>\nx", "<b@0>(\nx@3)"),
     ("<!DOCTYPE html>\n<b>", "(\n@15)<b@16>"),
-    (" \t\r\n<!doctype x\">a", "(a@18)"),
+    (" \t\r\n<!doctype x\">a", "(a@17)"),
     ("<!doctype>", ""),
     ("  <!doctype", "!BadTag@2"),
     ("\n<b>", "(\n@0)<b@1>"),
