@@ -31,13 +31,13 @@ pub record LexRead (total : ℕ) (e : Event) (us rest : List Cell) : Type 0 wher
   pub whole : us ++ rest ≡ first ∷ more
   pub read : event_at total first more ≡ Ok (e, rest)
 
-begins_letter : (c : ℕ) → is_letter c ≡ true → begins_tag c ≡ true
+pub begins_letter : (c : ℕ) → is_letter c ≡ true → begins_tag c ≡ true
 begins_letter c h = grind (arith, nat_tests)
 
-begins_slash : (c : ℕ) → c ≡ 47 → begins_tag c ≡ true
+pub begins_slash : (c : ℕ) → c ≡ 47 → begins_tag c ≡ true
 begins_slash c h = subst (λ (n : ℕ). begins_tag n ≡ true) (sym h) refl
 
-begins_mark : (c : ℕ) → c ≡ 33 → begins_tag c ≡ true
+pub begins_mark : (c : ℕ) → c ≡ 33 → begins_tag c ≡ true
 begins_mark c h = subst (λ (n : ℕ). begins_tag n ≡ true) (sym h) refl
 
 slash_no_letter : (c : ℕ) → c ≡ 47 → is_letter c ≡ false
@@ -49,22 +49,22 @@ mark_no_letter c h = subst (λ (n : ℕ). is_letter n ≡ false) (sym h) refl
 mark_no_slash : (c : ℕ) → c ≡ 33 → (c == 47) ≡ false
 mark_no_slash c h = subst (λ (n : ℕ). (n == 47) ≡ false) (sym h) refl
 
-markup_on : (total : ℕ) (a b : Cell) (cs : List Cell) → a.0 ≡ 60 → begins_tag b.0 ≡ true → event_at total a (b ∷ cs) ≡ markup total a.1 (b ∷ cs)
+pub markup_on : (total : ℕ) (a b : Cell) (cs : List Cell) → a.0 ≡ 60 → begins_tag b.0 ≡ true → event_at total a (b ∷ cs) ≡ markup total a.1 (b ∷ cs)
 markup_on total a b cs h i =
     if_true (a.0 == 60 && begins_tag b.0) (markup total a.1 (b ∷ cs)) (text_event a.1 (text_behind a.1 (character a.0 (b ∷ cs)))) (both (a.0 == 60) (begins_tag b.0) (code_is a.0 60 h) i)
 
-abbrev other : ℕ → ℕ → Cell → List Cell → Result (Event × List Cell) HtmlFault
+abbrev pub other : ℕ → ℕ → Cell → List Cell → Result (Event × List Cell) HtmlFault
 other total p c cs = if c.0 == 33 then comment total p (past_word (codes "--") cs) else Err (fault kind.BadTag p)
 
-letter_on : (total p : ℕ) (c : Cell) (cs : List Cell) → is_letter c.0 ≡ true → markup total p (c ∷ cs) ≡ start_tag total p (name_run (lower c.0 ∷ []) cs)
+pub letter_on : (total p : ℕ) (c : Cell) (cs : List Cell) → is_letter c.0 ≡ true → markup total p (c ∷ cs) ≡ start_tag total p (name_run (lower c.0 ∷ []) cs)
 letter_on total p c cs h = if_true (is_letter c.0) (start_tag total p (name_run (lower c.0 ∷ []) cs)) (if c.0 == 47 then end_tag total p cs else other total p c cs) h
 
-slash_on : (total p : ℕ) (c : Cell) (cs : List Cell) → c.0 ≡ 47 → markup total p (c ∷ cs) ≡ end_tag total p cs
+pub slash_on : (total p : ℕ) (c : Cell) (cs : List Cell) → c.0 ≡ 47 → markup total p (c ∷ cs) ≡ end_tag total p cs
 slash_on total p c cs h =
     if_false (is_letter c.0) (start_tag total p (name_run (lower c.0 ∷ []) cs)) (if c.0 == 47 then end_tag total p cs else other total p c cs) (slash_no_letter c.0 h)
     ∙ if_true (c.0 == 47) (end_tag total p cs) (other total p c cs) (code_is c.0 47 h)
 
-mark_on : (total p : ℕ) (c : Cell) (cs : List Cell) → c.0 ≡ 33 → markup total p (c ∷ cs) ≡ comment total p (past_word (codes "--") cs)
+pub mark_on : (total p : ℕ) (c : Cell) (cs : List Cell) → c.0 ≡ 33 → markup total p (c ∷ cs) ≡ comment total p (past_word (codes "--") cs)
 mark_on total p c cs h =
     if_false (is_letter c.0) (start_tag total p (name_run (lower c.0 ∷ []) cs)) (if c.0 == 47 then end_tag total p cs else other total p c cs) (mark_no_letter c.0 h)
     ∙ (if_false (c.0 == 47) (end_tag total p cs) (other total p c cs) (mark_no_slash c.0 h)

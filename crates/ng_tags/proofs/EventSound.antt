@@ -60,13 +60,13 @@ signs_are (c ∷ us) (d ∷ w) h i =
     ap (λ (n : ℕ). n ∷ us) (sign_is c d first b.0) ∙ ap (λ (ns : List ℕ). d ∷ ns) (signs_are us w more b.1)
 
 -- the text of a comment
-record Commented (s t : List ℕ) (cs rest : List Cell) : Type 0 where
-  w : List Cell
-  whole : cs ≡ w ++ rest
-  reads : t ≡ s ++ map as_space (chars_of w)
-  goes_on : GoesOn w rest
+pub record Commented (s t : List ℕ) (cs rest : List Cell) : Type 0 where
+  pub w : List Cell
+  pub whole : cs ≡ w ++ rest
+  pub reads : t ≡ s ++ map as_space (chars_of w)
+  pub goes_on : GoesOn w rest
 
-comment_runs : (s t : List ℕ) (cs rest : List Cell) → comment_run s cs ≡ (t, rest) → Commented s t cs rest
+pub comment_runs : (s t : List ℕ) (cs rest : List Cell) → comment_run s cs ≡ (t, rest) → Commented s t cs rest
 comment_runs s t [] rest h = record { w = []; whole = ap (λ (r : List ℕ × List Cell). r.1) h; reads = sym (ap (λ (r : List ℕ × List Cell). r.0) h) ∙ sym (append-nil s); goes_on = tt }
 comment_runs s t (c ∷ cs) rest h =
     elim (chosen (ends_comment (c ∷ cs)) (s, c ∷ cs) (comment_run (s ++ as_space c.0 ∷ []) cs) (t, rest) h) [

@@ -17,3 +17,8 @@ pub mod TagSound
 pub mod TagComplete
 pub mod EventSound
 pub mod EventComplete
+pub mod TextRefused
+pub mod Refused
+pub mod RefusedComplete
+pub mod DoctypeLaws
+pub mod InsideRefused

@@ -34,7 +34,7 @@ nothing_read u d e cs rest h i s n = record {
 }
 
 -- one character and a text
-one_read : (u : Until) (d : Decoded) (x : ℕ) (us : List Cell) (c : Cell) (cs more rest : List Cell) (t : List ℕ) → CharacterRead c cs x more → more ≡ us ++ rest → ends u c.0 cs ≡ false → Reads u rest us t →
+pub one_read : (u : Until) (d : Decoded) (x : ℕ) (us : List Cell) (c : Cell) (cs more rest : List Cell) (t : List ℕ) → CharacterRead c cs x more → more ≡ us ++ rest → ends u c.0 cs ≡ false → Reads u rest us t →
     (vs : List Cell) × (c ∷ cs ≡ vs ++ rest) × Reads u rest vs (x ∷ t)
 one_read u d x us c cs more rest t (plain n) w e r =
     (c ∷ us, ap (λ xs. c ∷ xs) w, itself c us t (ap (ends u c.0) (sym w) ∙ e) n r)

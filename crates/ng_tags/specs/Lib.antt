@@ -9,3 +9,6 @@ pub mod Tags
 pub mod Lexing
 pub mod Spelling
 pub mod Laws
+pub mod Refusals
+pub mod Faults
+pub mod Doctypes
