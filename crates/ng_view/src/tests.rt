@@ -86,7 +86,7 @@ fn shown(
     }
 }
 
-const ROWS: [(&str, &str); 155] = [
+const ROWS: [(&str, &str); 156] = [
     ("1 + 2 * 3", "7"),
     ("(1 + 2) * 3", "9"),
     ("10 - 2 - 3", "5"),
@@ -242,6 +242,7 @@ const ROWS: [(&str, &str); 155] = [
     ("n | nothing", "unknown"),
     ("n | uppercase:1", "unknown"),
     ("n | limitTo", "unknown"),
+    ("[2, 1] | orderBy:'a b'", "Syntax"),
 ];
 
 #[test]
