@@ -43,6 +43,7 @@ longer_total reversed p ps pairs = record { antisymm = anti; trans = through; co
     anti [] (l ∷ ls) = refl
     anti (k ∷ ks) [] = refl
     anti (k ∷ ks) (l ∷ ls) = pairs.antisymm (k, ks) (l, ls)
+
     through : (x y z : List Key) → keys_cmp reversed (p ∷ ps) x y ≡ Less → keys_cmp reversed (p ∷ ps) y z ≡ Less → keys_cmp reversed (p ∷ ps) x z ≡ Less
     through [] [] z h i = absurd (cc)
     through [] (l ∷ ls) [] h i = absurd (cc)
@@ -50,6 +51,7 @@ longer_total reversed p ps pairs = record { antisymm = anti; trans = through; co
     through (k ∷ ks) [] z h i = absurd (cc)
     through (k ∷ ks) (l ∷ ls) [] h i = absurd (cc)
     through (k ∷ ks) (l ∷ ls) (m ∷ ms) h i = pairs.trans (k, ks) (l, ls) (m, ms) h i
+
     alike : (x y z : List Key) → keys_cmp reversed (p ∷ ps) x y ≡ Equal → keys_cmp reversed (p ∷ ps) x z ≡ keys_cmp reversed (p ∷ ps) y z
     alike [] [] z h = refl
     alike [] (l ∷ ls) z h = absurd (cc)

@@ -83,6 +83,7 @@ put_stable {X} lt o a x (y ∷ ys) = by (lt y x) refl (put_stable lt o a x ys)
   where
     t : X → Bool
     t = ties lt a
+
     pass : lt y x ≡ true → (b c : Bool) → t x ≡ b → t y ≡ c → cond c (y ∷ cond b (x ∷ filter t ys) (filter t ys)) (cond b (x ∷ filter t ys) (filter t ys)) ≡ cond b (x ∷ cond c (y ∷ filter t ys) (filter t ys)) (cond c (y ∷ filter t ys) (filter t ys))
     pass e true true f g =
         let p = tie lt a x f in
@@ -92,6 +93,7 @@ put_stable {X} lt o a x (y ∷ ys) = by (lt y x) refl (put_stable lt o a x ys)
     pass e true false f g = refl
     pass e false true f g = refl
     pass e false false f g = refl
+
     by : (b : Bool) → lt y x ≡ b → filter t (put_in lt x ys) ≡ filter t (x ∷ ys) → filter t (if b then y ∷ put_in lt x ys else x ∷ (y ∷ ys)) ≡ filter t (x ∷ (y ∷ ys))
     by true e more = ap (λ zs. cond (t y) (y ∷ zs) zs) more ∙ pass e (t x) (t y) refl refl
     by false e more = refl

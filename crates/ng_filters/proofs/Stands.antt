@@ -214,6 +214,7 @@ limited_stands objects t limit begin a s = by (whole limit)
     shaped shapes.Names n = primitive_part_stands (length objects) n begin t s
     shaped shapes.Function n = primitive_part_stands (length objects) n begin t s
     shaped shapes.Primitive n = primitive_part_stands (length objects) n begin t s
+
     by : (w : Option ℤ) → ViewStands (length objects) (limited_by w objects t begin)
     by None = s
     by (Some n) = shaped (shape_of objects t) n
@@ -243,9 +244,11 @@ filtered_stands objects t p a s = by (shape_of objects t)
   where
     all : AllByRecursion (ViewStands (length objects)) (items objects t)
     all = items_stand objects t a s
+
     some : (b : Bool) → ListStands (length objects) (if b then Ok (items objects t) else matching_from objects p [] (items objects t))
     some true = all
     some false = matching_stands (length objects) objects p [] (items objects t) tt all
+
     by : (h : Shape) → ResultStands (length objects) (filtered_by h objects t p)
     by shapes.Items = as_list_stands (length objects) (matching objects p (items objects t)) (some (is_nothing p))
     by shapes.Names = s
@@ -258,6 +261,7 @@ ordered_stands objects t p reversed a s = by (shape_of objects t)
     sorted : (r : Result (List Predicate) Fault) → ResultStands (length objects) (r >>= λ ps. Ok (list (views_from (in_order (is_before objects (truthy reversed) ps) (items objects t)))))
     sorted (Ok ps) = from_stands (length objects) _ (all_in_order (ViewStands (length objects)) (is_before objects (truthy reversed) ps) (items objects t) (items_stand objects t a s))
     sorted (Err e) = tt
+
     by : (h : Shape) → ResultStands (length objects) (ordered_by h objects t p reversed)
     by shapes.Items = sorted (predicates objects p)
     by shapes.Names = s

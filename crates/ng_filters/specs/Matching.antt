@@ -53,7 +53,6 @@ alone_matches t p = compared (side_of t) (side_of p) (text_of t) (text_of p)
 abbrev pub Asked : Type 0
 Asked = ViewTree → ViewTree → Bool → ℕ → Spent Bool
 
-
 -- some item matches: up to the first that does
 abbrev pub some_item : (ViewTree → ℕ → Spent Bool) → List ViewTree → ℕ → Spent Bool
 some_item ask [] left = Ok (false, left)

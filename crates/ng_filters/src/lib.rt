@@ -17,7 +17,6 @@
 //! It is not for methods of arrays and texts, which belong to evaluation, and holds no filter that a page adds.
 #![tactic(auto)]
 
-
 mod casing;
 mod dispatch;
 mod index;

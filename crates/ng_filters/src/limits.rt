@@ -48,13 +48,7 @@ fn whole(v: &View) -> Option<i64>
 {
     match v {
         View::Prim(Value::Int(n)) => Some(*n),
-        View::Prim(Value::Text(t)) => {
-            if only_spaces(t) {
-                None
-            } else {
-                view_num(v)
-            }
-        }
+        View::Prim(Value::Text(t)) => { if only_spaces(t) { None } else { view_num(v) } }
         _ => None,
     }
 }
@@ -139,7 +133,11 @@ fn part_of_text(alloc: Global, limit: i64, begin: &View, t: &Txt) -> Result<View
     ensures refused { IfErr result (λ e. e ≡ Refused) }
 {
     let (first, end) = places(limit, begin, t.len());
-    let out = front(alloc, past(Plain::new(t.as_str()), first), end.saturating_sub(first))?;
+    let out = front(
+        alloc,
+        past(Plain::new(t.as_str()), first),
+        end.saturating_sub(first),
+    )?;
     Ok(View::of_value(Value::Text(out)))
 }
 
@@ -218,13 +216,7 @@ pub(crate) fn limited(
         return copied(alloc, v);
     };
     match shape_of(store, of_view(v)) {
-        Shape::Items => Ok(View::of_list(part_of_items(
-            alloc,
-            store,
-            n,
-            begin,
-            of_view(v),
-        )?)),
+        Shape::Items => Ok(View::of_list(part_of_items(alloc, store, n, begin, of_view(v))?)),
         _ => part_of_primitive(alloc, n, begin, v),
     }
 }

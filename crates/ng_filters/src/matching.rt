@@ -370,12 +370,7 @@ fn dollar(alloc: Global) -> Result<Txt, Memory>
 }
 
 /// What an item is held against: a primitive against the property `$` of a pattern that has one.
-fn pattern_for<'a>(
-    store: &'a Store,
-    dollar: &Txt,
-    p: ViewRef<'a>,
-    v: ViewRef<'_>,
-) -> ViewRef<'a>
+fn pattern_for<'a>(store: &'a Store, dollar: &Txt, p: ViewRef<'a>, v: ViewRef<'_>) -> ViewRef<'a>
     requires dollar { dollar.now ≡ codes "$" }
     requires pattern { ViewStands (length store.now) (seen p) }
     requires value { ViewStands (length store.now) (seen v) }
@@ -444,12 +439,7 @@ fn all_items(alloc: Global, store: &Store, v: ViewRef<'_>) -> Result<Views, Memo
 }
 
 /// The items that stay: all of them where the pattern is undefined or a function.
-fn matching(
-    alloc: Global,
-    store: &Store,
-    p: ViewRef<'_>,
-    v: ViewRef<'_>,
-) -> Result<Views, Fault>
+fn matching(alloc: Global, store: &Store, p: ViewRef<'_>, v: ViewRef<'_>) -> Result<Views, Fault>
     requires pattern { ViewStands (length store.now) (seen p) }
     requires value { ViewStands (length store.now) (seen v) }
     ensures { Gives is_memory views_seen (matching store.now (seen p.entry) (items store.now (seen v.entry))) result }
@@ -462,12 +452,7 @@ fn matching(
 
 /// Of an array the items that match; other input itself.
 #[tactic(auto, using(crate::proofs::ViewParts::view_parts))]
-pub(crate) fn filtered(
-    alloc: Global,
-    store: &Store,
-    v: &View,
-    p: &View,
-) -> Result<View, Fault>
+pub(crate) fn filtered(alloc: Global, store: &Store, v: &View, p: &View) -> Result<View, Fault>
     requires value { ViewStands (length store.now) (view_of v.now) }
     requires pattern { ViewStands (length store.now) (view_of p.now) }
     ensures { Gives is_memory view_of (filtered store.now (view_of v.now) (view_of p.now)) result }

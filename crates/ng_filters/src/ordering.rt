@@ -81,7 +81,11 @@ fn differ(a: bool, b: bool) -> bool
 fn turned(falling: bool, a: &Key, b: &Key) -> Ordering
     ensures { result ≡ turned falling key_cmp a.now b.now }
 {
-    if falling { key_cmp(b, a) } else { key_cmp(a, b) }
+    if falling {
+        key_cmp(b, a)
+    } else {
+        key_cmp(a, b)
+    }
 }
 
 /// Two items in order: the first predicate that tells them apart decides.

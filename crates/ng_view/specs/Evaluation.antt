@@ -27,7 +27,7 @@ use Rattle.ng_language.specs.declared.syntax.Binary.{Binary}
 use Rattle.ng_language.specs.declared.syntax.Binary.TheVariants as binaries
 use Rattle.ng_language.specs.declared.syntax.Label.{Label}
 use Rattle.ng_language.specs.declared.syntax.Label.TheVariants as labels
-use Rattle.ng_view.specs.Applied.{applied}
+use Rattle.ng_filters.specs.Applied.{applied}
 use Rattle.ng_view.specs.Purity.{list_method, text_method}
 use Rattle.ng_view.specs.Members.{or_undefined, member, item}
 use Rattle.ng_view.specs.Methods.{is_list, method_value}

@@ -1,4 +1,3 @@
-pub mod Applied
 pub mod Purity
 pub mod Members
 pub mod Methods

@@ -11,7 +11,6 @@ ghost use Rattle.ng_parse.specs.TreeOf.{tree, pair_tree};
 ghost use Rattle.ng_view.specs.Purity.{count_of, IsKnown, FiltersKnown, IsPairKnown, ArePairsKnown};
 ghost use Rattle.ng_view.specs.Evaluation.{evaluated, receiver, evaluated_all, evaluated_pair, evaluated_pairs, LocalsStand, Field, FieldsAllStand};
 
-use crate::applied::apply;
 use crate::calls::{Callee, called, find_callee};
 use crate::fields::{put_field, record_of, record_view};
 use crate::lists::list_view;
@@ -25,6 +24,7 @@ use ng_base::name::Oid;
 use ng_base::txt::Txt;
 use ng_base::value::Value;
 use ng_base::view::{View, Views};
+use ng_filters::apply;
 use ng_parse::{Expr, Pair};
 use ng_store::Store;
 use ng_value::operators::truthy;

@@ -86,7 +86,7 @@ fn shown(
     }
 }
 
-const ROWS: [(&str, &str); 146] = [
+const ROWS: [(&str, &str); 156] = [
     ("1 + 2 * 3", "7"),
     ("(1 + 2) * 3", "9"),
     ("10 - 2 - 3", "5"),
@@ -233,6 +233,16 @@ const ROWS: [(&str, &str); 146] = [
     ("xs.push(1)", "impure"),
     ("xs['slice'](1)", "impure"),
     ("f()", "impure"),
+    ("'Ab' | uppercase", "\"AB\""),
+    ("xs | limitTo:2", "[3,1]"),
+    ("[3, 1, 2] | orderBy:''", "[1,2,3]"),
+    ("s.trim() | uppercase | lowercase", "\"pear\""),
+    ("xs | limitTo:-1 : 0", "[\"4\"]"),
+    ("['ab', 'c'] | filter:'a'", "[\"ab\"]"),
+    ("n | nothing", "unknown"),
+    ("n | uppercase:1", "unknown"),
+    ("n | limitTo", "unknown"),
+    ("[2, 1] | orderBy:'a b'", "Syntax"),
 ];
 
 #[test]

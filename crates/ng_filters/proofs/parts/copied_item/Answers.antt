@@ -34,4 +34,4 @@ returns-in-List-clause-item c =
     let at = at_views c.as_slice.result.now fresh c.args.i c.index-as_slice-i.result c.as_slice.ensures (omega (arith, n)) c.index-as_slice-i.is in
     rw e
     (IfOk-weaker c.copied-in-List.result (λ (w : View). view_of w ≡ view_of c.index-as_slice-i.result) (λ (w : View). drop c.args.i fresh ≡ view_of w ∷ drop (c.args.i + 1) fresh)
-      (λ w h. at ∙ ap (λ t. t ∷ drop (c.args.i + 1) fresh) (sym h)) c.copied-in-List.ensures.copy)
+    (λ w h. at ∙ ap (λ t. t ∷ drop (c.args.i + 1) fresh) (sym h)) c.copied-in-List.ensures.copy)

@@ -42,4 +42,4 @@ returns-in-List-clause-stands c =
     let n : length (items objects (seen c.args.v)) ≡ length c.as_slice.result.now = ap length e ∙ (ap length (sym c.as_slice.ensures) ∙ length-map c.as_slice.result.now view_of) in
     rw c.of_view.ensures
     (list_item_stands (length objects) c.args.i (views_of c.in-List.views.now) _ _ s
-      (at_views c.as_slice.result.now fresh c.args.i c.index-as_slice-i.result c.as_slice.ensures (omega (arith, n)) c.index-as_slice-i.is))
+    (at_views c.as_slice.result.now fresh c.args.i c.index-as_slice-i.result c.as_slice.ensures (omega (arith, n)) c.index-as_slice-i.is))
