@@ -3,24 +3,32 @@
 
 usage: bench/crates.py [--cmd PROGRAM]
 PROGRAM is the built `ng_bench` (crates/ng_bench/out/ng_bench after `rt run` in that crate). Each row is a workload,
-its sizes, the seconds of each, and how much longer the larger one took."""
+its sizes, the seconds of processor time of each, and how much longer the larger one took."""
 import argparse
 import os
+import resource
 import subprocess
-import time
 
 ROWS = [
     ('programs of 999 tokens, lexed and parsed', 'parse', 100),
-    ('a list of values, its Deep snapshot taken twice and compared', 'snap', 9_999),
+    ('an array of numbers, compared with its Deep snapshot a hundred times', 'wide', 9_999),
+    ('a record 90 levels deep, compared with its Deep snapshot so many times', 'deep', 10_000),
     ('watchers, fired once and then tested clean', 'digest', 10_000),
+    ('listeners, walked and taken out from the front', 'front', 10_000),
+    ('listeners, walked and taken out from the back', 'back', 10_000),
+    ('listeners, walked and taken out from the middle', 'middle', 10_000),
+    ('scopes dropped, of which each tenth has a listener', 'drop', 1_000),
+    ('scopes, made and met in the order of their paths', 'scopes', 10_000),
 ]
 
 
 def seconds(cmd, workload, size):
-    start = time.monotonic()
+    """The seconds of processor time that a run took, so that other work on the machine counts little."""
+    before = resource.getrusage(resource.RUSAGE_CHILDREN)
     out = subprocess.run([cmd, workload, str(size)], stdout=subprocess.PIPE, check=True).stdout.split()
+    after = resource.getrusage(resource.RUSAGE_CHILDREN)
     assert out[:2] == [workload.encode(), str(size).encode()] and out[2] != b'failed', out
-    return time.monotonic() - start
+    return after.ru_utime - before.ru_utime + after.ru_stime - before.ru_stime
 
 
 def main():

@@ -1,17 +1,26 @@
 //! Workloads of the crates that stand ahead of the page, for `bench/crates.py`, which times them.
 //!
 //! `ng_bench WORKLOAD SIZE` does one workload and prints what it counted; nothing else is measured here. The
-//! workloads: `parse` lexes and parses so many programs of a thousand tokens; `snap` takes two Deep snapshots of an
-//! array of so many numbers and compares them; `digest` runs a digest over so many watchers that
-//! is clean, behind one in which each fired.
+//! workloads:
+//!
+//! - `parse` lexes and parses so many programs of a thousand tokens;
+//! - `wide` compares an array of so many numbers with its Deep snapshot, a hundred times; `deep` compares a record 90
+//!   levels deep with its own, so many times;
+//! - `digest` runs a digest over so many watchers that is clean, behind one in which each fired;
+//! - `front`, `back` and `middle` walk so many listeners of one scope and name, and then take them out from there,
+//!   one after another, with the walk open; `drop` drops so many scopes, of which each tenth has a listener;
+//! - `scopes` makes so many scopes, and meets them in the order of their paths.
 //!
 //! It decides nothing and no other crate stands on it.
 #![tactic(auto)]
 
 mod digests;
+mod listening;
+mod scoping;
 mod snapping;
 mod syntax;
 
+use listening::Side;
 use std::alloc::Global;
 use std::{env, io};
 
@@ -19,8 +28,14 @@ use std::{env, io};
 fn counted(alloc: Global, workload: &str, size: u64) -> Option<u64> {
     match workload {
         "parse" => syntax::parsed(alloc, size),
-        "snap" => snapping::compared(alloc, size),
+        "wide" => snapping::wide(alloc, size),
+        "deep" => snapping::deep(alloc, size),
         "digest" => digests::tested(alloc, size),
+        "front" => listening::walked(alloc, Side::Front, size),
+        "back" => listening::walked(alloc, Side::Back, size),
+        "middle" => listening::walked(alloc, Side::Middle, size),
+        "drop" => listening::dropped(alloc, size),
+        "scopes" => scoping::walked(alloc, size),
         _ => None,
     }
 }

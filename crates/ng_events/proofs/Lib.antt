@@ -6,3 +6,5 @@ pub mod Homes
 pub mod Tables
 pub mod Quiet
 pub mod Walks
+pub mod Apart
+pub mod Silent

@@ -1,5 +1,7 @@
 //! Where the lists of the scopes and names stand.
-ghost use Rattle.std.specs.Prelude.{◌≡◌, OnOk, OnErr};
+ghost use Rattle.std.specs.Prelude.{◌≡◌, is_some, OnOk, OnErr};
+ghost use Rattle.std.specs.BTreeMap.{get};
+ghost use Rattle.std.specs.Ordering.{nat_cmp};
 ghost use Rattle.ng_events.specs.Names.{named, Names, AreSame};
 
 use ng_base::txt::Txt;
@@ -18,6 +20,13 @@ pub fn place_in(
         None => None,
         Some(places) => places.get(name).copied(),
     }
+}
+
+/// Whether a scope ever had a listener.
+pub fn is_known(names: &BTreeMap<u32, BTreeMap<Txt, usize>>, scope: u32) -> bool
+    ensures { result ≡ is_some (get nat_cmp names.now scope) }
+{
+    names.get(&scope).is_some()
 }
 
 /// A name of a scope has a place.

@@ -1,5 +1,5 @@
 -- What an answer says, where it is the one of the reading.
-use Rattle.std.proofs.Common.{◌≡◌, ℕ, List, ◌∙◌, sym}
+use Rattle.std.proofs.Common.{ℕ, List, ◌∙◌, sym}
 use Rattle.std.specs.Prelude.{Result, Ok, Err}
 use Rattle.ng_base.specs.Meets.{Gives}
 use Rattle.ng_tags.specs.declared.fault.HtmlFault.{HtmlFault}

@@ -1,11 +1,11 @@
 -- The print of a forest that bytes spell spells it too.
-use Rattle.std.proofs.Common.{◌≡◌, ℕ, Bool, true, false, not, ◌&&◌, ◌==◌, List, [], ◌∷◌, ◌++◌, length, refl, ap, ◌∙◌, sym, subst, append-nil, inl, inr}
+use Rattle.std.proofs.Common.{◌≡◌, ℕ, Bool, true, false, not, ◌==◌, List, [], ◌∷◌, ◌++◌, length, refl, ap, ◌∙◌, sym, subst, append-nil, inl, inr}
 use Rattle.std.proofs.Math.Utf8.{scalar, scalars}
 use Rattle.std.proofs.lemmas.Str.{chars-encodes, scalars-chars}
-use Rattle.std.specs.Prelude.{Option, None, Some, Result, Ok, Err, encode_utf8_all, if◌then◌else◌, codes, ◌⊎◌}
+use Rattle.std.specs.Prelude.{Option, None, Some, Result, Ok, encode_utf8_all, if◌then◌else◌, codes}
 use Rattle.std.specs.List.{list_all, flat_map}
-use Rattle.std.specs.Str.{chars, IsUtf8}
-use Rattle.ng_base.specs.Cells.{Cell, cells}
+use Rattle.std.specs.Str.{chars}
+use Rattle.ng_base.specs.Cells.{Cell}
 use Rattle.ng_base.proofs.Binds.{chosen}
 use Rattle.ng_markup.specs.Forest.{Forest, print}
 use Rattle.ng_tags.specs.Letters.{is_space, lower}
@@ -14,7 +14,7 @@ use Rattle.ng_tags.specs.Lexing.{doctype_at, doctype_behind, past_sign, after_do
 use Rattle.ng_tags.specs.Spelling.{chars_of}
 use Rattle.ng_tags.specs.declared.fault.HtmlFault.{HtmlFault}
 use Rattle.ng_html.specs.Reading.{begin, cells_of}
-use Rattle.ng_html.specs.Grammar.{Written, Spelled, IsPlainText, Html}
+use Rattle.ng_html.specs.Grammar.{Written, IsPlainText, Html}
 use Rattle.ng_html.specs.Laws.{PrintsBack}
 use Rattle.ng_html.proofs.PlainText.{is_cell_char, is_some_char, is_no_return, text_bytes, text_chars, cells_chars, cells_same}
 use Rattle.ng_html.proofs.ReadTexts.{both, both_true, parts, is_value_char}

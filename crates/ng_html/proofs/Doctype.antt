@@ -1,20 +1,19 @@
 -- No doctype stands in front of a print.
-use Rattle.std.proofs.Common.{◌≡◌, ◌≢◌, ℕ, Bool, true, false, not, ◌&&◌, ◌||◌, ◌==◌, List, [], ◌∷◌, ◌++◌, map, refl, ap, ◌∙◌, sym, subst, arith, inl, inr, append_assoc}
+use Rattle.std.proofs.Common.{◌≡◌, ℕ, Bool, true, false, ◌==◌, List, [], ◌∷◌, ◌++◌, refl, ap, ◌∙◌, sym, subst, arith, inl, inr, append_assoc}
 use Rattle.std.proofs.lemmas.Bool.Decides.{nat_tests}
-use Rattle.std.specs.Prelude.{Option, None, Some, Result, Ok, Err, ◌⊎◌, ⊤, codes, if◌then◌else◌}
-use Rattle.std.specs.List.{list_all, flat_map}
+use Rattle.std.specs.Prelude.{Option, None, Some, Result, Ok, ◌⊎◌, ⊤, codes, if◌then◌else◌}
+use Rattle.std.specs.List.{flat_map}
 use Rattle.ng_base.specs.Cells.{Cell}
-use Rattle.ng_base.proofs.Binds.{if_true, if_false, if_held, chosen}
+use Rattle.ng_base.proofs.Binds.{if_true, if_false, if_held}
 use Rattle.ng_markup.specs.Tables.{is_void}
-use Rattle.ng_markup.specs.Forest.{Node, Forest, Attributes, element, text, comment, no_nodes, node, text_char, print_attribute, print_start, print_end, print_node, print}
+use Rattle.ng_markup.specs.Forest.{Forest, Attributes, element, text, comment, no_nodes, node, text_char, print_attribute, print_start, print_end, print_node, print}
 use Rattle.ng_tags.specs.Letters.{is_letter, is_space, lower}
 use Rattle.ng_tags.specs.Skips.{past_spaces, past_word}
-use Rattle.ng_tags.specs.Lexing.{doctype_at, doctype_behind, past_sign, after_doctype}
+use Rattle.ng_tags.specs.Lexing.{doctype_at, doctype_behind, after_doctype}
 use Rattle.ng_tags.specs.Spelling.{chars_of}
 use Rattle.ng_tags.specs.declared.fault.HtmlFault.{HtmlFault}
 use Rattle.ng_html.proofs.ReadEvents.{IsReadName}
-use Rattle.ng_html.proofs.Kept.{AreApart, IsReadElement, IsReadNode, IsReadForest}
-use Rattle.ng_html.proofs.PrintedTexts.{Headed, headed, none_left}
+use Rattle.ng_html.proofs.Kept.{IsReadElement, IsReadForest}
 
 -- no doctype begins there: not a `<`, or behind it neither `!d` nor `!D`
 abbrev NoDoctype : List ℕ → Type 0
@@ -109,9 +108,9 @@ char_none : (c : ℕ) (ys : List ℕ) → IsBehindNone ys → IsBehindNone (text
 char_none c ys h =
     if_held (c == 38) (codes "&amp;") (if c == 60 then codes "&lt;" else if c == 62 then codes "&gt;" else if c == 10 then codes "&#10;" else if c == 13 then codes "&#13;" else c ∷ []) (λ xs. IsBehindNone (xs ++ ys)) (λ e. inl refl)
     (λ a. if_held (c == 60) (codes "&lt;") (if c == 62 then codes "&gt;" else if c == 10 then codes "&#10;" else if c == 13 then codes "&#13;" else c ∷ []) (λ xs. IsBehindNone (xs ++ ys)) (λ e. inl refl)
-      (λ b. if_held (c == 62) (codes "&gt;") (if c == 10 then codes "&#10;" else if c == 13 then codes "&#13;" else c ∷ []) (λ xs. IsBehindNone (xs ++ ys)) (λ e. inl refl)
-        (λ d. if_held (c == 10) (codes "&#10;") (if c == 13 then codes "&#13;" else c ∷ []) (λ xs. IsBehindNone (xs ++ ys)) (λ e. inl refl)
-          (λ n. if_held (c == 13) (codes "&#13;") (c ∷ []) (λ xs. IsBehindNone (xs ++ ys)) (λ e. inl refl) (λ r. itself b)))))
+    (λ b. if_held (c == 62) (codes "&gt;") (if c == 10 then codes "&#10;" else if c == 13 then codes "&#13;" else c ∷ []) (λ xs. IsBehindNone (xs ++ ys)) (λ e. inl refl)
+    (λ d. if_held (c == 10) (codes "&#10;") (if c == 13 then codes "&#13;" else c ∷ []) (λ xs. IsBehindNone (xs ++ ys)) (λ e. inl refl)
+    (λ n. if_held (c == 13) (codes "&#13;") (c ∷ []) (λ xs. IsBehindNone (xs ++ ys)) (λ e. inl refl) (λ r. itself b)))))
   where
     itself : (c == 60) ≡ false → IsBehindNone (c ∷ ys)
     itself b = by (is_space c) refl

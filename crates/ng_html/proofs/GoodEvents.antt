@@ -1,10 +1,9 @@
 -- The events of a text are such as were read.
-use Rattle.std.proofs.Common.{◌≡◌, ◌≢◌, ℕ, Bool, true, false, not, ◌&&◌, ◌==◌, List, [], ◌∷◌, ◌++◌, map, refl, ap, ◌∙◌, sym, subst, arith, inl, inr}
+use Rattle.std.proofs.Common.{◌≡◌, ◌≢◌, ℕ, Bool, true, false, ◌&&◌, ◌==◌, List, [], ◌∷◌, ◌++◌, refl, ◌∙◌, sym, subst, arith, inl, inr}
 use Rattle.std.proofs.lemmas.Bool.Decides.{nat_tests}
 use Rattle.std.specs.Prelude.{⊤, ◌⊎◌}
 use Rattle.std.specs.List.{list_all}
 use Rattle.ng_base.specs.Cells.{Cell}
-use Rattle.ng_markup.specs.Tables.{is_raw}
 use Rattle.ng_tags.specs.Texts.{ends, tag_follows}
 use Rattle.ng_tags.specs.Spelling.{chars_of, Reads, no_more, itself, by_reference, ampersand, Ended, IsTextOf, Lexeme}
 use Rattle.ng_tags.specs.declared.event.Event.{Event}

@@ -1,17 +1,13 @@
 -- What is read can be printed.
-use Rattle.std.proofs.Common.{◌≡◌, ◌≢◌, ℕ, Bool, true, false, not, ◌&&◌, List, [], ◌∷◌, ◌++◌, refl, ap, ◌∙◌, sym, subst, inl, inr, append_assoc}
-use Rattle.std.specs.Prelude.{Option, None, ◌⊎◌, ⊤}
-use Rattle.std.specs.List.{list_all}
-use Rattle.ng_base.specs.Cells.{Cell}
-use Rattle.ng_markup.specs.Tables.{is_void, is_omittable, is_raw}
+use Rattle.std.proofs.Common.{◌≡◌, ℕ, Bool, true, false, not, ◌&&◌, List, [], ◌∷◌, refl, ap, ◌∙◌, subst, inl, inr}
+use Rattle.std.specs.Prelude.{◌⊎◌, ⊤}
+use Rattle.ng_markup.specs.Tables.{is_void, is_raw}
 use Rattle.ng_markup.specs.Forest.{Node, Forest, Attributes, element, text, comment, no_nodes, node}
-use Rattle.ng_tags.specs.Spelling.{Lexeme}
 use Rattle.ng_tags.specs.declared.event.Event.{Event}
 use Rattle.ng_tags.specs.declared.event.Event.TheVariants as event
-use Rattle.ng_tags.specs.declared.event.Tag.{Tag}
 use Rattle.ng_html.specs.Building.{content}
 use Rattle.ng_html.proofs.ReadEvents.{IsRead}
-use Rattle.ng_html.specs.Grammar.{Ends, AllInside, tag, SpellsNode, SpellsForest, Written}
+use Rattle.ng_html.specs.Grammar.{Ends, AllInside, tag, SpellsNode, SpellsForest}
 
 -- an event that was read: an element of text alone with its content, or not such an element
 abbrev pub IsGood : Event → Type 0

@@ -1,8 +1,7 @@
 -- A print is one line of text.
-use Rattle.std.proofs.Common.{◌≡◌, ℕ, Bool, true, false, not, ◌&&◌, ◌||◌, ◌==◌, List, [], ◌∷◌, ◌++◌, map, refl, ap, ◌∙◌, sym, subst, arith, inl, inr}
-use Rattle.std.proofs.Math.Utf8.{scalar}
+use Rattle.std.proofs.Common.{◌≡◌, ℕ, Bool, true, false, not, ◌&&◌, ◌==◌, List, [], ◌∷◌, ◌++◌, refl, ap, ◌∙◌, arith, inl, inr}
 use Rattle.std.proofs.lemmas.Bool.Decides.{nat_tests}
-use Rattle.std.specs.Prelude.{◌⊎◌, ⊤, codes, if◌then◌else◌}
+use Rattle.std.specs.Prelude.{⊤, codes, if◌then◌else◌}
 use Rattle.std.specs.List.{list_all, flat_map}
 use Rattle.ng_base.specs.Cells.{Cell}
 use Rattle.ng_base.proofs.Binds.{if_held}
@@ -41,16 +40,16 @@ text_char_line : (c : ℕ) → is_value_char c ≡ true → AreLine (text_char c
 text_char_line c h =
     if_held (c == 38) (codes "&amp;") (if c == 60 then codes "&lt;" else if c == 62 then codes "&gt;" else if c == 10 then codes "&#10;" else if c == 13 then codes "&#13;" else c ∷ []) AreLine (λ e. refl)
     (λ a. if_held (c == 60) (codes "&lt;") (if c == 62 then codes "&gt;" else if c == 10 then codes "&#10;" else if c == 13 then codes "&#13;" else c ∷ []) AreLine (λ e. refl)
-      (λ b. if_held (c == 62) (codes "&gt;") (if c == 10 then codes "&#10;" else if c == 13 then codes "&#13;" else c ∷ []) AreLine (λ e. refl)
-        (λ d. if_held (c == 10) (codes "&#10;") (if c == 13 then codes "&#13;" else c ∷ []) AreLine (λ e. refl)
-          (λ n. if_held (c == 13) (codes "&#13;") (c ∷ []) AreLine (λ e. refl) (λ r. other_char c h n r)))))
+    (λ b. if_held (c == 62) (codes "&gt;") (if c == 10 then codes "&#10;" else if c == 13 then codes "&#13;" else c ∷ []) AreLine (λ e. refl)
+    (λ d. if_held (c == 10) (codes "&#10;") (if c == 13 then codes "&#13;" else c ∷ []) AreLine (λ e. refl)
+    (λ n. if_held (c == 13) (codes "&#13;") (c ∷ []) AreLine (λ e. refl) (λ r. other_char c h n r)))))
 
 value_char_line : (c : ℕ) → is_value_char c ≡ true → AreLine (value_char c)
 value_char_line c h =
     if_held (c == 38) (codes "&amp;") (if c == 34 then codes "&quot;" else if c == 10 then codes "&#10;" else if c == 13 then codes "&#13;" else c ∷ []) AreLine (λ e. refl)
     (λ a. if_held (c == 34) (codes "&quot;") (if c == 10 then codes "&#10;" else if c == 13 then codes "&#13;" else c ∷ []) AreLine (λ e. refl)
-      (λ b. if_held (c == 10) (codes "&#10;") (if c == 13 then codes "&#13;" else c ∷ []) AreLine (λ e. refl)
-        (λ n. if_held (c == 13) (codes "&#13;") (c ∷ []) AreLine (λ e. refl) (λ r. other_char c h n r))))
+    (λ b. if_held (c == 10) (codes "&#10;") (if c == 13 then codes "&#13;" else c ∷ []) AreLine (λ e. refl)
+    (λ n. if_held (c == 13) (codes "&#13;") (c ∷ []) AreLine (λ e. refl) (λ r. other_char c h n r))))
 
 pub text_line : (t : List ℕ) → list_all is_value_char t ≡ true → AreLine (flat_map text_char t)
 text_line [] h = refl
@@ -81,8 +80,8 @@ attribute_line : (a : List ℕ × List ℕ) → IsAttributeName a.0 → list_all
 attribute_line a n v =
     all_append (codes " " ++ a.0 ++ codes "=\"" ++ flat_map value_char a.1) (codes "\"")
     (all_append (codes " " ++ a.0 ++ codes "=\"") (flat_map value_char a.1)
-      (all_append (codes " " ++ a.0) (codes "=\"") (all_append (codes " ") a.0 refl (all_line is_name_char name_char_line a.0 n.2)) refl)
-      (value_line a.1 v))
+    (all_append (codes " " ++ a.0) (codes "=\"") (all_append (codes " ") a.0 refl (all_line is_name_char name_char_line a.0 n.2)) refl)
+    (value_line a.1 v))
     refl
 
 attributes_line : (more : Attributes) → AllRead more → AreLine (flat_map print_attribute more)

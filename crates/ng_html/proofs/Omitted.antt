@@ -3,7 +3,7 @@ use Rattle.std.proofs.Common.{◌≡◌, ℕ, Bool, true, false, ◌||◌, ◌&&
 use Rattle.std.specs.Prelude.{codes}
 use Rattle.std.specs.Str.{bytes_eq}
 use Rattle.ng_markup.specs.Tables.{is_omittable}
-use Rattle.ng_html.specs.Closing.{is_term, is_data_cell, is_row_part, is_closing}
+use Rattle.ng_html.specs.Closing.{is_term, is_data_cell, is_closing}
 
 listed : (li dt dd option tr td th a b c d e : Bool) → ((li && a) || ((dt || dd) && b) || (option && c) || ((td || th) && d) || (((td || th) || tr) && e)) ≡ true →
     (li || dt || dd || option || tr || td || th) ≡ true

@@ -1,29 +1,27 @@
 -- There is one refusal: what is wrong is what is refused.
-use Rattle.std.proofs.Common.{◌≡◌, ◌≤◌, ◌<◌, ℕ, zero, suc, ◌+◌, Bool, true, false, not, ◌&&◌, nat_lt, List, [], ◌∷◌, ◌++◌, length, refl, ap, ◌∙◌, sym, subst, arith, inl, inr, append_assoc, append-nil, length-append}
+use Rattle.std.proofs.Common.{◌≡◌, ◌≤◌, ◌<◌, ℕ, Bool, true, false, not, ◌&&◌, nat_lt, List, [], ◌∷◌, ◌++◌, length, refl, ap, ◌∙◌, sym, subst, arith, inl, inr, append_assoc, append-nil, length-append}
 use Rattle.std.proofs.lemmas.Bool.Decides.{nat_tests}
 use Rattle.std.proofs.lemmas.Slice.Eq.{bytes_eq-Decides}
-use Rattle.std.specs.Prelude.{Result, Ok, Err, Option, None, Some, if◌then◌else◌, ◌⊎◌}
+use Rattle.std.specs.Prelude.{Result, Ok, Err, if◌then◌else◌}
 use Rattle.std.specs.Str.{bytes_eq}
 use Rattle.std.specs.List.{flat_map}
 use Rattle.ng_base.specs.Cells.{Cell}
-use Rattle.ng_base.specs.Meets.{◌>>=◌, Gives}
+use Rattle.ng_base.specs.Meets.{◌>>=◌}
 use Rattle.ng_base.proofs.Binds.{if_true, if_false}
 use Rattle.ng_markup.specs.Tables.{is_void, is_omittable}
 use Rattle.ng_markup.specs.Forest.{Forest, element}
 use Rattle.ng_tags.specs.Free.{fault}
-use Rattle.ng_tags.specs.Lexing.{event_at, after_doctype}
 use Rattle.ng_tags.specs.declared.event.Event.{Event}
 use Rattle.ng_tags.specs.declared.event.Event.TheVariants as event
 use Rattle.ng_tags.specs.declared.event.Tag.{Tag}
 use Rattle.ng_tags.specs.declared.fault.HtmlFault.{HtmlFault}
 use Rattle.ng_tags.specs.declared.fault.HtmlKind.TheVariants as kind
-use Rattle.ng_html.specs.Closing.{is_closing}
 use Rattle.ng_html.specs.Building.{State, Around, open_limit, ended, take_event, unharmed, admitted, opened, content, entered, entered_raw, shut_by, close, finish_of, finished, with_leaf, empty}
-use Rattle.ng_html.specs.Reading.{begin, reads, read_on, read_cells, cells_of, is_plain_text, sound_len, read_bytes}
+use Rattle.ng_html.specs.Reading.{begin, read_on, read_bytes}
 use Rattle.ng_html.specs.Running.{run}
 use Rattle.ng_html.specs.Standing.{Stands}
-use Rattle.ng_html.specs.Refusals.{WrittenBefore, left_open, CanEnd, CanFinish, IsWrongTag, IsWrongEvent, no_event, IsWrong, RefusesCells, Refuses}
-use Rattle.ng_html.proofs.Bytes.{Answer, no_answer, plain_read, no_plain_read}
+use Rattle.ng_html.specs.Refusals.{WrittenBefore, CanEnd, CanFinish, IsWrongTag, IsWrongEvent, IsWrong, RefusesCells, Refuses}
+use Rattle.ng_html.proofs.Bytes.{Answer, plain_read, no_plain_read}
 use Rattle.ng_html.proofs.Turns.{read_event_err, take_event_err}
 use Rattle.ng_html.proofs.TreeRuns.{R_stands, finish_more}
 use Rattle.ng_html.proofs.Refused.{shut_left}

@@ -1,14 +1,14 @@
 -- Characters, their bytes and their cells: without zeros, and without a CR.
-use Rattle.std.proofs.Common.{◌≡◌, ◌≤◌, ◌<◌, ℕ, zero, suc, ◌+◌, ◌/◌, ◌%◌, Bool, true, false, not, ◌==◌, ◌&&◌, nat_eq, nat_lt, List, [], ◌∷◌, ◌++◌, length, refl, ap, ◌∙◌, sym, subst, arith, inl, inr}
+use Rattle.std.proofs.Common.{◌≡◌, ◌<◌, ℕ, suc, ◌+◌, ◌/◌, ◌%◌, Bool, true, false, not, ◌==◌, ◌&&◌, nat_eq, nat_lt, List, [], ◌∷◌, ◌++◌, length, refl, ap, ◌∙◌, sym, subst, arith, inl, inr}
 use Rattle.std.proofs.Math.Utf8.{scalar, scalars}
 use Rattle.std.proofs.lemmas.Bool.Decides.{nat_tests}
 use Rattle.std.proofs.lemmas.Str.{encode_ascii, encodes-chars}
-use Rattle.std.specs.Prelude.{if◌then◌else◌, ◌⊎◌, encode_utf8_all}
+use Rattle.std.specs.Prelude.{if◌then◌else◌, encode_utf8_all}
 use Rattle.std.specs.Char.{encode_utf8}
 use Rattle.std.specs.List.{list_all}
 use Rattle.std.specs.Str.{chars, IsUtf8}
-use Rattle.ng_base.specs.Cells.{Cell, cells, place}
-use Rattle.ng_base.proofs.Binds.{if_true, if_false, if_held, chosen}
+use Rattle.ng_base.specs.Cells.{cells, place}
+use Rattle.ng_base.proofs.Binds.{if_false, if_held, chosen}
 use Rattle.ng_tags.specs.Spelling.{chars_of}
 use Rattle.ng_html.specs.Reading.{before_zero}
 
@@ -28,13 +28,13 @@ char_bytes c rest p h =
     (λ xs. HasNoZero (xs ++ rest))
     (λ t. some_byte c rest one h)
     (λ t. if_held (nat_lt c 2048) ((192 + c / 64) ∷ (128 + c % 64) ∷ []) (if nat_lt c 65536 then (224 + c / 4096) ∷ (128 + (c / 64) % 64) ∷ (128 + c % 64) ∷ [] else (240 + c / 262144) ∷ (128 + (c / 4096) % 64) ∷ (128 + (c / 64) % 64) ∷ (128 + c % 64) ∷ [])
-      (λ xs. HasNoZero (xs ++ rest))
-      (λ u. some_byte (192 + c / 64) ((128 + c % 64) ∷ rest) (omega arith) last)
-      (λ u. if_held (nat_lt c 65536) ((224 + c / 4096) ∷ (128 + (c / 64) % 64) ∷ (128 + c % 64) ∷ []) ((240 + c / 262144) ∷ (128 + (c / 4096) % 64) ∷ (128 + (c / 64) % 64) ∷ (128 + c % 64) ∷ [])
-        (λ xs. HasNoZero (xs ++ rest))
-        (λ v. some_byte (224 + c / 4096) ((128 + (c / 64) % 64) ∷ (128 + c % 64) ∷ rest) (omega arith) middle)
-        (λ v. some_byte (240 + c / 262144) ((128 + (c / 4096) % 64) ∷ (128 + (c / 64) % 64) ∷ (128 + c % 64) ∷ rest) (omega arith)
-          (some_byte (128 + (c / 4096) % 64) ((128 + (c / 64) % 64) ∷ (128 + c % 64) ∷ rest) (omega arith) middle))))
+    (λ xs. HasNoZero (xs ++ rest))
+    (λ u. some_byte (192 + c / 64) ((128 + c % 64) ∷ rest) (omega arith) last)
+    (λ u. if_held (nat_lt c 65536) ((224 + c / 4096) ∷ (128 + (c / 64) % 64) ∷ (128 + c % 64) ∷ []) ((240 + c / 262144) ∷ (128 + (c / 4096) % 64) ∷ (128 + (c / 64) % 64) ∷ (128 + c % 64) ∷ [])
+    (λ xs. HasNoZero (xs ++ rest))
+    (λ v. some_byte (224 + c / 4096) ((128 + (c / 64) % 64) ∷ (128 + c % 64) ∷ rest) (omega arith) middle)
+    (λ v. some_byte (240 + c / 262144) ((128 + (c / 4096) % 64) ∷ (128 + (c / 64) % 64) ∷ (128 + c % 64) ∷ rest) (omega arith)
+    (some_byte (128 + (c / 4096) % 64) ((128 + (c / 64) % 64) ∷ (128 + c % 64) ∷ rest) (omega arith) middle))))
 
 abbrev pub is_some_char : ℕ → Bool
 is_some_char c = not (c == 0)
@@ -105,9 +105,9 @@ cells_chars total b (c ∷ cs) s z =
     (λ us. list_all is_cell_char (chars_of us) ≡ true)
     (λ t. both (is_cell_char 10) (list_all is_cell_char (chars_of (cells total true cs))) refl (cells_chars total true cs x.1 y.1))
     (λ t. if_held (b && nat_eq c 10) (cells total false cs) ((c, place total (c ∷ cs)) ∷ cells total false cs)
-      (λ us. list_all is_cell_char (chars_of us) ≡ true)
-      (λ u. cells_chars total false cs x.1 y.1)
-      (λ u. both (is_cell_char c) (list_all is_cell_char (chars_of (cells total false cs))) (cell_char c x.0 y.0 t) (cells_chars total false cs x.1 y.1)))
+    (λ us. list_all is_cell_char (chars_of us) ≡ true)
+    (λ u. cells_chars total false cs x.1 y.1)
+    (λ u. both (is_cell_char c) (list_all is_cell_char (chars_of (cells total false cs))) (cell_char c x.0 y.0 t) (cells_chars total false cs x.1 y.1)))
 
 abbrev pub is_no_return : ℕ → Bool
 is_no_return c = not (c == 13)

@@ -1,19 +1,16 @@
 -- The print of a forest spells it.
-use Rattle.std.proofs.Common.{◌≡◌, ◌≢◌, ℕ, Bool, true, false, not, ◌==◌, ◌&&◌, List, [], ◌∷◌, ◌++◌, map, refl, ap, ◌∙◌, sym, subst, arith, inl, inr, append_assoc, append-nil}
-use Rattle.std.proofs.lemmas.Bool.Decides.{nat_tests}
-use Rattle.std.specs.Prelude.{Option, None, ◌⊎◌, ⊤, codes, if◌then◌else◌}
+use Rattle.std.proofs.Common.{◌≡◌, ℕ, Bool, true, false, List, [], ◌∷◌, ◌++◌, refl, ap, ◌∙◌, sym, subst, inl, inr, append_assoc, append-nil}
+use Rattle.std.specs.Prelude.{⊤, if◌then◌else◌}
 use Rattle.std.specs.List.{list_all, flat_map}
 use Rattle.ng_base.specs.Cells.{Cell}
 use Rattle.ng_base.proofs.Binds.{if_true, if_false}
 use Rattle.ng_markup.specs.Tables.{is_void, is_raw}
 use Rattle.ng_markup.specs.Forest.{Node, Forest, Attributes, element, text, comment, no_nodes, node, text_char, print_start, print_end, print_node, print}
-use Rattle.ng_tags.specs.Letters.{begins_tag}
-use Rattle.ng_tags.specs.Spelling.{Lexeme, chars_of}
+use Rattle.ng_tags.specs.Spelling.{chars_of}
 use Rattle.ng_tags.specs.declared.event.Event.{Event}
 use Rattle.ng_tags.specs.declared.event.Event.TheVariants as event
-use Rattle.ng_tags.specs.declared.event.Tag.{Tag}
 use Rattle.ng_html.specs.Building.{content}
-use Rattle.ng_html.specs.Grammar.{Ends, AllInside, tag, SpellsNode, SpellsForest, Written}
+use Rattle.ng_html.specs.Grammar.{AllInside, tag, SpellsNode, SpellsForest, Written}
 use Rattle.ng_html.proofs.ReadEvents.{IsRead, is_line_char}
 use Rattle.ng_html.proofs.PrintedTexts.{parted, none_left}
 use Rattle.ng_html.proofs.Lines.{NoLine, no_line_on, forest_line}

@@ -1,26 +1,24 @@
 -- The print of a tag, a text or a comment is a lexeme.
-use Rattle.std.proofs.Common.{◌≡◌, ◌≢◌, ℕ, Bool, true, false, not, ◌&&◌, ◌||◌, ◌==◌, List, [], ◌∷◌, ◌++◌, map, refl, ap, ◌∙◌, sym, subst, arith, inl, inr, append_assoc, append-nil}
+use Rattle.std.proofs.Common.{◌≡◌, ◌≢◌, ℕ, true, false, ◌&&◌, ◌==◌, List, [], ◌∷◌, ◌++◌, map, refl, ap, ◌∙◌, sym, subst, arith, inl, append_assoc, append-nil}
 use Rattle.std.proofs.lemmas.Bool.Decides.{nat_tests}
-use Rattle.std.specs.Prelude.{None, ◌⊎◌, ⊤, codes, is_some}
+use Rattle.std.specs.Prelude.{⊤, codes, is_some}
 use Rattle.std.specs.List.{list_all, flat_map}
 use Rattle.ng_base.specs.Cells.{Cell}
-use Rattle.ng_markup.specs.Tables.{is_left_out, is_raw, is_line_dropping}
-use Rattle.ng_markup.specs.Forest.{Node, Attributes, comment, text_char, value_char, print_attribute, print_start, print_end, print_node}
+use Rattle.ng_markup.specs.Tables.{is_raw}
+use Rattle.ng_markup.specs.Forest.{Attributes, comment, text_char, value_char, print_attribute, print_start, print_end, print_node}
 use Rattle.ng_tags.specs.Letters.{is_letter, is_in_attribute, begins_tag, lower}
 use Rattle.ng_tags.specs.Texts.{ends, past_end_tag}
 use Rattle.ng_tags.specs.Attributes.{with_attribute}
 use Rattle.ng_tags.specs.Lexing.{as_space}
-use Rattle.ng_tags.specs.Spelling.{chars_of, Reads, no_more, itself, by_reference, ampersand, Ended, IsName, BeginsNot, EqualsSign, IsQuote, Valued, quoted, IsAttribute, AreAttributes, ends_open, space_then, attribute_then, NameEnds, IsStartTag, is_line_feed, Dropped, nothing, IsEndTag, GoesOn, IsComment, IsTextOf, BeginsAt, IsRaw, IsStart, Lexeme}
-use Rattle.ng_tags.specs.declared.event.Event.{Event}
+use Rattle.ng_tags.specs.Spelling.{chars_of, Reads, no_more, itself, by_reference, ampersand, Ended, IsName, BeginsNot, EqualsSign, Valued, quoted, IsAttribute, AreAttributes, ends_open, space_then, attribute_then, NameEnds, IsStartTag, is_line_feed, nothing, IsEndTag, BeginsAt, Lexeme}
 use Rattle.ng_tags.specs.declared.event.Event.TheVariants as event
-use Rattle.ng_tags.specs.declared.event.Tag.{Tag}
 use Rattle.ng_tags.specs.declared.until.Until.{Until}
 use Rattle.ng_tags.specs.declared.until.Until.TheVariants as until
 use Rattle.ng_html.specs.Grammar.{tag}
 use Rattle.ng_html.proofs.ReadTexts.{both, both_true, is_value_char}
 use Rattle.ng_html.proofs.ReadComments.{NeverEnds, never_goes}
-use Rattle.ng_html.proofs.ReadEvents.{IsRead, IsReadName, is_name_char, IsAttributeName, AllRead, AreRead, is_line_char}
-use Rattle.ng_html.proofs.SortedAttributes.{AllAbove, AreSorted, AreBelow, with_last, are_below_with, none_below}
+use Rattle.ng_html.proofs.ReadEvents.{IsReadName, is_name_char, IsAttributeName, AllRead, AreRead, is_line_char}
+use Rattle.ng_html.proofs.SortedAttributes.{AreSorted, AreBelow, with_last, are_below_with, none_below}
 use Rattle.ng_html.proofs.PrintedTexts.{parted, none_left, headed, text_writing, value_writing, writing_read}
 use Rattle.ng_html.proofs.Lines.{NoLine, no_line_on, text_line}
 
@@ -126,13 +124,13 @@ attributes_printed rest ((n, v) ∷ more) done us h r s b =
     let x = headed p.first 32 (n ++ (61 ∷ 34 ∷ (flat_map value_char v ++ codes "\""))) (p.first_is ∙ attribute_is n v) in
     let whole : us ≡ (32, x.p) ∷ (x.behind ++ p.last) = p.whole ∙ ap (λ xs. xs ++ p.last) x.whole in
     let behind : AreAttributes rest (done ++ (n, v) ∷ []) p.last ((done ++ (n, v) ∷ []) ++ more) false =
-      attributes_printed rest more (done ++ (n, v) ∷ []) p.last p.last_is r.2 s.1 (are_below_with done more n v b.1 s.0) in
+    attributes_printed rest more (done ++ (n, v) ∷ []) p.last p.last_is r.2 s.1 (are_below_with done more n v b.1 s.0) in
     let all : AreAttributes rest (with_attribute done n v) p.last (done ++ (n, v) ∷ more) false =
-      subst (λ (d : Attributes). AreAttributes rest d p.last (done ++ (n, v) ∷ more) false) (sym (with_last done n v b.0))
-      (subst (λ (d : Attributes). AreAttributes rest (done ++ (n, v) ∷ []) p.last d false) (append_assoc done ((n, v) ∷ []) more) behind) in
+    subst (λ (d : Attributes). AreAttributes rest d p.last (done ++ (n, v) ∷ more) false) (sym (with_last done n v b.0))
+    (subst (λ (d : Attributes). AreAttributes rest (done ++ (n, v) ∷ []) p.last d false) (append_assoc done ((n, v) ∷ []) more) behind) in
     subst (λ (xs : List Cell). AreAttributes rest done xs (done ++ (n, v) ∷ more) false) (sym whole)
     (space_then done (done ++ (n, v) ∷ more) false (32, x.p) (x.behind ++ p.last) refl
-      (attribute_then done (done ++ (n, v) ∷ more) false n v x.behind p.last (attribute_printed n v x.behind (p.last ++ rest) r.0 x.behind_is) all))
+    (attribute_then done (done ++ (n, v) ∷ more) false n v x.behind p.last (attribute_printed n v x.behind (p.last ++ rest) r.0 x.behind_is) all))
 
 inside_ends : (more : Attributes) (us : List Cell) → chars_of us ≡ flat_map print_attribute more ++ codes ">" → NameEnds us
 inside_ends [] us h = let x = headed us 62 [] h in subst NameEnds (sym x.whole) refl
@@ -235,8 +233,7 @@ pub comment_printed : (t : List ℕ) (us rest : List Cell) → (list_all is_line
 comment_printed t us rest g h =
     let x = headed us 60 (codes "!--" ++ (t ++ codes "-->")) h in
     let p = parted (codes "!--") (t ++ codes "-->") x.behind x.behind_is in
-    let i = parted t (codes "-->") p.last p.last_is in
-    (
+    let i = parted t (codes "-->") p.last p.last_is in (
       x.p,
       record {
         first = (60, x.p);
@@ -274,8 +271,7 @@ raw_printed n a x us rest r raw h =
     let t = tag_printed n a p.first (i.first ++ (i.last ++ rest)) (r.0, r.1) p.first_is in
     let e = end_tag_printed n i.last r.0 i.last_is in
     let s = begins_somewhere i.first i.last 60 (47 ∷ (n ++ codes ">")) i.last_is in
-    let behind : NoLine (i.last ++ rest) = tag_no_line (i.last ++ rest) (at_tag i.last rest (print_end n) i.last_is (end_begins n)) in
-    (
+    let behind : NoLine (i.last ++ rest) = tag_no_line (i.last ++ rest) (at_tag i.last rest (print_end n) i.last_is (end_begins n)) in (
       t.q,
       s.0,
       record {

@@ -1,8 +1,8 @@
 -- The print of a text reads as the text.
-use Rattle.std.proofs.Common.{◌≡◌, ◌≢◌, ℕ, Bool, true, false, not, ◌&&◌, ◌||◌, ◌==◌, List, [], ◌∷◌, ◌++◌, map, refl, ap, ◌∙◌, sym, subst, arith, inl, inr, append_assoc, append-nil}
+use Rattle.std.proofs.Common.{◌≡◌, ℕ, true, false, ◌==◌, List, [], ◌∷◌, ◌++◌, refl, ap, ◌∙◌, sym, subst, arith, inl, inr}
 use Rattle.std.proofs.lemmas.Bool.Decides.{nat_tests}
-use Rattle.std.specs.Prelude.{Option, None, Some, ◌⊎◌, ⊤, codes, if◌then◌else◌}
-use Rattle.std.specs.List.{list_all, flat_map}
+use Rattle.std.specs.Prelude.{◌⊎◌, codes, if◌then◌else◌}
+use Rattle.std.specs.List.{flat_map}
 use Rattle.ng_base.specs.Cells.{Cell}
 use Rattle.ng_base.proofs.Binds.{if_held}
 use Rattle.ng_markup.specs.Forest.{text_char, value_char}
@@ -113,14 +113,14 @@ text_writing u k c =
     if_held (c == 38) (codes "&amp;") (if c == 60 then codes "&lt;" else if c == 62 then codes "&gt;" else if c == 10 then codes "&#10;" else if c == 13 then codes "&#13;" else c ∷ []) (IsWriting u c)
     (λ e. referred u c 38 (codes "amp;") e amp)
     (λ not_amp. if_held (c == 60) (codes "&lt;") (if c == 62 then codes "&gt;" else if c == 10 then codes "&#10;" else if c == 13 then codes "&#13;" else c ∷ []) (IsWriting u c)
-      (λ e. referred u c 60 (codes "lt;") e lt)
-      (λ not_lt. if_held (c == 62) (codes "&gt;") (if c == 10 then codes "&#10;" else if c == 13 then codes "&#13;" else c ∷ []) (IsWriting u c)
-        (λ e. referred u c 62 (codes "gt;") e gt)
-        (λ not_gt. if_held (c == 10) (codes "&#10;") (if c == 13 then codes "&#13;" else c ∷ []) (IsWriting u c)
-          (λ e. referred u c 10 (codes "#10;") e ten)
-          (λ not_ten. if_held (c == 13) (codes "&#13;") (c ∷ []) (IsWriting u c)
-            (λ e. referred u c 13 (codes "#13;") e thirteen)
-            (λ other. inl (refl, not_amp, λ ds. k c ds not_lt))))))
+    (λ e. referred u c 60 (codes "lt;") e lt)
+    (λ not_lt. if_held (c == 62) (codes "&gt;") (if c == 10 then codes "&#10;" else if c == 13 then codes "&#13;" else c ∷ []) (IsWriting u c)
+    (λ e. referred u c 62 (codes "gt;") e gt)
+    (λ not_gt. if_held (c == 10) (codes "&#10;") (if c == 13 then codes "&#13;" else c ∷ []) (IsWriting u c)
+    (λ e. referred u c 10 (codes "#10;") e ten)
+    (λ not_ten. if_held (c == 13) (codes "&#13;") (c ∷ []) (IsWriting u c)
+    (λ e. referred u c 13 (codes "#13;") e thirteen)
+    (λ other. inl (refl, not_amp, λ ds. k c ds not_lt))))))
 
 -- values in double quotes
 pub value_writing : (c : ℕ) → IsWriting until.Double c (value_char c)
@@ -128,12 +128,12 @@ value_writing c =
     if_held (c == 38) (codes "&amp;") (if c == 34 then codes "&quot;" else if c == 10 then codes "&#10;" else if c == 13 then codes "&#13;" else c ∷ []) (IsWriting until.Double c)
     (λ e. referred until.Double c 38 (codes "amp;") e amp)
     (λ not_amp. if_held (c == 34) (codes "&quot;") (if c == 10 then codes "&#10;" else if c == 13 then codes "&#13;" else c ∷ []) (IsWriting until.Double c)
-      (λ e. referred until.Double c 34 (codes "quot;") e quot)
-      (λ not_quot. if_held (c == 10) (codes "&#10;") (if c == 13 then codes "&#13;" else c ∷ []) (IsWriting until.Double c)
-        (λ e. referred until.Double c 10 (codes "#10;") e ten)
-        (λ not_ten. if_held (c == 13) (codes "&#13;") (c ∷ []) (IsWriting until.Double c)
-          (λ e. referred until.Double c 13 (codes "#13;") e thirteen)
-          (λ other. inl (refl, not_amp, λ ds. not_quot)))))
+    (λ e. referred until.Double c 34 (codes "quot;") e quot)
+    (λ not_quot. if_held (c == 10) (codes "&#10;") (if c == 13 then codes "&#13;" else c ∷ []) (IsWriting until.Double c)
+    (λ e. referred until.Double c 10 (codes "#10;") e ten)
+    (λ not_ten. if_held (c == 13) (codes "&#13;") (c ∷ []) (IsWriting until.Double c)
+    (λ e. referred until.Double c 13 (codes "#13;") e thirteen)
+    (λ other. inl (refl, not_amp, λ ds. not_quot)))))
 
 -- a character, and what is read behind it
 one_more : (u : Until) (rest : List Cell) (c : ℕ) (w : List ℕ) (t : List ℕ) (us vs : List Cell) → IsWriting u c w → chars_of us ≡ w → Reads u rest vs t → Reads u rest (us ++ vs) (c ∷ t)

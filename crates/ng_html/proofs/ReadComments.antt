@@ -1,8 +1,8 @@
 -- A comment goes on up to its end.
-use Rattle.std.proofs.Common.{◌≡◌, ◌≤◌, ℕ, suc, Bool, true, false, not, ◌&&◌, ◌||◌, ◌==◌, List, [], ◌∷◌, ◌++◌, map, length, refl, ap, ◌∙◌, sym, subst, arith, append_assoc}
+use Rattle.std.proofs.Common.{◌≡◌, ◌≤◌, ℕ, Bool, true, false, ◌==◌, List, [], ◌∷◌, ◌++◌, map, length, refl, ap, ◌∙◌, sym, arith, append_assoc}
 use Rattle.std.proofs.lemmas.Bool.Decides.{nat_tests}
 use Rattle.std.proofs.lemmas.List.{map-append}
-use Rattle.std.specs.Prelude.{Option, None, Some, is_some, ⊤, if◌then◌else◌, codes}
+use Rattle.std.specs.Prelude.{None, is_some, ⊤, if◌then◌else◌, codes}
 use Rattle.ng_base.specs.Cells.{Cell}
 use Rattle.ng_base.proofs.Binds.{if_held}
 use Rattle.ng_tags.specs.Letters.{lower}
@@ -76,10 +76,10 @@ spaced (a ∷ b ∷ c ∷ xs) =
 pub goes_never : (inner closing rest : List Cell) → chars_of closing ≡ codes "-->" → GoesOn inner (closing ++ rest) → NeverEnds (map as_space (chars_of inner))
 goes_never [] closing rest h g = tt
 goes_never (c ∷ us) closing rest h g = (
-    ap (begins (codes "-->")) (sym (map-append as_space (chars_of (c ∷ us)) (codes "-->")))
-        ∙ (spaced (chars_of (c ∷ us) ++ codes "-->") ∙ (sym (ends_is (c ∷ us) closing rest h) ∙ g.0)),
-    goes_never us closing rest h g.1,
-  )
+  ap (begins (codes "-->")) (sym (map-append as_space (chars_of (c ∷ us)) (codes "-->")))
+      ∙ (spaced (chars_of (c ∷ us) ++ codes "-->") ∙ (sym (ends_is (c ∷ us) closing rest h) ∙ g.0)),
+  goes_never us closing rest h g.1,
+)
 
 -- a text that never ends it goes on
 pub never_goes : (inner closing rest : List Cell) → chars_of closing ≡ codes "-->" → NeverEnds (chars_of inner) → GoesOn inner (closing ++ rest)

@@ -1,8 +1,7 @@
 -- What events that were read are like.
-use Rattle.std.proofs.Common.{◌≡◌, ◌≢◌, ℕ, Bool, true, false, not, ◌&&◌, ◌||◌, ◌==◌, nat_le, List, [], ◌∷◌, ◌++◌, map, refl, ap, ◌∙◌, sym, subst, arith}
-use Rattle.std.proofs.Math.Utf8.{scalar}
+use Rattle.std.proofs.Common.{◌≡◌, ◌≢◌, ℕ, Bool, true, false, not, ◌&&◌, ◌==◌, List, [], ◌∷◌, ◌++◌, map, refl, ap, ◌∙◌, sym, subst, arith}
 use Rattle.std.proofs.lemmas.Bool.Decides.{nat_tests}
-use Rattle.std.specs.Prelude.{⊤, codes, if◌then◌else◌}
+use Rattle.std.specs.Prelude.{⊤}
 use Rattle.std.specs.BTreeMap.{insert_entry}
 use Rattle.std.specs.List.{list_all}
 use Rattle.std.specs.Ordering.{match_ordering}
@@ -11,12 +10,12 @@ use Rattle.std.specs.declared.cmp.Ordering.TheVariants.{Less, Equal, Greater}
 use Rattle.ng_base.specs.Cells.{Cell}
 use Rattle.ng_base.specs.Order.{txt_cmp}
 use Rattle.ng_base.proofs.Binds.{if_held}
-use Rattle.ng_markup.specs.Tables.{is_left_out, is_raw}
+use Rattle.ng_markup.specs.Tables.{is_left_out}
 use Rattle.ng_markup.specs.Forest.{Attributes}
 use Rattle.ng_tags.specs.Letters.{is_letter, is_in_name, is_in_attribute, lower}
 use Rattle.ng_tags.specs.Attributes.{has_attribute, with_attribute}
 use Rattle.ng_tags.specs.Lexing.{as_space}
-use Rattle.ng_tags.specs.Spelling.{chars_of, Reads, itself, no_more, by_reference, ampersand, IsName, Valued, no_value, bare, quoted, IsAttribute, AreAttributes, ends_open, ends_closed, space_then, attribute_then, IsStartTag, IsRaw, IsTextOf, IsComment, Lexeme}
+use Rattle.ng_tags.specs.Spelling.{chars_of, Reads, itself, no_more, by_reference, ampersand, IsName, Valued, no_value, bare, quoted, IsAttribute, AreAttributes, ends_open, ends_closed, space_then, attribute_then, IsStartTag, IsRaw, IsComment, Lexeme}
 use Rattle.ng_tags.specs.declared.event.Event.{Event}
 use Rattle.ng_tags.specs.declared.event.Event.TheVariants as event
 use Rattle.ng_tags.specs.declared.event.Tag.{Tag}

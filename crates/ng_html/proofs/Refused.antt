@@ -1,11 +1,11 @@
 -- What is refused is wrong, and all before it is read.
-use Rattle.std.proofs.Common.{◌≡◌, ◌≤◌, ◌<◌, ℕ, zero, suc, ◌+◌, Bool, true, false, not, ◌&&◌, nat_lt, List, [], ◌∷◌, ◌++◌, length, refl, ap, ◌∙◌, sym, subst, arith, inl, inr, append_assoc}
+use Rattle.std.proofs.Common.{◌≡◌, ◌<◌, ℕ, zero, suc, Bool, true, false, not, ◌&&◌, nat_lt, List, [], ◌∷◌, ◌++◌, length, refl, ap, ◌∙◌, sym, subst, arith, inl, inr, append_assoc}
 use Rattle.std.proofs.lemmas.Bool.Decides.{nat_tests}
 use Rattle.std.proofs.lemmas.Slice.Eq.{bytes_eq-Decides}
-use Rattle.std.specs.Prelude.{Result, Ok, Err, Option, None, Some, if◌then◌else◌, ◌⊎◌, IfErr}
+use Rattle.std.specs.Prelude.{Result, Ok, Err, Option, None, Some, if◌then◌else◌, ◌⊎◌}
 use Rattle.std.specs.Str.{bytes_eq}
 use Rattle.ng_base.specs.Cells.{Cell}
-use Rattle.ng_base.specs.Meets.{◌>>=◌, Gives}
+use Rattle.ng_base.specs.Meets.{◌>>=◌}
 use Rattle.ng_base.proofs.Binds.{bind_err, chosen}
 use Rattle.ng_markup.specs.Tables.{is_void, is_omittable}
 use Rattle.ng_markup.specs.Forest.{Forest, element}
@@ -22,7 +22,7 @@ use Rattle.ng_html.specs.Building.{State, Around, open_limit, ended, take_event,
 use Rattle.ng_html.specs.Reading.{begin, reads, read_on, read_cells, cells_of, is_plain_text, sound_len, read_bytes}
 use Rattle.ng_html.specs.Standing.{Stands}
 use Rattle.ng_html.specs.Refusals.{WrittenBefore, left_open, CanEnd, CanFinish, IsWrongTag, IsWrongEvent, no_event, IsWrong, RefusesCells, Refuses}
-use Rattle.ng_html.proofs.Bytes.{Answer, no_answer, plain_of, of_plain, not_plain}
+use Rattle.ng_html.proofs.Bytes.{Answer, no_answer, plain_of, not_plain}
 use Rattle.ng_html.proofs.Lexed.{lexed_less, lexed_sound}
 use Rattle.ng_html.proofs.TreeSound.{take_stands, taken_whole}
 

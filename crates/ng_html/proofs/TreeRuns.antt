@@ -1,8 +1,8 @@
 -- What is spelled by events is built of them, for whatever goes over events one by one.
-use Rattle.std.proofs.Common.{◌≡◌, ◌≤◌, ◌<◌, ℕ, zero, suc, ◌+◌, ◌-◌, max, Bool, true, false, not, ◌||◌, ◌&&◌, nat_lt, List, [], ◌∷◌, ◌++◌, length, refl, ap, ◌∙◌, sym, subst, arith, inl, inr}
+use Rattle.std.proofs.Common.{◌≡◌, ◌≤◌, ◌<◌, ℕ, suc, ◌+◌, Bool, true, false, not, ◌&&◌, nat_lt, List, [], ◌∷◌, length, refl, ap, ◌∙◌, sym, subst, arith, inl, inr}
 use Rattle.std.proofs.lemmas.Bool.Decides.{nat_tests}
 use Rattle.std.proofs.lemmas.Slice.Eq.{bytes_eq-Decides}
-use Rattle.std.specs.Prelude.{Result, Ok, Err, Option, None, Some, if◌then◌else◌, ◌⊎◌}
+use Rattle.std.specs.Prelude.{Result, Ok, Err, if◌then◌else◌}
 use Rattle.std.specs.Str.{bytes_eq}
 use Rattle.ng_base.specs.Meets.{◌>>=◌}
 use Rattle.ng_base.proofs.Binds.{if_true, if_false}
@@ -11,11 +11,10 @@ use Rattle.ng_markup.specs.Forest.{Node, Forest, Attributes, element, text, comm
 use Rattle.ng_tags.specs.Free.{fault}
 use Rattle.ng_tags.specs.declared.event.Event.{Event}
 use Rattle.ng_tags.specs.declared.event.Event.TheVariants as event
-use Rattle.ng_tags.specs.declared.event.Tag.{Tag}
 use Rattle.ng_tags.specs.declared.fault.HtmlFault.{HtmlFault}
 use Rattle.ng_tags.specs.declared.fault.HtmlKind.TheVariants as kind
 use Rattle.ng_html.specs.Closing.{is_closing}
-use Rattle.ng_html.specs.Building.{State, Around, open_limit, ended, take_event, unharmed, admitted, opened, content, entered, entered_raw, shut_by, top_closed, close, finish_of, finished, with_leaf, empty}
+use Rattle.ng_html.specs.Building.{State, Around, open_limit, ended, take_event, admitted, opened, content, entered, entered_raw, shut_by, top_closed, close, finish_of, empty}
 use Rattle.ng_html.specs.Grammar.{MayFollow, Ends, IsInside, AllInside, tag, SpellsNode, SpellsForest, node_height, height}
 use Rattle.ng_html.specs.Running.{joined, run}
 use Rattle.ng_html.specs.Standing.{Stands}

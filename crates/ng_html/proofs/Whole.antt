@@ -1,9 +1,9 @@
 -- Reading is exactly the form.
-use Rattle.std.proofs.Common.{◌≡◌, ◌≤◌, ◌<◌, ℕ, zero, suc, ◌+◌, List, [], ◌∷◌, ◌++◌, length, refl, ap, ◌∙◌, sym, subst, arith, append_assoc, append-nil}
+use Rattle.std.proofs.Common.{◌≡◌, ◌<◌, ℕ, zero, suc, List, [], ◌∷◌, ◌++◌, length, refl, ap, ◌∙◌, sym, arith, append_assoc, append-nil}
 use Rattle.std.specs.Prelude.{Result, Ok, Err}
 use Rattle.std.specs.List.{flat_map}
 use Rattle.ng_base.specs.Cells.{Cell}
-use Rattle.ng_base.specs.Meets.{◌>>=◌, Gives}
+use Rattle.ng_base.specs.Meets.{◌>>=◌}
 use Rattle.ng_base.proofs.Binds.{bind_ok, guarded}
 use Rattle.ng_markup.specs.Forest.{Forest}
 use Rattle.ng_tags.specs.Free.{fault}
@@ -12,15 +12,10 @@ use Rattle.ng_tags.specs.Spelling.{Lexeme}
 use Rattle.ng_tags.specs.declared.event.Event.{Event}
 use Rattle.ng_tags.specs.declared.fault.HtmlFault.{HtmlFault}
 use Rattle.ng_tags.specs.declared.fault.HtmlKind.TheVariants as kind
-use Rattle.ng_html.specs.Free.{is_free}
-use Rattle.ng_html.specs.Building.{State, open_limit, take_event, finished, empty}
+use Rattle.ng_html.specs.Building.{State, take_event, finished, empty}
 use Rattle.ng_html.specs.Reading.{begin, reads, read_on, read_cells, cells_of, is_plain_text, sound_len, read_bytes}
 use Rattle.ng_html.specs.Running.{run}
-use Rattle.ng_html.specs.Grammar.{Written, Spelled, Html, SpellsForest, height}
-use Rattle.ng_html.specs.Laws.{Found, Only}
-use Rattle.ng_html.specs.Seen.{forest_of}
-use Rattle.ng_html.specs.TreeSeen.{source_of}
-use Rattle.ng_html.specs.declared.source.Source.{Source}
+use Rattle.ng_html.specs.Grammar.{Written, Spelled, Html}
 use Rattle.ng_html.proofs.Bytes.{Answer, plain_of, plain_read}
 use Rattle.ng_html.proofs.Lexed.{lexed_less, lexed_sound, lexed_complete, lexeme_some}
 use Rattle.ng_html.proofs.Turns.{read_event_on}

@@ -1,6 +1,6 @@
 -- Which events spell a forest, and which bytes spell a document.
-use Rattle.std.specs.Prelude.{◌≡◌, ◌≤◌, ◌⊎◌, ⊤, Bool, true, false, ℕ, suc, max, List, [], ◌∷◌, ◌++◌, length, Option, None, Ok}
-use Rattle.std.specs.List.{flat_map, list_all}
+use Rattle.std.specs.Prelude.{◌≡◌, ◌≤◌, ◌⊎◌, ⊤, Bool, true, false, ℕ, suc, max, List, [], ◌∷◌, ◌++◌, length, None, Ok}
+use Rattle.std.specs.List.{flat_map}
 use Rattle.std.specs.Str.{bytes_eq, IsUtf8}
 use Rattle.ng_base.specs.Cells.{Cell}
 use Rattle.ng_markup.specs.Tables.{is_void, is_omittable}

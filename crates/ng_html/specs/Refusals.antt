@@ -1,5 +1,5 @@
 -- What is refused, and where: all before is read, and what stands at the place cannot be.
-use Rattle.std.specs.Prelude.{◌≡◌, ◌≤◌, ◌<◌, ◌⊎◌, ⊤, Bool, true, false, not, ◌&&◌, ℕ, List, [], ◌∷◌, ◌++◌, length, Option, Some, Result, Ok, Err, if◌then◌else◌}
+use Rattle.std.specs.Prelude.{◌≡◌, ◌≤◌, ◌<◌, ◌⊎◌, ⊤, Bool, true, false, not, ◌&&◌, ℕ, List, [], ◌∷◌, ◌++◌, length, Some, Ok, Err, if◌then◌else◌}
 use Rattle.ng_base.specs.Cells.{Cell}
 use Rattle.ng_markup.specs.Tables.{is_void, is_omittable}
 use Rattle.ng_markup.specs.Forest.{Forest}

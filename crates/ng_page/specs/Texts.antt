@@ -11,7 +11,7 @@ use Rattle.ng_language.specs.declared.syntax.ParseFault.{ParseFault}
 use Rattle.ng_interp.specs.Cutting.{cuts_of}
 use Rattle.ng_interp.specs.declared.cutting.Cut.{Cut}
 use Rattle.ng_interp.specs.declared.cutting.Cut.TheVariants.{Words, Hole}
-use Rattle.ng_sites.specs.Now.{are_pure, all_filters_known}
+use Rattle.ng_view.specs.Purity.{are_pure, all_filters_known}
 use Rattle.ng_pages.specs.Parts.{Piece, word, hole}
 use Rattle.ng_page.specs.declared.fault.TplKind.{TplKind}
 use Rattle.ng_page.specs.declared.fault.TplKind.TheVariants.{Expression, UnknownFilter, Impure, Later}

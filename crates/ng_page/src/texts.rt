@@ -3,7 +3,7 @@ ghost use Rattle.std.specs.Prelude.{◌≡◌, ◌++◌, ◌∷◌, [], ◌<◌,
 ghost use Rattle.std.specs.List.{list_all, list_any};
 ghost use Rattle.ng_base.specs.declared.fault.Memory.TheVariants.{Refused};
 ghost use Rattle.ng_parse.specs.ProgramOf.{program};
-ghost use Rattle.ng_sites.specs.Now.{are_pure, all_filters_known};
+ghost use Rattle.ng_view.specs.Purity.{are_pure, all_filters_known};
 ghost use Rattle.ng_page.specs.Texts.{has_mark_from, has_mark as has_mark_in, begins_escape as begins_escape_of, has_escape as has_escape_in, is_once as is_once_of, is_later_text as is_later_text_of, program_of as program_spelled, programs_from, pieces_from, judged, judged_as, text_programs, text_read};
 ghost use Rattle.ng_page.specs.Free.{is_refused_tpl};
 ghost use Rattle.ng_page.specs.TemplateOf.{programs_of};
@@ -22,7 +22,7 @@ use ng_parse::once::one_time;
 use ng_parse::parsing::parse;
 use ng_parse::programs::Program;
 use ng_sites::Site;
-use ng_sites::site::{filters_known, is_pure};
+use ng_view::{filters_known, is_pure};
 use std::alloc::{AllocError, Global};
 
 /// Whether `{{` stands in a text.

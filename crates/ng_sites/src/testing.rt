@@ -23,20 +23,26 @@ use crate::engine::Engine;
 use crate::site::Site;
 use crate::watched::Watched;
 use ng_base::fault::{Fault, Memory};
+use ng_base::locals::Locals;
 use ng_base::name::Oid;
 use ng_base::txt::Txt;
 use ng_digest::log::{Log, Report};
 use ng_digest::rounds::{DigestFault, digest};
 use ng_digest::world::{Stage, Tested};
 use ng_store::store::Store;
+use ng_value::texts::show_text;
+use ng_view::view;
 use std::alloc::{AllocError, Global};
 
 /// The text of a hole's program over the root scope.
+#[tactic(auto, unfolding(crate::specs::Now::now))]
 fn shown_now(alloc: Global, store: &Store, root: Oid, watched: &Watched) -> Result<Txt, Fault>
     requires { root.0 < length store.now }
     ensures { Meets is_memory (now store.now root.0 (watched_of watched.now)) result }
 {
-    Ok(Txt::new(alloc))
+    let locals = Locals::new(alloc);
+    let value = view(alloc, store, root, &locals, &watched.program)?;
+    show_text(alloc, store, &value)
 }
 
 /// Whether a watcher has kept this text.

@@ -1,7 +1,6 @@
 //! A hole's program.
-ghost use Rattle.std.specs.Prelude.{◌≡◌, true};
 ghost use Rattle.ng_parse.specs.ProgramOf.{program as trees_of};
-ghost use Rattle.ng_sites.specs.Now.{are_pure, all_filters_known};
+ghost use Rattle.ng_view.specs.Purity.{ArePure, FiltersKnown};
 
 use ng_parse::programs::Program;
 
@@ -9,6 +8,6 @@ use ng_parse::programs::Program;
 #[derive(Drop)]
 pub struct Watched {
     pub(crate) program: Program,
-    ghost pure: { are_pure (trees_of program) ≡ true },
-    ghost known: { all_filters_known (trees_of program) ≡ true },
+    ghost pure: { ArePure (trees_of program) },
+    ghost known: { FiltersKnown (trees_of program) },
 }

@@ -115,5 +115,5 @@ attributes_less (suc k) total done f (c ∷ cs) =
     (either (c.0 == 47) (slash total done f c.1 cs) (if is_space c.0 then attributes_within k total done f cs else on) m (omega (arith, slash_less total done f c.1 cs))
     (either (is_space c.0) (attributes_within k total done f cs) on m (omega (arith, attributes_less k total done f cs))
     (way_less (attribute_at total c cs) (λ r. attributes_within k total (with_attribute done r.0 r.1.text) (met_first f r.1.fault) r.2) (λ g. broken done f g (c ∷ cs)) m (length cs) (attribute_less total c cs)
-      (λ r h. omega (arith, attributes_less k total (with_attribute done r.0 r.1.text) (met_first f r.1.fault) r.2))
-      (λ e. omega arith))))
+    (λ r h. omega (arith, attributes_less k total (with_attribute done r.0 r.1.text) (met_first f r.1.fault) r.2))
+    (λ e. omega arith))))

@@ -37,7 +37,7 @@ pub record Value (d : Decoded) (cs rest : List Cell) : Type 0 where
   pub valued : (vs : List Cell) → EqualsSign vs → Valued rest d.text (vs ++ us)
 
 quote_read : (total : ℕ) (u : Until) (q : Cell) (cs : List Cell) (d : Decoded) (rest : List Cell) (r : Decoded × List Cell) → IsQuote q.0 u → ((c : ℕ) (ds : List Cell) → ends u c ds ≡ true → c ≡ q.0) →
-  text_run u cs ≡ r → quoted total r ≡ Ok (d, rest) → d.fault ≡ None → Value d (q ∷ cs) rest
+    text_run u cs ≡ r → quoted total r ≡ Ok (d, rest) → d.fault ≡ None → Value d (q ∷ cs) rest
 quote_read total u q cs d rest (e, []) i k h g n = absurd (cc (g))
 quote_read total u q cs d rest (e, z ∷ zs) i k h g n =
     let same : e ≡ d = ap (read_in d) g in
@@ -88,11 +88,11 @@ bare_read c cs d rest (e, []) b h g n =
     bare_end c cs d rest (e, []) b h (ap (λ (x : Decoded). let p : Decoded × List Cell = (x, []) in p) same ∙ ap (λ (xs : List Cell). let p : Decoded × List Cell = (d, xs) in p) left) (subst (BeginsNot (λ x. x == 96)) left tt) n
 bare_read c cs d rest (e, z ∷ zs) b h g n =
     elim (chosen (z.0 == 96) (Err (met_or e.fault (fault kind.BadAttr z.1))) (Ok (e, z ∷ zs)) (Ok (d, rest)) g) [
-      inl k ↦ absurd (cc (k.1))
-    | inr k ↦
-        let same : e ≡ d = ap (read_in d) k.1 in
-        let left : z ∷ zs ≡ rest = ap left_in k.1 in
-        bare_end c cs d rest (e, z ∷ zs) b h (ap (λ (x : Decoded). let p : Decoded × List Cell = (x, z ∷ zs) in p) same ∙ ap (λ (xs : List Cell). let p : Decoded × List Cell = (d, xs) in p) left) (subst (BeginsNot (λ x. x == 96)) left k.0) n
+      | inl k ↦ absurd (cc (k.1))
+      | inr k ↦
+          let same : e ≡ d = ap (read_in d) k.1 in
+          let left : z ∷ zs ≡ rest = ap left_in k.1 in
+          bare_end c cs d rest (e, z ∷ zs) b h (ap (λ (x : Decoded). let p : Decoded × List Cell = (x, z ∷ zs) in p) same ∙ ap (λ (xs : List Cell). let p : Decoded × List Cell = (d, xs) in p) left) (subst (BeginsNot (λ x. x == 96)) left k.0) n
     ]
 
 value_read : (total : ℕ) (cs : List Cell) (d : Decoded) (rest : List Cell) → value_at total cs ≡ Ok (d, rest) → d.fault ≡ None → Value d cs rest
@@ -103,10 +103,10 @@ value_read total (c ∷ cs) d rest h n =
     let bare = unquoted (text_run until.Space (c ∷ cs)) in
     let bad : ValueRead = Err (fault kind.BadAttr c.1) in
     elim (chosen (c.0 == 34) double (if c.0 == 39 then single else if is_bare c.0 then bare else bad) (Ok (d, rest)) h) [
-      inl g ↦ let q = is_code c.0 34 g.0 in quote_read total until.Double c cs d rest (text_run until.Double cs) (inl (q, refl)) (double_ends c.0 q) refl g.1 n
-    | inr g ↦ elim (chosen (c.0 == 39) single (if is_bare c.0 then bare else bad) (Ok (d, rest)) g.1) [
-        inl k ↦ let q = is_code c.0 39 k.0 in quote_read total until.Single c cs d rest (text_run until.Single cs) (inr (q, refl)) (single_ends c.0 q) refl k.1 n
-      | inr k ↦ let b = guarded (is_bare c.0) bare (fault kind.BadAttr c.1) (d, rest) k.1 in bare_read c cs d rest (text_run until.Space (c ∷ cs)) b.0 refl b.1 n
+      | inl g ↦ let q = is_code c.0 34 g.0 in quote_read total until.Double c cs d rest (text_run until.Double cs) (inl (q, refl)) (double_ends c.0 q) refl g.1 n
+      | inr g ↦ elim (chosen (c.0 == 39) single (if is_bare c.0 then bare else bad) (Ok (d, rest)) g.1) [
+        | inl k ↦ let q = is_code c.0 39 k.0 in quote_read total until.Single c cs d rest (text_run until.Single cs) (inr (q, refl)) (single_ends c.0 q) refl k.1 n
+        | inr k ↦ let b = guarded (is_bare c.0) bare (fault kind.BadAttr c.1) (d, rest) k.1 in bare_read c cs d rest (text_run until.Space (c ∷ cs)) b.0 refl b.1 n
       ]
     ]
 
@@ -127,15 +127,15 @@ behind_read : (total : ℕ) (s cs : List Cell) (d : Decoded) (rest : List Cell) 
 behind_read total s [] d rest a b h n = no_value_read s [] rest d a (ap (read_in d) h) (ap left_in h) tt
 behind_read total s (c ∷ cs) d rest a b h n =
     elim (chosen (c.0 == 61) (value_at total (past_spaces cs)) (Ok (no_text, c ∷ cs)) (Ok (d, rest)) h) [
-      inl g ↦
-        let p = spaces_are cs (past_spaces cs) refl in
-        let v = value_read total (past_spaces cs) d rest g.1 n in
-        record {
-          us = (s ++ c ∷ p.s) ++ v.us;
-          whole = ap (λ xs. s ++ c ∷ xs) (p.whole ∙ ap (λ xs. p.s ++ xs) v.whole) ∙ (ap (λ xs. s ++ c ∷ xs) (sym (append_assoc p.s v.us rest)) ∙ (sym (append_assoc s (c ∷ (p.s ++ v.us)) rest) ∙ ap (λ xs. xs ++ rest) (sym (append_assoc s (c ∷ p.s) v.us))));
-          valued = v.valued (s ++ c ∷ p.s) (record { before = s; sign = c; behind = p.s; whole = refl; spaces_before = a; is_sign = is_code c.0 61 g.0; spaces_behind = p.are });
-        }
-    | inr g ↦ no_value_read s (c ∷ cs) rest d a (ap (read_in d) g.1) (ap left_in g.1) (none (c.0 == 61) (is_space c.0) g.0 b)
+      | inl g ↦
+          let p = spaces_are cs (past_spaces cs) refl in
+          let v = value_read total (past_spaces cs) d rest g.1 n in
+          record {
+            us = (s ++ c ∷ p.s) ++ v.us;
+            whole = ap (λ xs. s ++ c ∷ xs) (p.whole ∙ ap (λ xs. p.s ++ xs) v.whole) ∙ (ap (λ xs. s ++ c ∷ xs) (sym (append_assoc p.s v.us rest)) ∙ (sym (append_assoc s (c ∷ (p.s ++ v.us)) rest) ∙ ap (λ xs. xs ++ rest) (sym (append_assoc s (c ∷ p.s) v.us))));
+            valued = v.valued (s ++ c ∷ p.s) (record { before = s; sign = c; behind = p.s; whole = refl; spaces_before = a; is_sign = is_code c.0 61 g.0; spaces_behind = p.are });
+          }
+      | inr g ↦ no_value_read s (c ∷ cs) rest d a (ap (read_in d) g.1) (ap left_in g.1) (none (c.0 == 61) (is_space c.0) g.0 b)
     ]
 
 -- an attribute at the front
@@ -205,15 +205,15 @@ slash_read : (total : ℕ) (done : Attributes) (f : Option HtmlFault) (c : Cell)
 slash_read total done f c [] i rest k h n = was_broken done f (fault kind.Unclosed total) [] i rest h n
 slash_read total done f c (z ∷ cs) i rest k h n =
     elim (chosen (z.0 == 62) (inside done true f, cs) (broken done f (fault kind.BadAttr c.1) (z ∷ cs)) (i, rest) h) [
-      inl g ↦
-        let e : inside done true f ≡ i = ap (λ (p : Inside × List Cell). p.0) g.1 in
-        record {
-          us = c ∷ z ∷ [];
-          whole = ap (λ (p : Inside × List Cell). c ∷ z ∷ p.1) g.1;
-          are = subst (λ (j : Inside). AreAttributes rest done (c ∷ z ∷ []) j.attrs j.closed) e (ends_closed done c z k (is_code z.0 62 g.0));
-          no_fault = ap (λ (j : Inside). j.fault) e ∙ n;
-        }
-    | inr g ↦ was_broken done f (fault kind.BadAttr c.1) (z ∷ cs) i rest g.1 n
+      | inl g ↦
+          let e : inside done true f ≡ i = ap (λ (p : Inside × List Cell). p.0) g.1 in
+          record {
+            us = c ∷ z ∷ [];
+            whole = ap (λ (p : Inside × List Cell). c ∷ z ∷ p.1) g.1;
+            are = subst (λ (j : Inside). AreAttributes rest done (c ∷ z ∷ []) j.attrs j.closed) e (ends_closed done c z k (is_code z.0 62 g.0));
+            no_fault = ap (λ (j : Inside). j.fault) e ∙ n;
+          }
+      | inr g ↦ was_broken done f (fault kind.BadAttr c.1) (z ∷ cs) i rest g.1 n
     ]
 
 first_none : (f g : Option HtmlFault) → met_first f g ≡ None → (f ≡ None) × (g ≡ None)
@@ -224,7 +224,7 @@ abbrev AllAttributed : ℕ → ℕ → Type 0
 AllAttributed k total = (done : Attributes) (f : Option HtmlFault) (cs : List Cell) (i : Inside) (rest : List Cell) → length cs < k → attributes_within k total done f cs ≡ (i, rest) → i.fault ≡ None → Attributed done f i cs rest
 
 one_attributed : (k total : ℕ) (done : Attributes) (f : Option HtmlFault) (c : Cell) (cs : List Cell) (i : Inside) (rest : List Cell) (x : AttributeRead) → AllAttributed k total → length cs < k →
-  attribute_at total c cs ≡ x → go_on k total done f c cs x ≡ (i, rest) → i.fault ≡ None → Attributed done f i (c ∷ cs) rest
+    attribute_at total c cs ≡ x → go_on k total done f c cs x ≡ (i, rest) → i.fault ≡ None → Attributed done f i (c ∷ cs) rest
 one_attributed k total done f c cs i rest (Err g) ih l e h n = was_broken done f g (c ∷ cs) i rest h n
 one_attributed k total done f c cs i rest (Ok r) ih l e h n =
     let less = attribute_left total c cs r e in
@@ -244,21 +244,21 @@ all_attributed (suc k) total done f [] i rest l h n = was_broken done f (fault k
 all_attributed (suc k) total done f (c ∷ cs) i rest l h n =
     let on = go_on k total done f c cs (attribute_at total c cs) in
     elim (chosen (c.0 == 62) (inside done false f, cs) (if c.0 == 47 then slash total done f c.1 cs else if is_space c.0 then attributes_within k total done f cs else on) (i, rest) h) [
-      inl g ↦
-        let e : inside done false f ≡ i = ap (λ (p : Inside × List Cell). p.0) g.1 in
-        record {
-          us = c ∷ [];
-          whole = ap (λ (p : Inside × List Cell). c ∷ p.1) g.1;
-          are = subst (λ (j : Inside). AreAttributes rest done (c ∷ []) j.attrs j.closed) e (ends_open done c (is_code c.0 62 g.0));
-          no_fault = ap (λ (j : Inside). j.fault) e ∙ n;
-        }
-    | inr g ↦ elim (chosen (c.0 == 47) (slash total done f c.1 cs) (if is_space c.0 then attributes_within k total done f cs else on) (i, rest) g.1) [
-        inl s ↦ slash_read total done f c cs i rest (is_code c.0 47 s.0) s.1 n
-      | inr s ↦ elim (chosen (is_space c.0) (attributes_within k total done f cs) on (i, rest) s.1) [
-          inl w ↦
-            let m = all_attributed k total done f cs i rest (omega arith) w.1 n in
-            record { us = c ∷ m.us; whole = ap (λ xs. c ∷ xs) m.whole; are = space_then done i.attrs i.closed c m.us w.0 m.are; no_fault = m.no_fault }
-        | inr w ↦ one_attributed k total done f c cs i rest (attribute_at total c cs) (all_attributed k total) (omega arith) refl w.1 n
+      | inl g ↦
+          let e : inside done false f ≡ i = ap (λ (p : Inside × List Cell). p.0) g.1 in
+          record {
+            us = c ∷ [];
+            whole = ap (λ (p : Inside × List Cell). c ∷ p.1) g.1;
+            are = subst (λ (j : Inside). AreAttributes rest done (c ∷ []) j.attrs j.closed) e (ends_open done c (is_code c.0 62 g.0));
+            no_fault = ap (λ (j : Inside). j.fault) e ∙ n;
+          }
+      | inr g ↦ elim (chosen (c.0 == 47) (slash total done f c.1 cs) (if is_space c.0 then attributes_within k total done f cs else on) (i, rest) g.1) [
+        | inl s ↦ slash_read total done f c cs i rest (is_code c.0 47 s.0) s.1 n
+        | inr s ↦ elim (chosen (is_space c.0) (attributes_within k total done f cs) on (i, rest) s.1) [
+          | inl w ↦
+              let m = all_attributed k total done f cs i rest (omega arith) w.1 n in
+              record { us = c ∷ m.us; whole = ap (λ xs. c ∷ xs) m.whole; are = space_then done i.attrs i.closed c m.us w.0 m.are; no_fault = m.no_fault }
+          | inr w ↦ one_attributed k total done f c cs i rest (attribute_at total c cs) (all_attributed k total) (omega arith) refl w.1 n
         ]
       ]
     ]

@@ -38,17 +38,17 @@ same_room (suc k) (suc j) total done f (c ∷ cs) h i =
     let x = attribute_at total c cs in
     let less = attribute_less total c cs in
     same_if (c.0 == 62) (inside done false f, cs)
-      (if c.0 == 47 then slash total done f c.1 cs else if is_space c.0 then attributes_within k total done f cs else go_on k total done f c cs x)
-      (if c.0 == 47 then slash total done f c.1 cs else if is_space c.0 then attributes_within j total done f cs else go_on j total done f c cs x)
+    (if c.0 == 47 then slash total done f c.1 cs else if is_space c.0 then attributes_within k total done f cs else go_on k total done f c cs x)
+    (if c.0 == 47 then slash total done f c.1 cs else if is_space c.0 then attributes_within j total done f cs else go_on j total done f c cs x)
     (λ e. same_if (c.0 == 47) (slash total done f c.1 cs) (if is_space c.0 then attributes_within k total done f cs else go_on k total done f c cs x) (if is_space c.0 then attributes_within j total done f cs else go_on j total done f c cs x)
     (λ e2. both_ifs (is_space c.0) (attributes_within k total done f cs) (go_on k total done f c cs x) (attributes_within j total done f cs) (go_on j total done f c cs x)
-      (same_room k j total done f cs (omega arith) (omega arith))
-      (same_way x (λ r. attributes_within k total (with_attribute done r.0 r.1.text) (met_first f r.1.fault) r.2) (λ r. attributes_within j total (with_attribute done r.0 r.1.text) (met_first f r.1.fault) r.2) (λ g. broken done f g (c ∷ cs))
-        (λ r e3. let l : length r.2 ≤ length cs = left_of x r (length cs) less e3 in same_room k j total (with_attribute done r.0 r.1.text) (met_first f r.1.fault) r.2 (omega arith) (omega arith)))))
+    (same_room k j total done f cs (omega arith) (omega arith))
+    (same_way x (λ r. attributes_within k total (with_attribute done r.0 r.1.text) (met_first f r.1.fault) r.2) (λ r. attributes_within j total (with_attribute done r.0 r.1.text) (met_first f r.1.fault) r.2) (λ g. broken done f g (c ∷ cs))
+    (λ r e3. let l : length r.2 ≤ length cs = left_of x r (length cs) less e3 in same_room k j total (with_attribute done r.0 r.1.text) (met_first f r.1.fault) r.2 (omega arith) (omega arith)))))
 
 -- what stands behind no sign and no white space
 pub attribute_here : (total : ℕ) (done : Attributes) (f : Option HtmlFault) (c : Cell) (cs : List Cell) → (c.0 == 62) ≡ false → (c.0 == 47) ≡ false → is_space c.0 ≡ false →
-  attributes_from total done f (c ∷ cs) ≡ go_on (suc (length cs)) total done f c cs (attribute_at total c cs)
+    attributes_from total done f (c ∷ cs) ≡ go_on (suc (length cs)) total done f c cs (attribute_at total c cs)
 attribute_here total done f c cs h i j =
     let k = suc (length cs) in
     let on = go_on k total done f c cs (attribute_at total c cs) in
@@ -57,7 +57,7 @@ attribute_here total done f c cs h i j =
     ∙ if_false (is_space c.0) (attributes_within k total done f cs) on j)
 
 pub attribute_on : (total : ℕ) (done : Attributes) (f : Option HtmlFault) (c : Cell) (cs : List Cell) (n : List ℕ) (d : Decoded) (rest : List Cell) → (c.0 == 62) ≡ false → (c.0 == 47) ≡ false → is_space c.0 ≡ false →
-  attribute_at total c cs ≡ Ok (n, d, rest) → attributes_from total done f (c ∷ cs) ≡ attributes_from total (with_attribute done n d.text) (met_first f d.fault) rest
+    attribute_at total c cs ≡ Ok (n, d, rest) → attributes_from total done f (c ∷ cs) ≡ attributes_from total (with_attribute done n d.text) (met_first f d.fault) rest
 attribute_on total done f c cs n d rest h i j e =
     let l : length rest ≤ length cs = left_of (attribute_at total c cs) (n, d, rest) (length cs) (attribute_less total c cs) e in
     attribute_here total done f c cs h i j
@@ -65,7 +65,7 @@ attribute_on total done f c cs n d rest h i j e =
     ∙ same_room (suc (length cs)) (suc (length rest)) total (with_attribute done n d.text) (met_first f d.fault) rest (omega arith) (omega arith))
 
 pub attribute_err : (total : ℕ) (done : Attributes) (f : Option HtmlFault) (c : Cell) (cs : List Cell) (g : HtmlFault) → (c.0 == 62) ≡ false → (c.0 == 47) ≡ false → is_space c.0 ≡ false →
-  attribute_at total c cs ≡ Err g → attributes_from total done f (c ∷ cs) ≡ broken done f g (c ∷ cs)
+    attribute_at total c cs ≡ Err g → attributes_from total done f (c ∷ cs) ≡ broken done f g (c ∷ cs)
 attribute_err total done f c cs g h i j e = attribute_here total done f c cs h i j ∙ ap (go_on (suc (length cs)) total done f c cs) e
 
 pub attribute_left : (total : ℕ) (c : Cell) (cs : List Cell) (r : List ℕ × Decoded × List Cell) → attribute_at total c cs ≡ Ok r → length r.2 ≤ length cs

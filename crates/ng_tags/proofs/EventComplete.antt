@@ -31,13 +31,13 @@ pub record LexRead (total : ℕ) (e : Event) (us rest : List Cell) : Type 0 wher
   pub whole : us ++ rest ≡ first ∷ more
   pub read : event_at total first more ≡ Ok (e, rest)
 
-begins_letter : (c : ℕ) → is_letter c ≡ true → begins_tag c ≡ true
+pub begins_letter : (c : ℕ) → is_letter c ≡ true → begins_tag c ≡ true
 begins_letter c h = grind (arith, nat_tests)
 
-begins_slash : (c : ℕ) → c ≡ 47 → begins_tag c ≡ true
+pub begins_slash : (c : ℕ) → c ≡ 47 → begins_tag c ≡ true
 begins_slash c h = subst (λ (n : ℕ). begins_tag n ≡ true) (sym h) refl
 
-begins_mark : (c : ℕ) → c ≡ 33 → begins_tag c ≡ true
+pub begins_mark : (c : ℕ) → c ≡ 33 → begins_tag c ≡ true
 begins_mark c h = subst (λ (n : ℕ). begins_tag n ≡ true) (sym h) refl
 
 slash_no_letter : (c : ℕ) → c ≡ 47 → is_letter c ≡ false
@@ -49,22 +49,22 @@ mark_no_letter c h = subst (λ (n : ℕ). is_letter n ≡ false) (sym h) refl
 mark_no_slash : (c : ℕ) → c ≡ 33 → (c == 47) ≡ false
 mark_no_slash c h = subst (λ (n : ℕ). (n == 47) ≡ false) (sym h) refl
 
-markup_on : (total : ℕ) (a b : Cell) (cs : List Cell) → a.0 ≡ 60 → begins_tag b.0 ≡ true → event_at total a (b ∷ cs) ≡ markup total a.1 (b ∷ cs)
+pub markup_on : (total : ℕ) (a b : Cell) (cs : List Cell) → a.0 ≡ 60 → begins_tag b.0 ≡ true → event_at total a (b ∷ cs) ≡ markup total a.1 (b ∷ cs)
 markup_on total a b cs h i =
     if_true (a.0 == 60 && begins_tag b.0) (markup total a.1 (b ∷ cs)) (text_event a.1 (text_behind a.1 (character a.0 (b ∷ cs)))) (both (a.0 == 60) (begins_tag b.0) (code_is a.0 60 h) i)
 
-abbrev other : ℕ → ℕ → Cell → List Cell → Result (Event × List Cell) HtmlFault
+abbrev pub other : ℕ → ℕ → Cell → List Cell → Result (Event × List Cell) HtmlFault
 other total p c cs = if c.0 == 33 then comment total p (past_word (codes "--") cs) else Err (fault kind.BadTag p)
 
-letter_on : (total p : ℕ) (c : Cell) (cs : List Cell) → is_letter c.0 ≡ true → markup total p (c ∷ cs) ≡ start_tag total p (name_run (lower c.0 ∷ []) cs)
+pub letter_on : (total p : ℕ) (c : Cell) (cs : List Cell) → is_letter c.0 ≡ true → markup total p (c ∷ cs) ≡ start_tag total p (name_run (lower c.0 ∷ []) cs)
 letter_on total p c cs h = if_true (is_letter c.0) (start_tag total p (name_run (lower c.0 ∷ []) cs)) (if c.0 == 47 then end_tag total p cs else other total p c cs) h
 
-slash_on : (total p : ℕ) (c : Cell) (cs : List Cell) → c.0 ≡ 47 → markup total p (c ∷ cs) ≡ end_tag total p cs
+pub slash_on : (total p : ℕ) (c : Cell) (cs : List Cell) → c.0 ≡ 47 → markup total p (c ∷ cs) ≡ end_tag total p cs
 slash_on total p c cs h =
     if_false (is_letter c.0) (start_tag total p (name_run (lower c.0 ∷ []) cs)) (if c.0 == 47 then end_tag total p cs else other total p c cs) (slash_no_letter c.0 h)
     ∙ if_true (c.0 == 47) (end_tag total p cs) (other total p c cs) (code_is c.0 47 h)
 
-mark_on : (total p : ℕ) (c : Cell) (cs : List Cell) → c.0 ≡ 33 → markup total p (c ∷ cs) ≡ comment total p (past_word (codes "--") cs)
+pub mark_on : (total p : ℕ) (c : Cell) (cs : List Cell) → c.0 ≡ 33 → markup total p (c ∷ cs) ≡ comment total p (past_word (codes "--") cs)
 mark_on total p c cs h =
     if_false (is_letter c.0) (start_tag total p (name_run (lower c.0 ∷ []) cs)) (if c.0 == 47 then end_tag total p cs else other total p c cs) (mark_no_letter c.0 h)
     ∙ (if_false (c.0 == 47) (end_tag total p cs) (other total p c cs) (mark_no_slash c.0 h)
@@ -88,12 +88,15 @@ tagged total t us rest e left s h =
     let a = s.first in
     let cs = n.w ++ (s.inside ++ rest) in
     let whole : us ++ rest ≡ a ∷ n.c ∷ cs =
-      ap (λ xs. xs ++ rest) s.whole ∙ (ap (λ xs. a ∷ xs) (append_assoc s.name s.inside rest) ∙ ap (λ xs. a ∷ (xs ++ (s.inside ++ rest))) n.whole) in
-    (a, n.c ∷ cs, whole,
+    ap (λ xs. xs ++ rest) s.whole ∙ (ap (λ xs. a ∷ xs) (append_assoc s.name s.inside rest) ∙ ap (λ xs. a ∷ (xs ++ (s.inside ++ rest))) n.whole) in (
+      a,
+      n.c ∷ cs,
+      whole,
       markup_on total a n.c cs s.sign (begins_letter n.c.0 n.is_one)
-      ∙ (letter_on total a.1 n.c cs n.is_one
-      ∙ (tag_on total t us rest s n.c n.w n.whole
-      ∙ ap (λ (r : Event × List Cell). let q : Result (Event × List Cell) HtmlFault = Ok r in q) h)))
+          ∙ (letter_on total a.1 n.c cs n.is_one
+          ∙ (tag_on total t us rest s n.c n.w n.whole
+          ∙ ap (λ (r : Event × List Cell). let q : Result (Event × List Cell) HtmlFault = Ok r in q) h)),
+    )
 
 start_read : (total : ℕ) (t : Tag) (us rest : List Cell) → IsStart t us rest → LexRead total (event.Start t) us rest
 start_read total t us rest s =
@@ -118,11 +121,11 @@ end_read total n p us rest l =
       more = e.second ∷ cs;
       whole = end_cells n p us rest e ∙ ap (λ xs. e.first ∷ e.second ∷ (xs ++ more)) m.whole;
       read = markup_on total e.first e.second cs e.sign (begins_slash e.second.0 e.slash)
-        ∙ (slash_on total e.first.1 e.second cs e.slash ∙ end_tag_on total n p us rest e l.1 m.c m.w m.whole);
+          ∙ (slash_on total e.first.1 e.second cs e.slash ∙ end_tag_on total n p us rest e l.1 m.c m.w m.whole);
     }
 
 -- a word of signs at the front
-word_on : (w : List ℕ) (us cs : List Cell) → chars_of us ≡ w → map lower w ≡ w → past_word w (us ++ cs) ≡ Some cs
+pub word_on : (w : List ℕ) (us cs : List Cell) → chars_of us ≡ w → map lower w ≡ w → past_word w (us ++ cs) ≡ Some cs
 word_on [] [] cs h k = refl
 word_on [] (c ∷ us) cs h k = absurd (cc (h))
 word_on (x ∷ w) [] cs h k = absurd (cc (h))
@@ -161,21 +164,21 @@ comment_read total t p us rest s =
     let cs = o.ds ++ (s.inner ++ zs) in
     let close : past_word (codes "-->") zs ≡ Some rest = word_on (codes "-->") s.closing rest s.closes refl in
     let whole : us ++ rest ≡ a ∷ o.b ∷ cs =
-      ap (λ xs. xs ++ rest) s.whole
-      ∙ (ap (λ xs. a ∷ xs) (append_assoc s.opening (s.inner ++ s.closing) rest)
-      ∙ (ap (λ xs. a ∷ (s.opening ++ xs)) (append_assoc s.inner s.closing rest)
-      ∙ ap (λ xs. a ∷ (xs ++ (s.inner ++ zs))) o.whole)) in
+    ap (λ xs. xs ++ rest) s.whole
+    ∙ (ap (λ xs. a ∷ xs) (append_assoc s.opening (s.inner ++ s.closing) rest)
+    ∙ (ap (λ xs. a ∷ (s.opening ++ xs)) (append_assoc s.inner s.closing rest)
+    ∙ ap (λ xs. a ∷ (xs ++ (s.inner ++ zs))) o.whole)) in
     record {
       first = a;
       more = o.b ∷ cs;
       whole = whole;
       read = markup_on total a o.b cs s.sign (begins_mark o.b.0 o.mark)
-        ∙ (mark_on total a.1 o.b cs o.mark
-        ∙ (ap (comment total a.1) (word_on (codes "--") o.ds (s.inner ++ zs) o.dashes refl)
-        ∙ (ap (comment_from total a.1) (comment_run_on [] s.inner zs s.goes_on (ap is_some close))
-        ∙ (ap (comment_with total a.1 (map as_space (chars_of s.inner))) close
-        ∙ (ap (λ (m : List ℕ). let q : Result (Event × List Cell) HtmlFault = Ok (event.Comment m a.1, rest) in q) (sym s.reads)
-        ∙ ap (λ (m : ℕ). let q : Result (Event × List Cell) HtmlFault = Ok (event.Comment t m, rest) in q) s.place)))));
+          ∙ (mark_on total a.1 o.b cs o.mark
+          ∙ (ap (comment total a.1) (word_on (codes "--") o.ds (s.inner ++ zs) o.dashes refl)
+          ∙ (ap (comment_from total a.1) (comment_run_on [] s.inner zs s.goes_on (ap is_some close))
+          ∙ (ap (comment_with total a.1 (map as_space (chars_of s.inner))) close
+          ∙ (ap (λ (m : List ℕ). let q : Result (Event × List Cell) HtmlFault = Ok (event.Comment m a.1, rest) in q) (sym s.reads)
+          ∙ ap (λ (m : ℕ). let q : Result (Event × List Cell) HtmlFault = Ok (event.Comment t m, rest) in q) s.place)))));
     }
 
 -- no tag begins with the first character of a text
@@ -204,8 +207,8 @@ text_read total t p us rest s =
       more = cs;
       whole = whole;
       read = if_false (a.0 == 60 && tag_follows cs) (markup total a.1 cs) (text_event a.1 d) n
-        ∙ (ap (text_event a.1) (sym (text_on until.Tag no_text a cs n) ∙ (ap (text_run until.Tag) (sym whole) ∙ reads_run until.Tag us rest t s.reads s.ended))
-        ∙ ap (λ (m : ℕ). let q : Result (Event × List Cell) HtmlFault = Ok (event.Text t m, rest) in q) s.place);
+          ∙ (ap (text_event a.1) (sym (text_on until.Tag no_text a cs n) ∙ (ap (text_run until.Tag) (sym whole) ∙ reads_run until.Tag us rest t s.reads s.ended))
+          ∙ ap (λ (m : ℕ). let q : Result (Event × List Cell) HtmlFault = Ok (event.Text t m, rest) in q) s.place);
     }
 
 lexeme_read : (total : ℕ) (e : Event) (us rest : List Cell) → Lexeme e us rest → LexRead total e us rest

@@ -68,7 +68,7 @@ start_less total p r =
     let good : Result (Event × List Cell) HtmlFault = Ok (start_with total p r.0 i) in
     either_ok (is_left_out r.0) bad (if may_follow_name r.1 then good else bad) (length r.1) tt
     (either_ok (may_follow_name r.1) good bad (length r.1)
-      (omega (arith, attributes_less (suc (length r.1)) total [] None r.1, started_less total (tag_of r.0 p i.0) i.1)) tt)
+    (omega (arith, attributes_less (suc (length r.1)) total [] None r.1, started_less total (tag_of r.0 p i.0) i.1)) tt)
 
 tag_end_less : (total p : ℕ) (n : List ℕ) (cs : List Cell) → LeftOk (end_tag_end total p n cs) (length cs)
 tag_end_less total p n [] = tt
@@ -127,8 +127,8 @@ markup_less total p (c ∷ cs) =
     either_ok (is_letter c.0) (start_tag total p r) (if c.0 == 47 then end_tag total p cs else if c.0 == 33 then note else bad) m
     (more_ok (start_tag total p r) (length r.1) m (start_less total p r) (omega (arith, name_less (lower c.0 ∷ []) cs)))
     (either_ok (c.0 == 47) (end_tag total p cs) (if c.0 == 33 then note else bad) m
-      (more_ok (end_tag total p cs) (length cs) m (end_tag_less total p cs) (omega arith))
-      (either_ok (c.0 == 33) note bad m (comment_less total p (past_word (codes "--") cs) m (more_word (past_word (codes "--") cs) (length cs) m (word_less (codes "--") cs) (omega arith))) tt))
+    (more_ok (end_tag total p cs) (length cs) m (end_tag_less total p cs) (omega arith))
+    (either_ok (c.0 == 33) note bad m (comment_less total p (past_word (codes "--") cs) m (more_word (past_word (codes "--") cs) (length cs) m (word_less (codes "--") cs) (omega arith))) tt))
 
 text_or_less : (p : ℕ) (t : List ℕ) (f : Option HtmlFault) (rest : List Cell) (m : ℕ) → length rest ≤ m → LeftOk (text_or p t f rest) m
 text_or_less p t None rest m h = h

@@ -35,11 +35,11 @@ word_is [] cs rest h = let e : cs ≡ rest = cc (h) in record { us = []; whole =
 word_is (x ∷ w) [] rest h = absurd (cc (h))
 word_is (x ∷ w) (c ∷ cs) rest h =
     elim (chosen (lower c.0 == x) (past_word w cs) None (Some rest) h) [
-      inl g ↦
-        let r = word_is w cs rest g.1 in
-        let same : lower c.0 ≡ x = is_code (lower c.0) x g.0 in
-        record { us = c ∷ r.us; whole = ap (λ xs. c ∷ xs) r.whole; reads = ap (λ (n : ℕ). n ∷ map lower (chars_of r.us)) same ∙ ap (λ (ns : List ℕ). x ∷ ns) r.reads }
-    | inr g ↦ absurd (cc (g.1))
+      | inl g ↦
+          let r = word_is w cs rest g.1 in
+          let same : lower c.0 ≡ x = is_code (lower c.0) x g.0 in
+          record { us = c ∷ r.us; whole = ap (λ xs. c ∷ xs) r.whole; reads = ap (λ (n : ℕ). n ∷ map lower (chars_of r.us)) same ∙ ap (λ (ns : List ℕ). x ∷ ns) r.reads }
+      | inr g ↦ absurd (cc (g.1))
     ]
 
 -- no small letter
@@ -60,21 +60,21 @@ signs_are (c ∷ us) (d ∷ w) h i =
     ap (λ (n : ℕ). n ∷ us) (sign_is c d first b.0) ∙ ap (λ (ns : List ℕ). d ∷ ns) (signs_are us w more b.1)
 
 -- the text of a comment
-record Commented (s t : List ℕ) (cs rest : List Cell) : Type 0 where
-  w : List Cell
-  whole : cs ≡ w ++ rest
-  reads : t ≡ s ++ map as_space (chars_of w)
-  goes_on : GoesOn w rest
+pub record Commented (s t : List ℕ) (cs rest : List Cell) : Type 0 where
+  pub w : List Cell
+  pub whole : cs ≡ w ++ rest
+  pub reads : t ≡ s ++ map as_space (chars_of w)
+  pub goes_on : GoesOn w rest
 
-comment_runs : (s t : List ℕ) (cs rest : List Cell) → comment_run s cs ≡ (t, rest) → Commented s t cs rest
+pub comment_runs : (s t : List ℕ) (cs rest : List Cell) → comment_run s cs ≡ (t, rest) → Commented s t cs rest
 comment_runs s t [] rest h = record { w = []; whole = ap (λ (r : List ℕ × List Cell). r.1) h; reads = sym (ap (λ (r : List ℕ × List Cell). r.0) h) ∙ sym (append-nil s); goes_on = tt }
 comment_runs s t (c ∷ cs) rest h =
     elim (chosen (ends_comment (c ∷ cs)) (s, c ∷ cs) (comment_run (s ++ as_space c.0 ∷ []) cs) (t, rest) h) [
-      inl g ↦ record { w = []; whole = ap (λ (r : List ℕ × List Cell). r.1) g.1; reads = sym (ap (λ (r : List ℕ × List Cell). r.0) g.1) ∙ sym (append-nil s); goes_on = tt }
-    | inr g ↦
-        let r = comment_runs (s ++ as_space c.0 ∷ []) t cs rest g.1 in
-        let whole : c ∷ cs ≡ (c ∷ r.w) ++ rest = ap (λ xs. c ∷ xs) r.whole in
-        record { w = c ∷ r.w; whole = whole; reads = r.reads ∙ append_assoc s (as_space c.0 ∷ []) (map as_space (chars_of r.w)); goes_on = (ap ends_comment (sym whole) ∙ g.0, r.goes_on) }
+      | inl g ↦ record { w = []; whole = ap (λ (r : List ℕ × List Cell). r.1) g.1; reads = sym (ap (λ (r : List ℕ × List Cell). r.0) g.1) ∙ sym (append-nil s); goes_on = tt }
+      | inr g ↦
+          let r = comment_runs (s ++ as_space c.0 ∷ []) t cs rest g.1 in
+          let whole : c ∷ cs ≡ (c ∷ r.w) ++ rest = ap (λ xs. c ∷ xs) r.whole in
+          record { w = c ∷ r.w; whole = whole; reads = r.reads ∙ append_assoc s (as_space c.0 ∷ []) (map as_space (chars_of r.w)); goes_on = (ap ends_comment (sym whole) ∙ g.0, r.goes_on) }
     ]
 
 abbrev event_in : Result (Event × List Cell) HtmlFault → Event → Event
@@ -86,7 +86,7 @@ left_in (Ok r) = r.1
 left_in (Err f) = []
 
 closed_read : (total : ℕ) (a b : Cell) (opening ds : List Cell) (t : List ℕ) (more : List Cell) (e : Event) (rest : List Cell) (o : Option (List Cell)) → a.0 ≡ 60 → chars_of (b ∷ opening) ≡ codes "!--" → Commented [] t ds more →
-  past_word (codes "-->") more ≡ o → comment_with total a.1 t o ≡ Ok (e, rest) → Lexed e (a ∷ b ∷ (opening ++ ds)) rest
+    past_word (codes "-->") more ≡ o → comment_with total a.1 t o ≡ Ok (e, rest) → Lexed e (a ∷ b ∷ (opening ++ ds)) rest
 closed_read total a b opening ds t more e rest None h k r p s = absurd (cc (s))
 closed_read total a b opening ds t more e rest (Some left) h k r p s =
     let was : event.Comment t a.1 ≡ e = ap (λ (x : Result (Event × List Cell) HtmlFault). event_in x e) s in
@@ -128,12 +128,12 @@ markup_read total a (c ∷ cs) e rest h s n =
     let start = start_tag total a.1 (name_run (lower c.0 ∷ []) cs) in
     let note = comment total a.1 (past_word (codes "--") cs) in
     elim (chosen (is_letter c.0) start (if c.0 == 47 then end_tag total a.1 cs else if c.0 == 33 then note else bad) (Ok (e, rest)) s) [
-      inl g ↦ start_read total a c cs e rest h g.0 g.1 n
-    | inr g ↦ elim (chosen (c.0 == 47) (end_tag total a.1 cs) (if c.0 == 33 then note else bad) (Ok (e, rest)) g.1) [
-        inl k ↦ end_tag_read total a c cs e rest h (is_code c.0 47 k.0) k.1
-      | inr k ↦
-          let x = guarded (c.0 == 33) note (fault kind.BadTag a.1) (e, rest) k.1 in
-          comment_read total a c cs e rest (past_word (codes "--") cs) h (is_code c.0 33 x.0) refl x.1
+      | inl g ↦ start_read total a c cs e rest h g.0 g.1 n
+      | inr g ↦ elim (chosen (c.0 == 47) (end_tag total a.1 cs) (if c.0 == 33 then note else bad) (Ok (e, rest)) g.1) [
+        | inl k ↦ end_tag_read total a c cs e rest h (is_code c.0 47 k.0) k.1
+        | inr k ↦
+            let x = guarded (c.0 == 33) note (fault kind.BadTag a.1) (e, rest) k.1 in
+            comment_read total a c cs e rest (past_word (codes "--") cs) h (is_code c.0 33 x.0) refl x.1
       ]
     ]
 
@@ -150,7 +150,7 @@ text_first a cs (z ∷ us) rest t w n r e =
     record { first = z; more = us; whole = refl; place = ap (λ (x : Cell). x.1) (sym first); reads = r; ended = e }
 
 text_or_read : (a : Cell) (cs : List Cell) (e : Event) (rest : List Cell) (d : Decoded) (more : List Cell) (f : Option HtmlFault) → ends until.Tag a.0 cs ≡ false → text_run until.Tag (a ∷ cs) ≡ (d, more) → d.fault ≡ f →
-  text_or a.1 d.text f more ≡ Ok (e, rest) → Lexed e (a ∷ cs) rest
+    text_or a.1 d.text f more ≡ Ok (e, rest) → Lexed e (a ∷ cs) rest
 text_or_read a cs e rest d more (Some g) n h i s = absurd (cc (s))
 text_or_read a cs e rest d more None n h i s =
     let was : event.Text d.text a.1 ≡ e = ap (λ (x : Result (Event × List Cell) HtmlFault). event_in x e) s in
@@ -163,8 +163,8 @@ event_read : (total : ℕ) (c : Cell) (cs : List Cell) (e : Event) (rest : List 
 event_read total c cs e rest h n =
     let d = text_behind c.1 (character c.0 cs) in
     elim (chosen (c.0 == 60 && tag_follows cs) (markup total c.1 cs) (text_event c.1 d) (Ok (e, rest)) h) [
-      inl g ↦ markup_read total c cs e rest (is_code c.0 60 (both_true (c.0 == 60) (tag_follows cs) g.0).0) g.1 n
-    | inr g ↦ text_or_read c cs e rest d.0 d.1 d.0.fault g.0 (text_on until.Tag no_text c cs g.0) refl g.1
+      | inl g ↦ markup_read total c cs e rest (is_code c.0 60 (both_true (c.0 == 60) (tag_follows cs) g.0).0) g.1 n
+      | inr g ↦ text_or_read c cs e rest d.0 d.1 d.0.fault g.0 (text_on until.Tag no_text c cs g.0) refl g.1
     ]
 
 -- what is read as an event without a fault spells it

@@ -8,6 +8,7 @@ pub mod EventLess
 pub mod Runs
 pub mod ReferenceSound
 pub mod ReferenceComplete
+pub mod NoReferences
 pub mod TextSound
 pub mod TextComplete
 pub mod AttributeSound
@@ -16,3 +17,8 @@ pub mod TagSound
 pub mod TagComplete
 pub mod EventSound
 pub mod EventComplete
+pub mod TextRefused
+pub mod Refused
+pub mod RefusedComplete
+pub mod DoctypeLaws
+pub mod InsideRefused

@@ -15,7 +15,7 @@ use Rattle.ng_tags.proofs.Runs.{code_is, both_true, past_on, letter_run_on, digi
 letter_no_sign : (c : ℕ) → is_letter c ≡ true → (c == 35) ≡ false
 letter_no_sign c h = grind (arith, nat_tests)
 
-digit_no_x : (c : ℕ) → is_digit c ≡ true → (c == 120) ≡ false
+pub digit_no_x : (c : ℕ) → is_digit c ≡ true → (c == 120) ≡ false
 digit_no_x c h = grind (arith, nat_tests)
 
 semicolon_no_letter : (z : Cell) (cs : List Cell) → z.0 ≡ 59 → BeginsNot is_letter (z ∷ cs)
@@ -30,7 +30,7 @@ unfolding named_character
 no_empty_name x h = cc (h)
 
 number_on : (b : Base) (d : Cell) (w : List Cell) (z : Cell) (cs : List Cell) → list_all (is_digit_of b) (chars_of (d ∷ w)) ≡ true → is_character (digits_value b 0 (chars_of (d ∷ w))) ≡ true → z.0 ≡ 59 →
-  number_at b (d ∷ (w ++ z ∷ cs)) ≡ Some (Some (digits_value b 0 (chars_of (d ∷ w))), cs)
+    number_at b (d ∷ (w ++ z ∷ cs)) ≡ Some (Some (digits_value b 0 (chars_of (d ∷ w))), cs)
 number_on b d w z cs h i e =
     let n = digits_value b 0 (chars_of (d ∷ w)) in
     let t = both_true (is_digit_of b d.0) (list_all (is_digit_of b) (chars_of w)) h in

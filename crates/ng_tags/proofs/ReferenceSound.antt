@@ -38,8 +38,8 @@ or_zero (Some x) = x
 valued : (n x : ℕ) → (if is_character n then Some n else None) ≡ Some x → (is_character n ≡ true) × (x ≡ n)
 valued n x h =
     elim (chosen (is_character n) (Some n) None (Some x) h) [
-      inl g ↦ (g.0, sym (ap or_zero g.1))
-    | inr g ↦ absurd (cc (g.1))
+      | inl g ↦ (g.0, sym (ap or_zero g.1))
+      | inr g ↦ absurd (cc (g.1))
     ]
 
 numbered_is : (n x : ℕ) (cs rest : List Cell) (o : Option (List Cell)) → past 59 cs ≡ o → numbered n cs o ≡ (Some x, rest) → (past 59 cs ≡ Some rest) × (is_character n ≡ true) × (x ≡ n)
@@ -53,23 +53,23 @@ number_is b x [] rest h = absurd (cc)
 number_is b x (c ∷ cs) rest h =
     let r = digit_run b 0 (c ∷ cs) in
     elim (chosen (is_digit_of b c.0) (Some (number_from r)) None (Some (Some x, rest)) h) [
-      inl g ↦
-        let q : number_from r ≡ (Some x, rest) = cc (g.1) in
-        let n = numbered_is r.0 x r.1 rest (past 59 r.1) refl q in
-        let s = past_is 59 r.1 rest n.0 in
-        let step : digit_run b 0 (c ∷ cs) ≡ digit_run b (with_digit b 0 (digit_value c.0)) cs = if_true (is_digit_of b c.0) (digit_run b (with_digit b 0 (digit_value c.0)) cs) (0, c ∷ cs) g.0 in
-        let d = digit_runs b (with_digit b 0 (digit_value c.0)) r.0 cs r.1 (sym step) in
-        record {
-          d = c;
-          w = d.w;
-          z = s.0;
-          whole = ap (λ xs. c ∷ xs) (d.whole ∙ ap (λ xs. d.w ++ xs) s.1);
-          digits = both (is_digit_of b c.0) (list_all (is_digit_of b) (chars_of d.w)) g.0 d.all;
-          value = n.2 ∙ d.value;
-          is_one = ap is_character (sym d.value) ∙ n.1;
-          ends = s.2;
-        }
-    | inr g ↦ absurd (cc (g.1))
+      | inl g ↦
+          let q : number_from r ≡ (Some x, rest) = cc (g.1) in
+          let n = numbered_is r.0 x r.1 rest (past 59 r.1) refl q in
+          let s = past_is 59 r.1 rest n.0 in
+          let step : digit_run b 0 (c ∷ cs) ≡ digit_run b (with_digit b 0 (digit_value c.0)) cs = if_true (is_digit_of b c.0) (digit_run b (with_digit b 0 (digit_value c.0)) cs) (0, c ∷ cs) g.0 in
+          let d = digit_runs b (with_digit b 0 (digit_value c.0)) r.0 cs r.1 (sym step) in
+          record {
+            d = c;
+            w = d.w;
+            z = s.0;
+            whole = ap (λ xs. c ∷ xs) (d.whole ∙ ap (λ xs. d.w ++ xs) s.1);
+            digits = both (is_digit_of b c.0) (list_all (is_digit_of b) (chars_of d.w)) g.0 d.all;
+            value = n.2 ∙ d.value;
+            is_one = ap is_character (sym d.value) ∙ n.1;
+            ends = s.2;
+          }
+      | inr g ↦ absurd (cc (g.1))
     ]
 
 -- a reference behind its `&`
@@ -82,20 +82,20 @@ sign_is : (x : ℕ) (a : Cell) (cs rest : List Cell) → a.0 ≡ 35 → behind_s
 sign_is x a [] rest i h = absurd (cc)
 sign_is x a (c ∷ cs) rest i h =
     elim (chosen (c.0 == 120) (number_at base.Hexadecimal cs) (number_at base.Decimal (c ∷ cs)) (Some (Some x, rest)) h) [
-      inl g ↦
-        let n = number_is base.Hexadecimal x cs rest g.1 in
-        record {
-          us = a ∷ c ∷ n.d ∷ (n.w ++ n.z ∷ []);
-          whole = ap (λ xs. a ∷ c ∷ xs) (n.whole ∙ ap (λ xs. n.d ∷ xs) (sym (append_assoc n.w (n.z ∷ []) rest)));
-          names = subst (λ (y : ℕ). Names y (a ∷ c ∷ n.d ∷ (n.w ++ n.z ∷ []))) (sym n.value) (by_hexadecimal a c n.d n.w n.z i (is_code c.0 120 g.0) n.digits n.is_one n.ends);
-        }
-    | inr g ↦
-        let n = number_is base.Decimal x (c ∷ cs) rest g.1 in
-        record {
-          us = a ∷ n.d ∷ (n.w ++ n.z ∷ []);
-          whole = ap (λ xs. a ∷ xs) (n.whole ∙ ap (λ xs. n.d ∷ xs) (sym (append_assoc n.w (n.z ∷ []) rest)));
-          names = subst (λ (y : ℕ). Names y (a ∷ n.d ∷ (n.w ++ n.z ∷ []))) (sym n.value) (by_number a n.d n.w n.z i n.digits n.is_one n.ends);
-        }
+      | inl g ↦
+          let n = number_is base.Hexadecimal x cs rest g.1 in
+          record {
+            us = a ∷ c ∷ n.d ∷ (n.w ++ n.z ∷ []);
+            whole = ap (λ xs. a ∷ c ∷ xs) (n.whole ∙ ap (λ xs. n.d ∷ xs) (sym (append_assoc n.w (n.z ∷ []) rest)));
+            names = subst (λ (y : ℕ). Names y (a ∷ c ∷ n.d ∷ (n.w ++ n.z ∷ []))) (sym n.value) (by_hexadecimal a c n.d n.w n.z i (is_code c.0 120 g.0) n.digits n.is_one n.ends);
+          }
+      | inr g ↦
+          let n = number_is base.Decimal x (c ∷ cs) rest g.1 in
+          record {
+            us = a ∷ n.d ∷ (n.w ++ n.z ∷ []);
+            whole = ap (λ xs. a ∷ xs) (n.whole ∙ ap (λ xs. n.d ∷ xs) (sym (append_assoc n.w (n.z ∷ []) rest)));
+            names = subst (λ (y : ℕ). Names y (a ∷ n.d ∷ (n.w ++ n.z ∷ []))) (sym n.value) (by_number a n.d n.w n.z i n.digits n.is_one n.ends);
+          }
     ]
 
 so_is : (o : Option ℕ) (x : ℕ) (rest more : List Cell) → read_so o more ≡ Some (Some x, rest) → (o ≡ Some x) × (more ≡ rest)
@@ -111,19 +111,19 @@ reference_is x [] rest h = absurd (cc)
 reference_is x (c ∷ cs) rest h =
     let r = letter_run (c.0 ∷ []) cs in
     elim (chosen (c.0 == 35) (behind_sign cs) (if is_letter c.0 then name_from r else None) (Some (Some x, rest)) h) [
-      inl g ↦ sign_is x c cs rest (is_code c.0 35 g.0) g.1
-    | inr g ↦ elim (chosen (is_letter c.0) (name_from r) None (Some (Some x, rest)) g.1) [
-        inl l ↦
-          let n = named_is r.0 x r.1 rest (past 59 r.1) refl l.1 in
-          let s = past_is 59 r.1 rest n.0 in
-          let w = letter_runs (c.0 ∷ []) r.0 cs r.1 refl in
-          let name : r.0 ≡ chars_of (c ∷ w.w) = w.read ∙ ap (λ xs. c.0 ∷ xs) (map-same (chars_of w.w)) in
-          record {
-            us = (c ∷ w.w) ++ s.0 ∷ [];
-            whole = ap (λ xs. c ∷ xs) (w.whole ∙ (ap (λ xs. w.w ++ xs) s.1 ∙ sym (append_assoc w.w (s.0 ∷ []) rest)));
-            names = by_name x (c ∷ w.w) s.0 (both (is_letter c.0) (list_all is_letter (chars_of w.w)) l.0 w.all) (ap named_character (sym name) ∙ n.1) s.2;
-          }
-      | inr l ↦ absurd (cc (l.1))
+      | inl g ↦ sign_is x c cs rest (is_code c.0 35 g.0) g.1
+      | inr g ↦ elim (chosen (is_letter c.0) (name_from r) None (Some (Some x, rest)) g.1) [
+        | inl l ↦
+            let n = named_is r.0 x r.1 rest (past 59 r.1) refl l.1 in
+            let s = past_is 59 r.1 rest n.0 in
+            let w = letter_runs (c.0 ∷ []) r.0 cs r.1 refl in
+            let name : r.0 ≡ chars_of (c ∷ w.w) = w.read ∙ ap (λ xs. c.0 ∷ xs) (map-same (chars_of w.w)) in
+            record {
+              us = (c ∷ w.w) ++ s.0 ∷ [];
+              whole = ap (λ xs. c ∷ xs) (w.whole ∙ (ap (λ xs. w.w ++ xs) s.1 ∙ sym (append_assoc w.w (s.0 ∷ []) rest)));
+              names = by_name x (c ∷ w.w) s.0 (both (is_letter c.0) (list_all is_letter (chars_of w.w)) l.0 w.all) (ap named_character (sym name) ∙ n.1) s.2;
+            }
+        | inr l ↦ absurd (cc (l.1))
       ]
     ]
 
@@ -143,9 +143,9 @@ itself_is c cs x rest (Some r) i e h = referred x rest i (reference_is x cs rest
 pub character_is : (c : Cell) (cs : List Cell) (x : ℕ) (rest : List Cell) → character c.0 cs ≡ (Some x, rest) → CharacterRead c cs x rest
 character_is c cs x rest h =
     elim (chosen (c.0 == 38) (or_itself cs (reference cs)) (Some c.0, cs) (Some x, rest) h) [
-      inl g ↦ itself_is c cs x rest (reference cs) (is_code c.0 38 g.0) refl g.1
-    | inr g ↦
-        let y : c.0 ≡ x = ap or_zero (ap (λ (r : Read). r.0) g.1) in
-        let r : cs ≡ rest = ap (λ (r : Read). r.1) g.1 in
-        subst (λ (q : List Cell). CharacterRead c cs x q) r (subst (λ (n : ℕ). CharacterRead c cs n cs) y (plain g.0))
+      | inl g ↦ itself_is c cs x rest (reference cs) (is_code c.0 38 g.0) refl g.1
+      | inr g ↦
+          let y : c.0 ≡ x = ap or_zero (ap (λ (r : Read). r.0) g.1) in
+          let r : cs ≡ rest = ap (λ (r : Read). r.1) g.1 in
+          subst (λ (q : List Cell). CharacterRead c cs x q) r (subst (λ (n : ℕ). CharacterRead c cs n cs) y (plain g.0))
     ]

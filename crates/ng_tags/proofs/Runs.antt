@@ -74,16 +74,16 @@ pub name_runs : (n m : List ℕ) (cs rest : List Cell) → name_run n cs ≡ (m,
 name_runs n m [] rest h = no_more is_in_name lower n m [] rest (ap (λ p. p.0) h) (ap (λ p. p.1) h) tt
 name_runs n m (c ∷ cs) rest h =
     elim (chosen (is_in_name c.0) (name_run (n ++ lower c.0 ∷ []) cs) (n, c ∷ cs) (m, rest) h) [
-      inl g ↦ one_more is_in_name lower n m c cs rest g.0 (name_runs (n ++ lower c.0 ∷ []) m cs rest g.1)
-    | inr g ↦ no_more is_in_name lower n m (c ∷ cs) rest (ap (λ p. p.0) g.1) (ap (λ p. p.1) g.1) g.0
+      | inl g ↦ one_more is_in_name lower n m c cs rest g.0 (name_runs (n ++ lower c.0 ∷ []) m cs rest g.1)
+      | inr g ↦ no_more is_in_name lower n m (c ∷ cs) rest (ap (λ p. p.0) g.1) (ap (λ p. p.1) g.1) g.0
     ]
 
 pub attribute_runs : (n m : List ℕ) (cs rest : List Cell) → attribute_run n cs ≡ (m, rest) → Run is_in_attribute lower n m cs rest
 attribute_runs n m [] rest h = no_more is_in_attribute lower n m [] rest (ap (λ p. p.0) h) (ap (λ p. p.1) h) tt
 attribute_runs n m (c ∷ cs) rest h =
     elim (chosen (is_in_attribute c.0) (attribute_run (n ++ lower c.0 ∷ []) cs) (n, c ∷ cs) (m, rest) h) [
-      inl g ↦ one_more is_in_attribute lower n m c cs rest g.0 (attribute_runs (n ++ lower c.0 ∷ []) m cs rest g.1)
-    | inr g ↦ no_more is_in_attribute lower n m (c ∷ cs) rest (ap (λ p. p.0) g.1) (ap (λ p. p.1) g.1) g.0
+      | inl g ↦ one_more is_in_attribute lower n m c cs rest g.0 (attribute_runs (n ++ lower c.0 ∷ []) m cs rest g.1)
+      | inr g ↦ no_more is_in_attribute lower n m (c ∷ cs) rest (ap (λ p. p.0) g.1) (ap (λ p. p.1) g.1) g.0
     ]
 
 abbrev pub same : ℕ → ℕ
@@ -97,8 +97,8 @@ pub letter_runs : (n m : List ℕ) (cs rest : List Cell) → letter_run n cs ≡
 letter_runs n m [] rest h = no_more is_letter same n m [] rest (ap (λ p. p.0) h) (ap (λ p. p.1) h) tt
 letter_runs n m (c ∷ cs) rest h =
     elim (chosen (is_letter c.0) (letter_run (n ++ c.0 ∷ []) cs) (n, c ∷ cs) (m, rest) h) [
-      inl g ↦ one_more is_letter same n m c cs rest g.0 (letter_runs (n ++ c.0 ∷ []) m cs rest g.1)
-    | inr g ↦ no_more is_letter same n m (c ∷ cs) rest (ap (λ p. p.0) g.1) (ap (λ p. p.1) g.1) g.0
+      | inl g ↦ one_more is_letter same n m c cs rest g.0 (letter_runs (n ++ c.0 ∷ []) m cs rest g.1)
+      | inr g ↦ no_more is_letter same n m (c ∷ cs) rest (ap (λ p. p.0) g.1) (ap (λ p. p.1) g.1) g.0
     ]
 
 -- digits, as far as they go
@@ -112,9 +112,9 @@ pub digit_runs : (b : Base) (n m : ℕ) (cs rest : List Cell) → digit_run b n 
 digit_runs b n m [] rest h = record { w = []; whole = ap (λ p. p.1) h; all = refl; value = sym (ap (λ p. p.0) h) }
 digit_runs b n m (c ∷ cs) rest h =
     elim (chosen (is_digit_of b c.0) (digit_run b (with_digit b n (digit_value c.0)) cs) (n, c ∷ cs) (m, rest) h) [
-      inl g ↦ let r = digit_runs b (with_digit b n (digit_value c.0)) m cs rest g.1 in
-        record { w = c ∷ r.w; whole = ap (λ xs. c ∷ xs) r.whole; all = both (is_digit_of b c.0) (list_all (is_digit_of b) (chars_of r.w)) g.0 r.all; value = r.value }
-    | inr g ↦ record { w = []; whole = ap (λ p. p.1) g.1; all = refl; value = sym (ap (λ p. p.0) g.1) }
+      | inl g ↦ let r = digit_runs b (with_digit b n (digit_value c.0)) m cs rest g.1 in
+          record { w = c ∷ r.w; whole = ap (λ xs. c ∷ xs) r.whole; all = both (is_digit_of b c.0) (list_all (is_digit_of b) (chars_of r.w)) g.0 r.all; value = r.value }
+      | inr g ↦ record { w = []; whole = ap (λ p. p.1) g.1; all = refl; value = sym (ap (λ p. p.0) g.1) }
     ]
 
 -- white space, as far as it goes
@@ -128,17 +128,17 @@ pub spaces_are : (cs rest : List Cell) → past_spaces cs ≡ rest → Spaces cs
 spaces_are [] rest h = record { s = []; whole = h; are = refl; stops = subst (BeginsNot is_space) h tt }
 spaces_are (c ∷ cs) rest h =
     elim (chosen (is_space c.0) (past_spaces cs) (c ∷ cs) rest h) [
-      inl g ↦ let r = spaces_are cs rest g.1 in
-        record { s = c ∷ r.s; whole = ap (λ xs. c ∷ xs) r.whole; are = both (is_space c.0) (list_all is_space (chars_of r.s)) g.0 r.are; stops = r.stops }
-    | inr g ↦ record { s = []; whole = g.1; are = refl; stops = subst (BeginsNot is_space) g.1 g.0 }
+      | inl g ↦ let r = spaces_are cs rest g.1 in
+          record { s = c ∷ r.s; whole = ap (λ xs. c ∷ xs) r.whole; are = both (is_space c.0) (list_all is_space (chars_of r.s)) g.0 r.are; stops = r.stops }
+      | inr g ↦ record { s = []; whole = g.1; are = refl; stops = subst (BeginsNot is_space) g.1 g.0 }
     ]
 
 pub past_is : (d : ℕ) (cs rest : List Cell) → past d cs ≡ Some rest → (z : Cell) × (cs ≡ z ∷ rest) × (z.0 ≡ d)
 past_is d [] rest h = absurd (cc)
 past_is d (c ∷ cs) rest h =
     elim (chosen (c.0 == d) (Some cs) None (Some rest) h) [
-      inl g ↦ let e : cs ≡ rest = cc (g.1) in (c, ap (λ xs. c ∷ xs) e, is_code c.0 d g.0)
-    | inr g ↦ absurd (cc (g.1))
+      | inl g ↦ let e : cs ≡ rest = cc (g.1) in (c, ap (λ xs. c ∷ xs) e, is_code c.0 d g.0)
+      | inr g ↦ absurd (cc (g.1))
     ]
 
 -- the other way round

@@ -53,6 +53,7 @@ drops_on n ds rest (nothing f) = by_test (is_line_dropping n) refl
     kept : (cs : List Cell) → BeginsNot is_line_feed cs → past_line_feed cs ≡ cs
     kept [] i = refl
     kept (c ∷ cs) i = if_false (c.0 == 10) cs (c ∷ cs) i
+
     by_test : (b : Bool) → is_line_dropping n ≡ b → behind_tag n rest ≡ rest
     by_test true e = if_true (is_line_dropping n) (past_line_feed rest) rest e ∙ kept rest (f e)
     by_test false e = if_false (is_line_dropping n) (past_line_feed rest) rest e
@@ -64,14 +65,14 @@ same_tag t p h n =
 
 -- a tag at the front, behind its first letter
 pub tag_on : (total : ℕ) (t : Tag) (us rest : List Cell) (s : IsStartTag t us rest) (c : Cell) (w : List Cell) → s.name ≡ c ∷ w →
-  start_tag total s.first.1 (name_run (lower c.0 ∷ []) (w ++ (s.inside ++ rest))) ≡ Ok (started total t rest)
+    start_tag total s.first.1 (name_run (lower c.0 ∷ []) (w ++ (s.inside ++ rest))) ≡ Ok (started total t rest)
 tag_on total t us rest s c w e =
     let p = s.first.1 in
     let more = s.inside ++ rest in
     let name : IsName (c.0 ∷ chars_of w) = subst (λ (xs : List Cell). IsName (chars_of xs)) e s.characters in
     let in_lower : lower c.0 ∷ map lower (chars_of w) ≡ t.name = sym (s.in_lower ∙ ap (λ (xs : List Cell). map lower (chars_of xs)) e) in
     let run : name_run (lower c.0 ∷ []) (w ++ more) ≡ (t.name, more) =
-      name_run_on (lower c.0 ∷ []) w more name.1 (ends_no_name s.inside rest s.name_ends) ∙ ap (λ (m : List ℕ). let q : List ℕ × List Cell = (m, more) in q) in_lower in
+    name_run_on (lower c.0 ∷ []) w more name.1 (ends_no_name s.inside rest s.name_ends) ∙ ap (λ (m : List ℕ). let q : List ℕ × List Cell = (m, more) in q) in_lower in
     let bad : Result (Event × List Cell) HtmlFault = Err (fault kind.BadTag p) in
     let good : Result (Event × List Cell) HtmlFault = Ok (start_with total p t.name (attributes total more)) in
     ap (start_tag total p) run
@@ -148,14 +149,14 @@ raw_on total t text p us rest r =
 
 -- an end tag, behind its first letter
 pub end_tag_on : (total : ℕ) (n : List ℕ) (p : ℕ) (us rest : List Cell) (e : IsEndTag n p us) → is_left_out n ≡ false → (c : Cell) (w : List Cell) → e.name ≡ c ∷ w →
-  end_tag total e.first.1 (c ∷ (w ++ (e.spaces ++ e.last ∷ rest))) ≡ Ok (event.End n p, rest)
+    end_tag total e.first.1 (c ∷ (w ++ (e.spaces ++ e.last ∷ rest))) ≡ Ok (event.End n p, rest)
 end_tag_on total n p us rest e lo c w f =
     let q = e.first.1 in
     let more = e.spaces ++ e.last ∷ rest in
     let name : IsName (c.0 ∷ chars_of w) = subst (λ (xs : List Cell). IsName (chars_of xs)) f e.characters in
     let in_lower : lower c.0 ∷ map lower (chars_of w) ≡ n = sym (e.in_lower ∙ ap (λ (xs : List Cell). map lower (chars_of xs)) f) in
     let run : name_run (lower c.0 ∷ []) (w ++ more) ≡ (n, more) =
-      name_run_on (lower c.0 ∷ []) w more name.1 (spaces_no_name e.spaces e.last rest e.are_spaces e.is_close) ∙ ap (λ (m : List ℕ). let r : List ℕ × List Cell = (m, more) in r) in_lower in
+    name_run_on (lower c.0 ∷ []) w more name.1 (spaces_no_name e.spaces e.last rest e.are_spaces e.is_close) ∙ ap (λ (m : List ℕ). let r : List ℕ × List Cell = (m, more) in r) in_lower in
     if_true (is_letter c.0) (end_tag_named total q (name_run (lower c.0 ∷ []) (w ++ more))) (Err (fault kind.BadTag q)) name.0
     ∙ (ap (end_tag_named total q) run
     ∙ (if_false (is_left_out n) (Err (fault kind.BadTag q)) (end_tag_end total q n (past_spaces more)) lo

@@ -57,15 +57,15 @@ feed_dropped : (n : List ℕ) (cs rest : List Cell) → is_line_dropping n ≡ t
 feed_dropped n [] rest h e = record { ds = []; whole = e; drops = nothing (λ i. subst (BeginsNot is_line_feed) e tt) }
 feed_dropped n (c ∷ cs) rest h e =
     elim (chosen (c.0 == 10) cs (c ∷ cs) rest e) [
-      inl g ↦ record { ds = c ∷ []; whole = ap (λ xs. c ∷ xs) g.1; drops = line_feed c h (is_code c.0 10 g.0) }
-    | inr g ↦ record { ds = []; whole = g.1; drops = nothing (λ i. subst (BeginsNot is_line_feed) g.1 g.0) }
+      | inl g ↦ record { ds = c ∷ []; whole = ap (λ xs. c ∷ xs) g.1; drops = line_feed c h (is_code c.0 10 g.0) }
+      | inr g ↦ record { ds = []; whole = g.1; drops = nothing (λ i. subst (BeginsNot is_line_feed) g.1 g.0) }
     ]
 
 dropped_by : (n : List ℕ) (cs rest : List Cell) → behind_tag n cs ≡ rest → DroppedBy n cs rest
 dropped_by n cs rest e =
     elim (chosen (is_line_dropping n) (past_line_feed cs) cs rest e) [
-      inl g ↦ feed_dropped n cs rest g.0 g.1
-    | inr g ↦ record { ds = []; whole = g.1; drops = nothing (λ i. let no : true ≡ false = sym i ∙ g.0 in absurd (cc (no))) }
+      | inl g ↦ feed_dropped n cs rest g.0 g.1
+      | inr g ↦ record { ds = []; whole = g.1; drops = nothing (λ i. let no : true ≡ false = sym i ∙ g.0 in absurd (cc (no))) }
     ]
 
 -- the names of an end tag and of its start tag begin with letters alike
@@ -90,30 +90,34 @@ named_end : (n w : List ℕ) (a b : Cell) (ds rest : List Cell) → n ≡ map lo
 named_end n w a b ds rest h i k l e =
     let r = name_run [] ds in
     elim (chosen (bytes_eq n r.0) (past 62 (past_spaces r.1)) None (Some rest) e) [
-      inr g ↦ absurd (cc (g.1))
-    | inl g ↦
-        let same : n ≡ r.0 = (bytes_eq-Decides n r.0).0 g.0 in
-        let v = name_runs [] r.0 ds r.1 refl in
-        let s = spaces_are r.1 (past_spaces r.1) refl in
-        let z = past_is 62 (past_spaces r.1) rest g.1 in
-        let left : ds ≡ v.w ++ (s.s ++ z.0 ∷ rest) = v.whole ∙ ap (λ xs. v.w ++ xs) (s.whole ∙ ap (λ xs. s.s ++ xs) z.1) in
-        let in_lower : n ≡ map lower (chars_of v.w) = same ∙ v.read in
-        record {
-          us = a ∷ b ∷ (v.w ++ (s.s ++ z.0 ∷ []));
-          place = a.1;
-          whole = ap (λ xs. a ∷ b ∷ xs) (left ∙ (ap (λ xs. v.w ++ xs) (sym (append_assoc s.s (z.0 ∷ []) rest)) ∙ sym (append_assoc v.w (s.s ++ z.0 ∷ []) rest)));
-          is_end = record {
-            first = a; second = b; name = v.w; spaces = s.s; last = z.0;
-            whole = refl;
-            sign = k;
-            place = refl;
-            slash = l;
-            characters = name_alike (chars_of v.w) w (sym in_lower ∙ h) v.all i;
-            in_lower = in_lower;
-            are_spaces = s.are;
-            is_close = z.2;
-          };
-        }
+      | inr g ↦ absurd (cc (g.1))
+      | inl g ↦
+          let same : n ≡ r.0 = (bytes_eq-Decides n r.0).0 g.0 in
+          let v = name_runs [] r.0 ds r.1 refl in
+          let s = spaces_are r.1 (past_spaces r.1) refl in
+          let z = past_is 62 (past_spaces r.1) rest g.1 in
+          let left : ds ≡ v.w ++ (s.s ++ z.0 ∷ rest) = v.whole ∙ ap (λ xs. v.w ++ xs) (s.whole ∙ ap (λ xs. s.s ++ xs) z.1) in
+          let in_lower : n ≡ map lower (chars_of v.w) = same ∙ v.read in
+          record {
+            us = a ∷ b ∷ (v.w ++ (s.s ++ z.0 ∷ []));
+            place = a.1;
+            whole = ap (λ xs. a ∷ b ∷ xs) (left ∙ (ap (λ xs. v.w ++ xs) (sym (append_assoc s.s (z.0 ∷ []) rest)) ∙ sym (append_assoc v.w (s.s ++ z.0 ∷ []) rest)));
+            is_end = record {
+              first = a;
+              second = b;
+              name = v.w;
+              spaces = s.s;
+              last = z.0;
+              whole = refl;
+              sign = k;
+              place = refl;
+              slash = l;
+              characters = name_alike (chars_of v.w) w (sym in_lower ∙ h) v.all i;
+              in_lower = in_lower;
+              are_spaces = s.are;
+              is_close = z.2;
+            };
+          }
     ]
 
 then_named_end : (n w : List ℕ) (a : Cell) (cs rest : List Cell) (o : Option (List Cell)) → n ≡ map lower w → IsName w → a.0 ≡ 60 → past 47 cs ≡ o → option_and_then (λ ds. past_name n (name_run [] ds)) o ≡ Some rest → EndsAt n (a ∷ cs) rest
@@ -158,7 +162,7 @@ record RawRead (t : Tag) (e : Event) (p : ℕ) (cs rest : List Cell) : Type 0 wh
   is_end : IsEndTag t.name place closing
 
 raw_known : (total : ℕ) (t : Tag) (w : List ℕ) (cs : List Cell) (e : Event) (rest : List Cell) (d : Decoded) (more : List Cell) (o : Option (List Cell)) → t.name ≡ map lower w → IsName w →
-  text_run (until.EndTag t.name) cs ≡ (d, more) → past_end t.name more ≡ o → raw_with total t (place_in total cs) d more o ≡ (e, rest) → IsWhole e → RawRead t e (place_in total cs) cs rest
+    text_run (until.EndTag t.name) cs ≡ (d, more) → past_end t.name more ≡ o → raw_with total t (place_in total cs) d more o ≡ (e, rest) → IsWhole e → RawRead t e (place_in total cs) cs rest
 raw_known total t w cs e rest d more None h i r k g n =
     let no : Some (met_or d.fault (fault kind.Unclosed total)) ≡ None = subst IsWhole (sym (ap event_in g)) n in
     absurd (cc (no))
@@ -217,6 +221,7 @@ none_opened t h = is_nothing t.fault (second (is_raw t.name) (not t.closed) (is_
     is_nothing : (f : Option HtmlFault) → is_none f ≡ true → f ≡ None
     is_nothing None i = refl
     is_nothing (Some g) i = absurd (cc (i))
+
     second : (a b c : Bool) → (a && b && c) ≡ true → c ≡ true
     second true true c i = i
     second true false c i = absurd (cc (i))
@@ -233,16 +238,16 @@ start_read total a c cs e rest h l s n =
     let bad : Result (Event × List Cell) HtmlFault = Err (fault kind.BadTag a.1) in
     let good : Result (Event × List Cell) HtmlFault = Ok (start_with total a.1 r.0 i) in
     elim (chosen (is_left_out r.0) bad (if may_follow_name r.1 then good else bad) (Ok (e, rest)) s) [
-      inl g ↦ absurd (cc (g.1))
-    | inr g ↦
-        let m = guarded (may_follow_name r.1) good (fault kind.BadTag a.1) (e, rest) g.1 in
-        let x : start_with total a.1 r.0 i ≡ (e, rest) = cc (m.1) in
-        behind r.0 r.1 i t w.w w.whole w.all w.read g.0 m.0 refl refl x
+      | inl g ↦ absurd (cc (g.1))
+      | inr g ↦
+          let m = guarded (may_follow_name r.1) good (fault kind.BadTag a.1) (e, rest) g.1 in
+          let x : start_with total a.1 r.0 i ≡ (e, rest) = cc (m.1) in
+          behind r.0 r.1 i t w.w w.whole w.all w.read g.0 m.0 refl refl x
     ]
   where
     -- a start tag, once it is known that it has no fault
     tag_is : (m : List ℕ) (ds : List Cell) (i : Inside × List Cell) (w : List Cell) → list_all is_in_name (chars_of w) ≡ true → m ≡ (lower c.0 ∷ []) ++ map lower (chars_of w) → is_left_out m ≡ false → may_follow_name ds ≡ true →
-      (found : Attributed [] None i.0 ds i.1) → i.0.fault ≡ None → IsStartTag (tag_of m a.1 i.0) (a ∷ ((c ∷ w) ++ found.us)) i.1
+        (found : Attributed [] None i.0 ds i.1) → i.0.fault ≡ None → IsStartTag (tag_of m a.1 i.0) (a ∷ ((c ∷ w) ++ found.us)) i.1
     tag_is m ds i w al rd lo mf found nf = record {
       first = a;
       name = c ∷ w;
@@ -262,61 +267,61 @@ start_read total a c cs e rest h l s n =
     front w ds us more p q = ap (λ xs. a ∷ c ∷ xs) (p ∙ (ap (λ xs. w ++ xs) q ∙ sym (append_assoc w us more)))
 
     behind : (m : List ℕ) (ds : List Cell) (i : Inside × List Cell) (t : Tag) (w : List Cell) → cs ≡ w ++ ds → list_all is_in_name (chars_of w) ≡ true → m ≡ (lower c.0 ∷ []) ++ map lower (chars_of w) → is_left_out m ≡ false → may_follow_name ds ≡ true →
-      attributes total ds ≡ i → tag_of m a.1 i.0 ≡ t → start_with total a.1 m i ≡ (e, rest) → Lexed e (a ∷ c ∷ cs) rest
+        attributes total ds ≡ i → tag_of m a.1 i.0 ≡ t → start_with total a.1 m i ≡ (e, rest) → Lexed e (a ∷ c ∷ cs) rest
     behind m ds i t w wh al rd lo mf found ti x =
         let t0 = tag_of m a.1 i.0 in
         let cs1 = behind_tag m i.1 in
         elim (chosen (opens_raw t0) (raw_event total t0 cs1) (event.Start t0, cs1) (e, rest) x) [
-          inl g ↦
-            let no : i.0.fault ≡ None = none_opened t0 g.0 in
-            let parts = raw_parts t0 no g.0 in
-            let inside = attributes_read total ds i.0 i.1 found no in
-            let d = dropped_by m i.1 cs1 refl in
-            let q = raw_read total t0 (chars_of (c ∷ w)) cs1 e rest rd (l, al) g.1 n in
-            let tag = a ∷ ((c ∷ w) ++ inside.us) in
-            let more = q.inner ++ (q.closing ++ rest) in
-            let left : i.1 ≡ d.ds ++ more = d.whole ∙ ap (λ xs. d.ds ++ xs) q.whole in
-            let z : Lexeme (event.Raw t0 q.text (place_in total cs1)) (tag ++ (d.ds ++ (q.inner ++ q.closing))) rest = record {
-              tag = tag;
-              dropped = d.ds;
-              inner = q.inner;
-              closing = q.closing;
-              q = q.place;
-              whole = refl;
-              is_tag = subst (λ (xs : List Cell). IsStartTag t0 tag xs) left (tag_is m ds i w al rd lo mf inside no);
-              is_raw = parts.0;
-              is_open = parts.1;
-              drops = subst (λ (xs : List Cell). Dropped m xs d.ds) q.whole d.drops;
-              place = q.begins;
-              reads = q.reads;
-              is_end = q.is_end;
-            } in
-            let ends : more ≡ (q.inner ++ q.closing) ++ rest = sym (append_assoc q.inner q.closing rest) in
-            record {
-              us = tag ++ (d.ds ++ (q.inner ++ q.closing));
-              whole = front w ds inside.us i.1 wh inside.whole ∙ (ap (λ xs. tag ++ xs) (left ∙ (ap (λ xs. d.ds ++ xs) ends ∙ sym (append_assoc d.ds (q.inner ++ q.closing) rest))) ∙ sym (append_assoc tag (d.ds ++ (q.inner ++ q.closing)) rest));
-              lexeme = subst (λ (v : Event). Lexeme v (tag ++ (d.ds ++ (q.inner ++ q.closing))) rest) (sym q.event) z;
-            }
-        | inr g ↦
-            let was : event.Start t0 ≡ e = ap event_in g.1 in
-            let left : cs1 ≡ rest = ap left_in g.1 in
-            let no : i.0.fault ≡ None = subst IsWhole (sym was) n in
-            let inside = attributes_read total ds i.0 i.1 found no in
-            let d = dropped_by m i.1 rest left in
-            let tag = a ∷ ((c ∷ w) ++ inside.us) in
-            let z : Lexeme (event.Start t0) (tag ++ d.ds) rest = record {
-              tag = tag;
-              dropped = d.ds;
-              whole = refl;
-              is_tag = subst (λ (xs : List Cell). IsStartTag t0 tag xs) d.whole (tag_is m ds i w al rd lo mf inside no);
-              has_content = sym (opens_whole t0 no) ∙ g.0;
-              drops = d.drops;
-            } in
-            record {
-              us = tag ++ d.ds;
-              whole = front w ds inside.us i.1 wh inside.whole ∙ (ap (λ xs. tag ++ xs) d.whole ∙ sym (append_assoc tag d.ds rest));
-              lexeme = subst (λ (v : Event). Lexeme v (tag ++ d.ds) rest) was z;
-            }
+          | inl g ↦
+              let no : i.0.fault ≡ None = none_opened t0 g.0 in
+              let parts = raw_parts t0 no g.0 in
+              let inside = attributes_read total ds i.0 i.1 found no in
+              let d = dropped_by m i.1 cs1 refl in
+              let q = raw_read total t0 (chars_of (c ∷ w)) cs1 e rest rd (l, al) g.1 n in
+              let tag = a ∷ ((c ∷ w) ++ inside.us) in
+              let more = q.inner ++ (q.closing ++ rest) in
+              let left : i.1 ≡ d.ds ++ more = d.whole ∙ ap (λ xs. d.ds ++ xs) q.whole in
+              let z : Lexeme (event.Raw t0 q.text (place_in total cs1)) (tag ++ (d.ds ++ (q.inner ++ q.closing))) rest = record {
+                tag = tag;
+                dropped = d.ds;
+                inner = q.inner;
+                closing = q.closing;
+                q = q.place;
+                whole = refl;
+                is_tag = subst (λ (xs : List Cell). IsStartTag t0 tag xs) left (tag_is m ds i w al rd lo mf inside no);
+                is_raw = parts.0;
+                is_open = parts.1;
+                drops = subst (λ (xs : List Cell). Dropped m xs d.ds) q.whole d.drops;
+                place = q.begins;
+                reads = q.reads;
+                is_end = q.is_end;
+              } in
+              let ends : more ≡ (q.inner ++ q.closing) ++ rest = sym (append_assoc q.inner q.closing rest) in
+              record {
+                us = tag ++ (d.ds ++ (q.inner ++ q.closing));
+                whole = front w ds inside.us i.1 wh inside.whole ∙ (ap (λ xs. tag ++ xs) (left ∙ (ap (λ xs. d.ds ++ xs) ends ∙ sym (append_assoc d.ds (q.inner ++ q.closing) rest))) ∙ sym (append_assoc tag (d.ds ++ (q.inner ++ q.closing)) rest));
+                lexeme = subst (λ (v : Event). Lexeme v (tag ++ (d.ds ++ (q.inner ++ q.closing))) rest) (sym q.event) z;
+              }
+          | inr g ↦
+              let was : event.Start t0 ≡ e = ap event_in g.1 in
+              let left : cs1 ≡ rest = ap left_in g.1 in
+              let no : i.0.fault ≡ None = subst IsWhole (sym was) n in
+              let inside = attributes_read total ds i.0 i.1 found no in
+              let d = dropped_by m i.1 rest left in
+              let tag = a ∷ ((c ∷ w) ++ inside.us) in
+              let z : Lexeme (event.Start t0) (tag ++ d.ds) rest = record {
+                tag = tag;
+                dropped = d.ds;
+                whole = refl;
+                is_tag = subst (λ (xs : List Cell). IsStartTag t0 tag xs) d.whole (tag_is m ds i w al rd lo mf inside no);
+                has_content = sym (opens_whole t0 no) ∙ g.0;
+                drops = d.drops;
+              } in
+              record {
+                us = tag ++ d.ds;
+                whole = front w ds inside.us i.1 wh inside.whole ∙ (ap (λ xs. tag ++ xs) d.whole ∙ sym (append_assoc tag d.ds rest));
+                lexeme = subst (λ (v : Event). Lexeme v (tag ++ d.ds) rest) was z;
+              }
         ]
 
 -- an end tag at the front
@@ -328,29 +333,36 @@ end_tag_read total a b (c ∷ cs) e rest h k s =
     let p = spaces_are r.1 (past_spaces r.1) refl in
     let g = guarded (is_letter c.0) (end_tag_named total a.1 r) (fault kind.BadTag a.1) (e, rest) s in
     elim (chosen (is_left_out r.0) (Err (fault kind.BadTag a.1)) (end_tag_end total a.1 r.0 (past_spaces r.1)) (Ok (e, rest)) g.1) [
-      inl m ↦ absurd (cc (m.1))
-    | inr m ↦ closes r.0 (past_spaces r.1) w.w p.s (w.whole ∙ ap (λ xs. w.w ++ xs) p.whole) g.0 w.all w.read p.are m.0 m.1
+      | inl m ↦ absurd (cc (m.1))
+      | inr m ↦ closes r.0 (past_spaces r.1) w.w p.s (w.whole ∙ ap (λ xs. w.w ++ xs) p.whole) g.0 w.all w.read p.are m.0 m.1
     ]
   where
     closes : (n : List ℕ) (ds w s : List Cell) → cs ≡ w ++ (s ++ ds) → is_letter c.0 ≡ true → list_all is_in_name (chars_of w) ≡ true → n ≡ (lower c.0 ∷ []) ++ map lower (chars_of w) → AreSpaces s → is_left_out n ≡ false →
-      end_tag_end total a.1 n ds ≡ Ok (e, rest) → Lexed e (a ∷ b ∷ c ∷ cs) rest
+        end_tag_end total a.1 n ds ≡ Ok (e, rest) → Lexed e (a ∷ b ∷ c ∷ cs) rest
     closes n [] w s wh l al rd ar lo f = absurd (cc (f))
     closes n (z ∷ zs) w s wh l al rd ar lo f =
         let g = guarded (z.0 == 62) (Ok (event.End n a.1, zs)) (fault kind.BadTag a.1) (e, rest) f in
         let x : (event.End n a.1, zs) ≡ (e, rest) = ok_is (event.End n a.1, zs) (e, rest) g.1 in
         let left : zs ≡ rest = ap left_in x in
         let us = a ∷ b ∷ ((c ∷ w) ++ (s ++ z ∷ [])) in
-        let q : Lexeme (event.End n a.1) us rest = (record {
-          first = a; second = b; name = c ∷ w; spaces = s; last = z;
-          whole = refl;
-          sign = h;
-          place = refl;
-          slash = k;
-          characters = (l, al);
-          in_lower = rd;
-          are_spaces = ar;
-          is_close = is_code z.0 62 g.0;
-        }, lo) in
+        let q : Lexeme (event.End n a.1) us rest = (
+          record {
+            first = a;
+            second = b;
+            name = c ∷ w;
+            spaces = s;
+            last = z;
+            whole = refl;
+            sign = h;
+            place = refl;
+            slash = k;
+            characters = (l, al);
+            in_lower = rd;
+            are_spaces = ar;
+            is_close = is_code z.0 62 g.0;
+          },
+          lo,
+        ) in
         record {
           us = us;
           whole = ap (λ xs. a ∷ b ∷ c ∷ xs) (wh ∙ (ap (λ xs. w ++ xs) (ap (λ xs. s ++ z ∷ xs) left ∙ sym (append_assoc s (z ∷ []) rest)) ∙ sym (append_assoc w (s ++ z ∷ []) rest)));

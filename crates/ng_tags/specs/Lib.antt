@@ -8,3 +8,7 @@ pub mod Attributes
 pub mod Tags
 pub mod Lexing
 pub mod Spelling
+pub mod Laws
+pub mod Refusals
+pub mod Faults
+pub mod Doctypes

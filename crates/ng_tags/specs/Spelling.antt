@@ -5,7 +5,7 @@ use Rattle.ng_base.specs.Cells.{Cell}
 use Rattle.ng_markup.specs.Forest.{Attributes}
 use Rattle.ng_markup.specs.Tables.{is_left_out, is_raw, is_line_dropping}
 use Rattle.ng_tags.specs.Letters.{is_letter, is_in_name, is_space, is_in_attribute, is_bare, lower}
-use Rattle.ng_tags.specs.References.{named_character, digit_value, is_digit_of, with_digit, is_character, reference}
+use Rattle.ng_tags.specs.References.{named_character, digit_value, is_digit_of, with_digit, is_character}
 use Rattle.ng_tags.specs.Texts.{ends}
 use Rattle.ng_tags.specs.Attributes.{with_attribute}
 use Rattle.ng_tags.specs.Lexing.{as_space, ends_comment}
@@ -29,16 +29,26 @@ digits_value b n (c ∷ cs) = digits_value b (with_digit b n (digit_value c)) cs
 pub data Names : ℕ → List Cell → Type 0 where
   by_name : (x : ℕ) (w : List Cell) (z : Cell) → list_all is_letter (chars_of w) ≡ true → named_character (chars_of w) ≡ Some x → z.0 ≡ 59 → Names x (w ++ z ∷ [])
   by_number : (a d : Cell) (w : List Cell) (z : Cell) → a.0 ≡ 35 → list_all (is_digit_of base.Decimal) (chars_of (d ∷ w)) ≡ true → is_character (digits_value base.Decimal 0 (chars_of (d ∷ w))) ≡ true → z.0 ≡ 59 →
-    Names (digits_value base.Decimal 0 (chars_of (d ∷ w))) (a ∷ d ∷ (w ++ z ∷ []))
+      Names (digits_value base.Decimal 0 (chars_of (d ∷ w))) (a ∷ d ∷ (w ++ z ∷ []))
   by_hexadecimal : (a b d : Cell) (w : List Cell) (z : Cell) → a.0 ≡ 35 → b.0 ≡ 120 → list_all (is_digit_of base.Hexadecimal) (chars_of (d ∷ w)) ≡ true → is_character (digits_value base.Hexadecimal 0 (chars_of (d ∷ w))) ≡ true → z.0 ≡ 59 →
-    Names (digits_value base.Hexadecimal 0 (chars_of (d ∷ w))) (a ∷ b ∷ d ∷ (w ++ z ∷ []))
+      Names (digits_value base.Hexadecimal 0 (chars_of (d ∷ w))) (a ∷ b ∷ d ∷ (w ++ z ∷ []))
+
+-- the cells behind an `&` begin a number: `#` and a digit, or `#x` and a hexadecimal digit
+pub data BeginsNumber : List Cell → Type 0 where
+  with_digit_first : (a d : Cell) (cs : List Cell) → a.0 ≡ 35 → is_digit_of base.Decimal d.0 ≡ true → BeginsNumber (a ∷ d ∷ cs)
+  with_sign_first : (a b d : Cell) (cs : List Cell) → a.0 ≡ 35 → b.0 ≡ 120 → is_digit_of base.Hexadecimal d.0 ≡ true → BeginsNumber (a ∷ b ∷ d ∷ cs)
+
+-- the cells behind an `&` neither name a character nor begin a number
+pub record NoReference (cs : List Cell) : Type 0 where
+  pub no_name : (x : ℕ) (vs more : List Cell) → cs ≡ vs ++ more → Names x vs → ⊥
+  pub no_number : BeginsNumber cs → ⊥
 
 -- the cells us, which that rest follows, read as the text t up to what ends it
 pub data Reads (u : Until) (rest : List Cell) : List Cell → List ℕ → Type 0 where
   no_more : Reads u rest [] []
   itself : (c : Cell) (us : List Cell) (t : List ℕ) → ends u c.0 (us ++ rest) ≡ false → (c.0 == 38) ≡ false → Reads u rest us t → Reads u rest (c ∷ us) (c.0 ∷ t)
   by_reference : (c : Cell) (vs us : List Cell) (t : List ℕ) (x : ℕ) → c.0 ≡ 38 → Names x vs → Reads u rest us t → Reads u rest (c ∷ (vs ++ us)) (x ∷ t)
-  ampersand : (c : Cell) (us : List Cell) (t : List ℕ) → c.0 ≡ 38 → reference (us ++ rest) ≡ None → Reads u rest us t → Reads u rest (c ∷ us) (38 ∷ t)
+  ampersand : (c : Cell) (us : List Cell) (t : List ℕ) → c.0 ≡ 38 → NoReference (us ++ rest) → Reads u rest us t → Reads u rest (c ∷ us) (38 ∷ t)
 
 -- a text ends there
 abbrev pub Ended : Until → List Cell → Type 0

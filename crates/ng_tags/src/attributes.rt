@@ -94,11 +94,7 @@ fn read_bare(alloc: Global, reader: Reader<'_>) -> Tried<(Decoded, Reader<'_>)>
 }
 
 /// The value behind a `=`.
-fn read_value<'a>(
-    alloc: Global,
-    total: usize,
-    reader: Reader<'a>,
-) -> Tried<(Decoded, Reader<'a>)>
+fn read_value<'a>(alloc: Global, total: usize, reader: Reader<'a>) -> Tried<(Decoded, Reader<'a>)>
     ensures { IfOk result (λ r. r ≡ specs.value_at total reader.entry) }
 {
     match reader.first() {

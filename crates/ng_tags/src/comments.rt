@@ -34,10 +34,7 @@ fn past_comment_end<'a>(reader: &Reader<'a>) -> Option<Reader<'a>>
 }
 
 /// The text of a comment up to its end.
-fn read_comment_text(
-    alloc: Global,
-    mut reader: Reader<'_>,
-) -> Result<(Txt, Reader<'_>), AllocError>
+fn read_comment_text(alloc: Global, mut reader: Reader<'_>) -> Result<(Txt, Reader<'_>), AllocError>
     ensures { IfOk result (λ r. r ≡ specs.comment_run [] reader.entry) }
 {
     let mut text = Txt::new(alloc);

@@ -1,6 +1,5 @@
 //! References: characters by name or number.
 ghost use Rattle.ng_tags.specs.References as refs;
-
 ghost use Rattle.std.specs.Prelude.{◌≡◌, ◌≤◌, ◌<◌, ◌∷◌, [], Some, None, true, IfOk, if◌then◌else◌};
 
 use crate::base::Base;
@@ -78,10 +77,7 @@ fn named_character(name: &Txt) -> Option<char>
 }
 
 /// The letters of a name, of which this stands before.
-fn read_letters<'a>(
-    mut name: Txt,
-    mut reader: Reader<'a>,
-) -> Result<(Txt, Reader<'a>), AllocError>
+fn read_letters<'a>(mut name: Txt, mut reader: Reader<'a>) -> Result<(Txt, Reader<'a>), AllocError>
     ensures { IfOk result (λ r. r ≡ refs.letter_run name reader.entry) }
 {
     while let Some((c, _, rest)) = reader.first() {
@@ -209,10 +205,7 @@ fn behind_sign(reader: Reader<'_>) -> Option<Read<'_>>
 }
 
 /// The reference behind an `&`, if there is one.
-fn read_reference<'a>(
-    alloc: Global,
-    reader: &Reader<'a>,
-) -> Result<Option<Read<'a>>, AllocError>
+fn read_reference<'a>(alloc: Global, reader: &Reader<'a>) -> Result<Option<Read<'a>>, AllocError>
     ensures { IfOk result (λ r. r ≡ refs.reference reader.now) }
 {
     match reader.first() {

@@ -45,10 +45,7 @@ pub fn past_word<'a>(word: &[char], mut reader: Reader<'a>) -> Option<Reader<'a>
 }
 
 /// A name of which this stands before, in small letters.
-pub fn read_name<'a>(
-    mut name: Txt,
-    mut reader: Reader<'a>,
-) -> Result<(Txt, Reader<'a>), AllocError>
+pub fn read_name<'a>(mut name: Txt, mut reader: Reader<'a>) -> Result<(Txt, Reader<'a>), AllocError>
     ensures { IfOk result (λ r. r ≡ skips.name_run name reader.entry) }
 {
     while let Some((c, _, rest)) = reader.first() {

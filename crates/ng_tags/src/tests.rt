@@ -6,6 +6,7 @@ use crate::fault::{HtmlFault, HtmlKind};
 use crate::{after_doctype, next_event};
 use ng_base::reader::Reader;
 use std::alloc::{AllocError, Global};
+use std::process::Abort;
 use std::test::Fail;
 
 /// Adds the attributes in words, each with its value in brackets.
@@ -89,9 +90,8 @@ fn words(alloc: Global, document: &str) -> Result<String, AllocError> {
     Ok(out)
 }
 
-/// A document and its events.
-const ROWS: [(&str, &str); 96] = [
-    // Texts.
+/// A text, up to the next tag.
+const TEXTS: [(&str, &str); 9] = [
     ("", ""),
     ("a", "(a@0)"),
     ("a\r\nb\rc", "(a\nb\nc@0)"),
@@ -101,7 +101,10 @@ const ROWS: [(&str, &str); 96] = [
     ("<<b>", "(<@0)<b@1>"),
     ("1<2", "(1<2@0)"),
     (" <!-- x -->", "( @0)<! x @1>"),
-    // References by name, in the order of the rules.
+];
+
+/// Every reference by name, in the order of the table, and what begins none.
+const NAMED: [(&str, &str); 9] = [
     (
         "&amp;&lt;&gt;&quot;&apos;&nbsp;&copy;&reg;&deg;",
         "(&<>\"'\u{a0}\u{a9}\u{ae}\u{b0}@0)",
@@ -120,11 +123,20 @@ const ROWS: [(&str, &str); 96] = [
     ("&amp", "(&amp@0)"),
     ("&amp &AMP; &foo; &;", "(&amp &AMP; &foo; &;@0)"),
     ("&am&amp;", "(&am&@0)"),
-    ("&#; &#x; &#xg; &#X41; &# 65;", "(&#; &#x; &#xg; &#X41; &# 65;@0)"),
-    // References by number.
+    (
+        "&#; &#x; &#xg; &#X41; &# 65;",
+        "(&#; &#x; &#xg; &#X41; &# 65;@0)",
+    ),
+];
+
+/// References by number, and the numbers that are none.
+const NUMBERED: [(&str, &str); 15] = [
     ("&#65;&#x41;&#x6A;&#x6a;&#0000065;", "(AAjjA@0)"),
     ("&#1;&#127;&#160;", "(\u{1}\u{7f}\u{a0}@0)"),
-    ("&#xD7FF;&#xE000;&#x10FFFF;", "(\u{d7ff}\u{e000}\u{10ffff}@0)"),
+    (
+        "&#xD7FF;&#xE000;&#x10FFFF;",
+        "(\u{d7ff}\u{e000}\u{10ffff}@0)",
+    ),
     ("&#10;&#13;", "(\n\r@0)"),
     ("&#0;", "!BadReference@0"),
     ("a&#x80;", "!BadReference@1"),
@@ -137,7 +149,10 @@ const ROWS: [(&str, &str); 96] = [
     ("ab&#65", "!BadReference@2"),
     ("&#65 &#0;", "!BadReference@0"),
     ("&#x41<b>", "!BadReference@0"),
-    // Start tags.
+];
+
+/// Start tags.
+const TAGS: [(&str, &str); 19] = [
     ("<b>", "<b@0>"),
     ("<B>", "<b@0>"),
     ("<my-Tag:a_1 >", "<my-tag:a_1@0>"),
@@ -157,7 +172,10 @@ const ROWS: [(&str, &str); 96] = [
     ("<?xml?>", "!BadTag@0"),
     ("<!x>", "!BadTag@0"),
     ("<!-x-->", "!BadTag@0"),
-    // Attributes.
+];
+
+/// Attributes: of two of one name the first stands, and they come in the order of their names.
+const ATTRIBUTES: [(&str, &str); 17] = [
     ("<b c>", "<b@0 c[]>"),
     ("<b C=D>", "<b@0 c[D]>"),
     ("<b c=\"d e\">", "<b@0 c[d e]>"),
@@ -175,6 +193,10 @@ const ROWS: [(&str, &str); 96] = [
     ("<b c/>", "<b@0 c[]/>"),
     ("<b (c)=1 [d] *e #f>", "<b@0 #f[] (c)[1] *e[] [d][]>"),
     ("<b a`c=1>", "<b@0 a`c[1]>"),
+];
+
+/// What is no attribute, and which of two faults stands.
+const WRONG: [(&str, &str); 14] = [
     ("<b a=b`c>", "<b@0!BadAttr@6>"),
     ("<b \">", "<b@0!BadAttr@3>"),
     ("<b =c>", "<b@0!BadAttr@3>"),
@@ -189,7 +211,10 @@ const ROWS: [(&str, &str); 96] = [
     ("<b c='&#0;'/>", "<b@0!BadReference@6/>"),
     ("<b c=&#0; d=\">", "<b@0!BadReference@5>"),
     ("<b = c=&#0;>", "<b@0!BadAttr@3>"),
-    // End tags.
+];
+
+/// End tags and comments.
+const ENDS: [(&str, &str); 13] = [
     ("</b>", "</b@0>"),
     ("</B \n>", "</b@0>"),
     ("</b x>", "!BadTag@0"),
@@ -197,7 +222,6 @@ const ROWS: [(&str, &str); 96] = [
     ("</ b>", "!BadTag@0"),
     ("</>", "!BadTag@0"),
     ("</script>", "!BadTag@0"),
-    // Comments.
     ("<!---->", "<!@0>"),
     ("<!--a\r\n--b->-->", "<!a --b->@0>"),
     ("<!-->-->", "<!>@0>"),
@@ -206,15 +230,21 @@ const ROWS: [(&str, &str); 96] = [
     ("<!----->", "<!-@0>"),
 ];
 
-/// Elements of text alone, dropped line feeds, and the doctype.
-const MORE: [(&str, &str); 26] = [
+/// Elements of text alone.
+const RAW: [(&str, &str); 15] = [
     ("<title>a<b>&amp;</title>", "<title@0>{a<b>&@7}"),
-    ("<textarea>\r\n\nx</textarea>y", "<textarea@0>{\nx@12}(y@25)"),
+    (
+        "<textarea>\r\n\nx</textarea>y",
+        "<textarea@0>{\nx@12}(y@25)",
+    ),
     ("<title>\nx</title>", "<title@0>{\nx@7}"),
     ("<title></title>", "<title@0>{@7}"),
     ("<title></TITLE\n>", "<title@0>{@7}"),
     ("<title></title x></title>", "<title@0>{</title x>@7}"),
-    ("<title></titles></b></ title></title>", "<title@0>{</titles></b></ title>@7}"),
+    (
+        "<title></titles></b></ title></title>",
+        "<title@0>{</titles></b></ title>@7}",
+    ),
     ("<title>a", "<title@0!Unclosed@8>"),
     ("<title>a</title", "<title@0!Unclosed@15>"),
     ("<title>&#0;</title>", "<title@0!BadReference@7>"),
@@ -223,12 +253,16 @@ const MORE: [(&str, &str); 26] = [
     ("<title c=d e='f'>x</title>", "<title@0 c[d] e[f]>{x@17}"),
     ("<title =>", "<title@0!BadAttr@7>"),
     ("</title>", "</title@0>"),
+];
+
+/// Dropped line feeds, and the doctype.
+const DROPPED: [(&str, &str); 11] = [
     ("<pre>\nx", "<pre@0>(x@6)"),
     ("<pre>\r\n\nx", "<pre@0>(\nx@7)"),
     ("<pre>x\n", "<pre@0>(x\n@5)"),
     ("<b>\nx", "<b@0>(\nx@3)"),
     ("<!DOCTYPE html>\n<b>", "(\n@15)<b@16>"),
-    (" \t\r\n<!doctype x\">a", "(a@18)"),
+    (" \t\r\n<!doctype x\">a", "(a@17)"),
     ("<!doctype>", ""),
     ("  <!doctype", "!BadTag@2"),
     ("\n<b>", "(\n@0)<b@1>"),
@@ -236,15 +270,35 @@ const MORE: [(&str, &str); 26] = [
     ("<!doctype a><!doctype b>", "!BadTag@12"),
 ];
 
+/// Cuts each document of a table into its events.
+fn compare(rt: &impl Abort, alloc: Global, rows: &[(&str, &str)]) -> Result<(), AllocError> {
+    for (document, want) in rows {
+        let got = words(alloc, document)?;
+        assert_eq!(rt; got.as_str(), *want, "at {document}");
+    }
+    Ok(())
+}
+
 #[test]
-fn documents_are_cut_into_events(rt: HostRuntime) -> Result<(), Fail> {
-    for (document, want) in ROWS {
-        let got = words(rt.alloc(), document)?;
-        assert_eq!(rt; got.as_str(), want, "at {document}");
-    }
-    for (document, want) in MORE {
-        let got = words(rt.alloc(), document)?;
-        assert_eq!(rt; got.as_str(), want, "at {document}");
-    }
+fn texts_and_references_are_read(rt: HostRuntime) -> Result<(), Fail> {
+    compare(&rt, rt.alloc(), &TEXTS)?;
+    compare(&rt, rt.alloc(), &NAMED)?;
+    compare(&rt, rt.alloc(), &NUMBERED)?;
+    Ok(())
+}
+
+#[test]
+fn tags_and_attributes_are_read(rt: HostRuntime) -> Result<(), Fail> {
+    compare(&rt, rt.alloc(), &TAGS)?;
+    compare(&rt, rt.alloc(), &ATTRIBUTES)?;
+    compare(&rt, rt.alloc(), &WRONG)?;
+    Ok(())
+}
+
+#[test]
+fn ends_and_elements_of_text_alone_are_read(rt: HostRuntime) -> Result<(), Fail> {
+    compare(&rt, rt.alloc(), &ENDS)?;
+    compare(&rt, rt.alloc(), &RAW)?;
+    compare(&rt, rt.alloc(), &DROPPED)?;
     Ok(())
 }

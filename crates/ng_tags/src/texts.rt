@@ -63,11 +63,7 @@ fn ends(alloc: Global, until: &Until, c: char, rest: &Reader<'_>) -> Result<bool
 }
 
 /// A character more, or a reference that is refused at its place.
-pub fn with_character(
-    d: Decoded,
-    place: usize,
-    read: Option<char>,
-) -> Result<Decoded, AllocError>
+pub fn with_character(d: Decoded, place: usize, read: Option<char>) -> Result<Decoded, AllocError>
     ensures { IfOk result (λ r. r ≡ texts.with_character d place read) }
 {
     let Decoded { mut text, fault } = d;

@@ -1,16 +1,14 @@
 -- What a deep snapshot keeps of a value is enough for its text.
-use Rattle.std.proofs.Common.{◌≡◌, ◌∙◌, ◌≤◌, ◌<◌, ℕ, zero, suc, List, [], ◌∷◌, ◌++◌, refl, sym, ap, subst, arith, if◌then◌else◌, Bool, true, false}
-use Rattle.std.specs.Prelude.{Result, Ok, Err}
-use Rattle.ng_base.specs.Meets.{◌>>=◌}
+use Rattle.std.proofs.Common.{◌≡◌, ◌∙◌, ◌≤◌, ℕ, zero, suc, List, [], ◌∷◌, ◌++◌, refl, ap, subst, arith, if◌then◌else◌, Bool, true, false}
+use Rattle.std.specs.Prelude.{Ok, Err}
 use Rattle.ng_base.specs.Objects.{Object, object_at}
-use Rattle.ng_base.specs.Views.{ViewTree, ViewTrees, ViewFields, prim, list, rec, no_views, view_then, no_fields, views_from, fields_from, views_list, fields_list}
+use Rattle.ng_base.specs.Views.{ViewTree, ViewFields, prim, list, rec, no_fields, views_from, fields_from, views_list, fields_list}
 use Rattle.ng_base.specs.declared.heap.ObjKind.{ObjKind}
 use Rattle.ng_base.specs.declared.heap.ObjKind.TheVariants as kinds
 use Rattle.ng_base.specs.declared.name.Oid.{Oid}
-use Rattle.ng_base.specs.declared.fault.Fault.{Fault}
 use Rattle.ng_base.specs.declared.value.Value.{Value}
 use Rattle.ng_base.specs.declared.value.Value.TheVariants as value
-use Rattle.ng_language.specs.Unfolding.{Field, Spent, and_then, as_list, as_record, unfold_within, unfold_view, unfold_value, unfold_object, unfold_list, unfold_record, unfold_items, unfold_fields, below_object, is_left_out, prims, own_entries, object_order, record_order, level_limit, node_limit, made, unfolded}
+use Rattle.ng_language.specs.Unfolding.{Field, Spent, and_then, as_list, as_record, unfold_within, unfold_view, unfold_object, unfold_items, unfold_fields, below_object, is_left_out, prims, own_entries, object_order, record_order, level_limit, node_limit, made}
 use Rattle.ng_language.specs.declared.unfolding.Mode.{Mode}
 use Rattle.ng_language.specs.declared.unfolding.Mode.TheVariants as modes
 use Rattle.ng_language.specs.Texts.{text_of, items_text, more_text, item_text, to_text}

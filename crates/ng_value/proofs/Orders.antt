@@ -1,14 +1,13 @@
 -- Fields in the order of their names, seen as the tree has them.
-use Rattle.std.proofs.Common.{◌≡◌, ◌∙◌, ℕ, List, [], ◌∷◌, ◌++◌, map, refl, sym, ap, Option, Some, None, Ordering, Less, Equal, Greater}
+use Rattle.std.proofs.Common.{◌≡◌, ◌∙◌, ℕ, List, [], ◌∷◌, ◌++◌, map, refl, ap, Option, Some, None, Ordering, Less, Equal, Greater}
 use Rattle.std.specs.BTreeMap.{insert_entry}
 use Rattle.std.specs.Map.{values_of}
 use Rattle.std.specs.Ordering.{match_ordering, nat_cmp}
 use Rattle.ng_base.specs.Objects.{index_of}
 use Rattle.ng_base.specs.Order.{txt_cmp}
-use Rattle.ng_base.specs.Views.{ViewTree}
 use Rattle.ng_base.specs.ViewOf.{view_of, field_of}
 use Rattle.ng_base.specs.declared.view.View.{View}
-use Rattle.ng_language.specs.Unfolding.{Field, sorted_from, with_indexed, indexed_from, with_other, others_of, in_key_order}
+use Rattle.ng_language.specs.Unfolding.{Field, sorted_from, with_indexed, indexed_from, with_other, others_of}
 use Rattle.ng_value.specs.Seen.{indexed_field}
 
 abbrev pub Named : Type 0

@@ -1,10 +1,7 @@
 -- Being the same is being equal.
-use Rattle.std.proofs.Common.{◌≡◌, ◌∙◌, ◌↔◌, Bool, true, false, not, refl, sym, ap, IsTrue, true≢false, nat_eq, bytes_eq, if◌then◌else◌, ℤ}
+use Rattle.std.proofs.Common.{◌≡◌, ◌∙◌, ◌↔◌, Bool, true, false, not, refl, sym, ap, IsTrue, true≢false, bytes_eq, if◌then◌else◌}
 use Rattle.std.proofs.lemmas.Slice.Eq.{bytes_eq-Decides}
-use Rattle.std.specs.Ordering.{int_eq}
 use Rattle.ng_base.specs.Views.{ViewTree, ViewTrees, ViewFields, prim, list, rec, no_views, view_then, no_fields, field_then}
-use Rattle.ng_base.specs.declared.name.Oid.{Oid}
-use Rattle.ng_base.specs.declared.name.FunId.{FunId}
 use Rattle.ng_base.specs.declared.value.Value.{Value}
 use Rattle.ng_base.specs.declared.value.Value.TheVariants as value
 use Rattle.ng_language.specs.Operators.{same}

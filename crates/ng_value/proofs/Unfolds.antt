@@ -1,18 +1,12 @@
 -- One step of the traversal.
-use Rattle.std.proofs.Common.{◌≡◌, ◌∙◌, ◌+◌, ◌-◌, ℕ, zero, suc, List, [], ◌∷◌, ◌++◌, drop, refl, sym, ap, Option, Some, None, slice_get, add-one, arith}
+use Rattle.std.proofs.Common.{◌≡◌, ◌+◌, ◌-◌, ℕ, zero, suc, List, [], ◌∷◌, ◌++◌, drop, refl, ap, Option, Some, None, slice_get, add-one, append_assoc, arith}
 use Rattle.std.specs.Prelude.{Result, Ok, Err}
-use Rattle.ng_base.specs.Faults.{is_memory}
-use Rattle.ng_base.specs.Meets.{Gives}
-use Rattle.ng_base.specs.Objects.{Object, object_at}
+use Rattle.ng_base.specs.Objects.{Object}
 use Rattle.ng_base.specs.Views.{ViewTree, prim}
 use Rattle.ng_base.specs.declared.fault.Fault.{Fault}
-use Rattle.ng_base.specs.declared.name.Oid.{Oid}
 use Rattle.ng_base.specs.declared.value.Value.{Value}
-use Rattle.ng_base.specs.declared.value.Value.TheVariants.{Obj}
-use Rattle.ng_base.specs.declared.view.View.{View}
-use Rattle.ng_language.specs.Unfolding.{Spent, unfold_within, unfold_object, unfold_view, unfold_items, prims, below_object}
+use Rattle.ng_language.specs.Unfolding.{Spent, unfold_within, unfold_view, unfold_items, prims}
 use Rattle.ng_language.specs.declared.unfolding.Mode.{Mode}
-use Rattle.ng_value.specs.Seen.{view_spent}
 
 at_item : (items : List Value) (i : ℕ) (v : Value) → slice_get items i ≡ Some v → drop i items ≡ v ∷ drop (suc i) items
 at_item [] i v h = absurd (cc)
@@ -34,3 +28,7 @@ view_step (suc k) (suc l) objects m t A a b h =
     let e : suc k - 1 ≡ k = omega arith in
     let f : suc l - 1 ≡ l = omega arith in
     rw (e, f) at h
+
+-- an item behind those that were taken
+pub items_next : (items : List Value) (i : ℕ) (v : Value) (done : List ViewTree) → slice_get items i ≡ Some v → (done ++ prim v ∷ []) ++ prims (drop (i + 1) items) ≡ done ++ prims (drop i items)
+items_next items i v done h = rw (at_item items i v h, add-one) (append_assoc done (prim v ∷ []) (prims (drop (suc i) items)))

@@ -1,5 +1,5 @@
 -- The parts of views.
-use Rattle.std.proofs.Common.{◌≡◌, ◌∙◌, ℕ, List, [], ◌∷◌, ◌++◌, map, refl, sym, ap, rules}
+use Rattle.std.proofs.Common.{◌≡◌, ℕ, List, refl, ap, rules}
 use Rattle.std.specs.List.{AllByRecursion}
 use Rattle.ng_base.specs.Views.{ViewTree, ViewTrees, ViewFields, no_views, view_then, no_fields, field_then, views_from, views_list, fields_from, fields_list}
 use Rattle.ng_base.specs.Views.{list, rec}

@@ -3,10 +3,12 @@ ghost use Rattle.std.specs.Prelude.{◌≡◌, length};
 ghost use Rattle.ng_base.specs.Faults.{is_memory};
 ghost use Rattle.ng_base.specs.Meets.{Gives};
 ghost use Rattle.ng_base.specs.ViewOf.{view_of};
-ghost use Rattle.ng_language.specs.Snapshots.{mode_of, snapshot};
+ghost use Rattle.ng_language.specs.Snapshots.{mode_of};
 ghost use Rattle.ng_language.specs.Views.{ViewStands};
 ghost use Rattle.ng_value.specs.Snaps.{snap_of};
+ghost use Rattle.ng_value.specs.Taken.{taken};
 
+use crate::collecting::collected;
 use crate::snapshot::Snap;
 use crate::unfolding::unfolded;
 use ng_base::fault::Fault;
@@ -26,11 +28,13 @@ fn mode_of(kind: SnapKind) -> Mode
     }
 }
 
-/// The snapshot of a value, or TooBig.
+/// The snapshot of a value, or TooBig. What a collection takes of a stored object is not counted.
 pub fn snap<H: Heap>(alloc: Global, kind: SnapKind, h: &H, v: &View) -> Result<Snap, Fault>
     requires { ViewStands (length (H.objects h.now)) (view_of v.now) }
-    ensures { Gives is_memory snap_of (snapshot kind (H.objects h.now) (view_of v.now)) result }
+    ensures exact { Gives is_memory snap_of (taken kind (H.objects h.now) (view_of v.now)) result }
 {
-    let view = unfolded(alloc, h, mode_of(kind), v)?;
-    Ok(Snap::of_view(view))
+    match (kind, v) {
+        (SnapKind::Collection, View::Prim(v)) => Ok(Snap::of_view(collected(alloc, h, v)?)),
+        _ => Ok(Snap::of_view(unfolded(alloc, h, mode_of(kind), v)?)),
+    }
 }

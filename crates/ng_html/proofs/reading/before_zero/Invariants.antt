@@ -1,4 +1,4 @@
-use Rattle.std.proofs.Common.{◌≡◌, ◌+◌, length, drop}
+use Rattle.std.proofs.Common.{◌≡◌, ◌+◌, drop}
 use Rattle.ng_html.specs.Reading.{before_zero}
 use Rattle.ng_html.proofs.reading.before_zero.Given as goal
 

@@ -1,7 +1,7 @@
-use Rattle.std.proofs.Common.{◌≡◌, ◌++◌, ◌<◌, length, ap, sym, ◌∙◌, arith, List, ℕ}
+use Rattle.std.proofs.Common.{length, ap, sym, ◌∙◌, arith, List, ℕ}
 use Rattle.ng_base.specs.Cells.{Cell}
 use Rattle.ng_html.proofs.Lexed.{lexed_less}
-use Rattle.ng_html.specs.Reading.{read_on, begin}
+use Rattle.ng_html.specs.Reading.{read_on}
 use Rattle.ng_html.specs.TreeSeen.{state_of}
 use Rattle.ng_html.proofs.Turns.{read_event_on}
 use Rattle.ng_html.proofs.reading.read_all.Goals as goal

@@ -1,7 +1,7 @@
 use Rattle.std.proofs.Common.{◌≡◌, ◌++◌, map, true}
 use Rattle.std.specs.List.{list_all}
 use Rattle.ng_parse.specs.ProgramOf.{program}
-use Rattle.ng_sites.specs.Now.{are_pure, all_filters_known}
+use Rattle.ng_view.specs.Purity.{are_pure, all_filters_known}
 use Rattle.ng_page.specs.TemplateOf.{programs_of}
 use Rattle.ng_page.proofs.texts.watched.Given as goal
 

@@ -1,4 +1,4 @@
-use Rattle.std.proofs.Common.{◌≡◌, ◌∙◌, sym}
+use Rattle.std.proofs.Common.{◌∙◌, sym}
 use Rattle.ng_base.specs.ViewOf.{view_of}
 use Rattle.ng_value.proofs.DeepTexts.{deep_text}
 use Rattle.ng_value.proofs.laws.same_deep_same_text.Goals as goal

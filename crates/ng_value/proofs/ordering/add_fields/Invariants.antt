@@ -1,9 +1,6 @@
-use Rattle.std.proofs.Common.{◌≡◌, ◌++◌, [], map}
-use Rattle.std.specs.Map.{values_of}
+use Rattle.std.proofs.Common.{◌≡◌, ◌++◌, map}
 use Rattle.ng_base.specs.Views.{fields_list}
 use Rattle.ng_base.specs.ViewOf.{fields_of, field_of}
-use Rattle.ng_language.specs.Unfolding.{indexed_from, others_of}
-use Rattle.ng_value.specs.Seen.{indexed_field}
 use Rattle.ng_value.proofs.ordering.add_fields.Given as goal
 
 abbrev pub invariant-loop-name : goal.invariant-loop-name

@@ -1,4 +1,4 @@
-use Rattle.std.proofs.Common.{◌≡◌, ◌∙◌, refl}
+use Rattle.std.proofs.Common.{◌∙◌, refl}
 use Rattle.ng_value.proofs.Orders.{values-indexed}
 use Rattle.ng_value.proofs.ordering.in_key_order.Goals as goal
 

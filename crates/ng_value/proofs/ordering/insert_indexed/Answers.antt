@@ -1,4 +1,4 @@
-use Rattle.std.proofs.Common.{◌≡◌, ◌∙◌, ap, map}
+use Rattle.std.proofs.Common.{◌∙◌, ap, map}
 use Rattle.ng_value.specs.Seen.{indexed_field}
 use Rattle.ng_value.proofs.Orders.{map-insert_indexed}
 use Rattle.ng_value.proofs.ordering.insert_indexed.Goals as goal

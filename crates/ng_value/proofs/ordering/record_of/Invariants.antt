@@ -1,4 +1,4 @@
-use Rattle.std.proofs.Common.{◌≡◌, ◌++◌, map}
+use Rattle.std.proofs.Common.{◌≡◌, map}
 use Rattle.ng_base.specs.Views.{fields_list}
 use Rattle.ng_base.specs.ViewOf.{fields_of, field_of}
 use Rattle.ng_value.proofs.ordering.record_of.Given as goal

@@ -1,4 +1,4 @@
-use Rattle.std.proofs.Common.{◌≡◌, ◌∙◌, ◌++◌, [], ap}
+use Rattle.std.proofs.Common.{◌∙◌, ◌++◌, [], ap}
 use Rattle.ng_base.specs.Objects.{index_of}
 use Rattle.ng_base.specs.ViewOf.{view_of}
 use Rattle.ng_language.specs.Unfolding.{with_indexed, with_other}

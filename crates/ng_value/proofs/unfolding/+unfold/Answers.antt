@@ -1,5 +1,4 @@
-use Rattle.std.proofs.Common.{◌≡◌, ◌∙◌, ◌+◌, ◌++◌, ◌∷◌, [], drop, sym, ap, refl, subst}
-use Rattle.std.specs.Prelude.{Result, Ok, Err}
+use Rattle.std.proofs.Common.{◌∙◌, ◌+◌, drop, sym, ap, subst}
 use Rattle.ng_base.specs.Faults.{is_memory}
 use Rattle.ng_base.specs.Meets.{Gives}
 use Rattle.ng_base.specs.Objects.{object_at}

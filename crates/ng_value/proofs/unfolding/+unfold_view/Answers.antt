@@ -1,11 +1,10 @@
-use Rattle.std.proofs.Common.{◌≡◌, ◌∙◌, sym, ap, refl, subst, rules, length, map}
+use Rattle.std.proofs.Common.{◌≡◌, ◌∙◌, ap, rules, length, map}
 use Rattle.std.specs.List.{AllByRecursion}
 use Rattle.ng_base.specs.Faults.{is_memory}
 use Rattle.ng_base.specs.Meets.{Gives}
 use Rattle.ng_base.specs.Views.{list, rec}
 use Rattle.ng_base.specs.ViewOf.{view_of, views_of, fields_of, field_of}
-use Rattle.ng_base.specs.declared.view.View.{View}
-use Rattle.ng_language.specs.Unfolding.{Field, unfold_within}
+use Rattle.ng_language.specs.Unfolding.{Field}
 use Rattle.ng_language.specs.Views.{ViewStands}
 use Rattle.ng_value.specs.Seen.{view_spent}
 use Rattle.ng_value.proofs.Unfolds.{view_step}

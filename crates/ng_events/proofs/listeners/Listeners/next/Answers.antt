@@ -4,8 +4,7 @@ use Rattle.ng_chain.specs.Walked.{walk_at}
 use Rattle.ng_chain.specs.declared.chain.Walk.{Walk}
 use Rattle.ng_events.specs.declared.stands.EventWalk.{EventWalk}
 use Rattle.ng_events.specs.declared.stands.EventWalk.TheVariants.{On}
-use Rattle.ng_events.specs.Stands.{Table, IsOpen, Goes, open_of, open_on, lists_of, all_heard, walks_on, walked, chain_at, entries_of}
-use Rattle.ng_events.proofs.Changed.{change-length}
+use Rattle.ng_events.specs.Stands.{Table, IsOpen, Goes, open_of, open_on, lists_of, all_heard, walks_on, chain_at, entries_of}
 use Rattle.ng_events.proofs.Walks.{open-list, hears-open, sound-walked, walked-lists, walked-walks, walked-open, walked-hears}
 use Rattle.ng_events.proofs.listeners.Listeners.next.Goals as goal
 

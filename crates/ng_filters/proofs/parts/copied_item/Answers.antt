@@ -1,0 +1,37 @@
+use Rattle.std.proofs.Common.{◌≡◌, ◌∙◌, ◌∷◌, ◌+◌, ap, sym, arith, drop, length}
+use Rattle.std.proofs.lemmas.List.{length-map}
+use Rattle.std.proofs.lemmas.Result.{IfOk-weaker}
+use Rattle.ng_base.specs.Objects.{object_at}
+use Rattle.ng_base.specs.Views.{views_list}
+use Rattle.ng_base.specs.ViewOf.{view_of, views_of}
+use Rattle.ng_base.specs.declared.view.View.{View}
+use Rattle.ng_language.specs.Unfolding.{prims}
+use Rattle.ng_filters.specs.Parts.{items}
+use Rattle.ng_filters.specs.Seen.{seen}
+use Rattle.ng_filters.proofs.ViewParts.{length-prims, at_prims, at_views}
+use Rattle.ng_filters.proofs.parts.copied_item.Goals as goal
+
+pub prove-unreachable-requires : goal.prove-unreachable-requires
+prove-unreachable-requires c =
+    let objects = c.args.store.now in
+    let stored = (object_at objects c.in-Obj.o.0).items in
+    let e : length (items objects (seen c.args.v)) ≡ length stored = ap (λ v. length (items objects (seen v))) c.in-Obj.is ∙ length-prims stored in
+    omega (arith, e)
+
+pub returns-in_ok-copied-in-Obj-clause-item : goal.returns-in_ok-copied-in-Obj-clause-item
+returns-in_ok-copied-in-Obj-clause-item c =
+    let objects = c.args.store.now in
+    let stored = (object_at objects c.in-Obj.o.0).items in
+    let e : items objects (seen c.args.v) ≡ prims stored = ap (λ v. items objects (seen v)) c.in-Obj.is in
+    rw (e, c.of_value.ensures, c.in_ok-copied-in-Obj.ensures) (at_prims stored c.args.i c.item.result.now c.item.ensures.item)
+
+pub returns-in-List-clause-item : goal.returns-in-List-clause-item
+returns-in-List-clause-item c =
+    let objects = c.args.store.now in
+    let fresh = views_list (views_of c.in-List.views.now) in
+    let e : items objects (seen c.args.v) ≡ fresh = ap (λ v. items objects (seen v)) c.in-List.is in
+    let n : length (items objects (seen c.args.v)) ≡ length c.as_slice.result.now = ap length e ∙ (ap length (sym c.as_slice.ensures) ∙ length-map c.as_slice.result.now view_of) in
+    let at = at_views c.as_slice.result.now fresh c.args.i c.index-as_slice-i.result c.as_slice.ensures (omega (arith, n)) c.index-as_slice-i.is in
+    rw e
+    (IfOk-weaker c.copied-in-List.result (λ (w : View). view_of w ≡ view_of c.index-as_slice-i.result) (λ (w : View). drop c.args.i fresh ≡ view_of w ∷ drop (c.args.i + 1) fresh)
+    (λ w h. at ∙ ap (λ t. t ∷ drop (c.args.i + 1) fresh) (sym h)) c.copied-in-List.ensures.copy)

@@ -1,0 +1,10 @@
+pub mod Known
+pub mod Parts
+pub mod Casing
+pub mod Numbers
+pub mod Limits
+pub mod Matching
+pub mod Ordering
+pub mod Applied
+pub mod Seen
+pub mod Laws

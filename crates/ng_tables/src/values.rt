@@ -1,0 +1,123 @@
+//! Values as rows name them, and as results are written down.
+ghost use Rattle.std.specs.Prelude.{length, IfSome};
+ghost use Rattle.ng_base.specs.Objects.{StandsAmong};
+ghost use Rattle.ng_base.specs.ViewOf.{view_of};
+ghost use Rattle.ng_language.specs.Views.{ViewStands};
+
+use ng_base::fault::Fault;
+use ng_base::name::{FunId, Oid};
+use ng_base::txt::Txt;
+use ng_base::value::Value;
+use ng_base::view::View;
+use ng_store::store::Store;
+use serde_json::Value as Json;
+use std::alloc::{AllocError, Global};
+
+/// The greatest number; its negative is the least.
+pub(crate) const MAX: i64 = 9_007_199_254_740_991;
+
+/// A value. An object is named by its place in the store.
+#[derive(Clone, Copy, Debug)]
+pub(crate) enum Of {
+    Undefined,
+    Null,
+    Bool(bool),
+    Int(i64),
+    Nan,
+    Text(&'static str),
+    Object(u32),
+    Function,
+}
+
+/// The value, where memory is at hand and its object stands.
+pub(crate) fn value(alloc: Global, store: &Store, of: Of) -> Option<Value>
+    ensures { IfSome result (StandsAmong (length store.now)) }
+{
+    match of {
+        Of::Undefined => Some(Value::Undefined),
+        Of::Null => Some(Value::Null),
+        Of::Bool(b) => Some(Value::Bool(b)),
+        Of::Int(n) => Some(Value::Int(n)),
+        Of::Nan => Some(Value::Nan),
+        Of::Text(t) => Some(Value::Text(Txt::from_str(alloc, t).ok()?)),
+        Of::Object(o) => object(store, o),
+        Of::Function => Some(Value::Fun(FunId(7))),
+    }
+}
+
+fn object(store: &Store, o: u32) -> Option<Value>
+    ensures { IfSome result (StandsAmong (length store.now)) }
+{
+    if (o as usize) < store.count() {
+        Some(Value::Obj(Oid(o)))
+    } else {
+        None
+    }
+}
+
+/// The same as a view.
+pub(crate) fn view(alloc: Global, store: &Store, of: Of) -> Option<View>
+    ensures { IfSome result (λ v. ViewStands (length store.now) (view_of v)) }
+{
+    let value = value(alloc, store, of)?;
+    Some(View::of_value(value))
+}
+
+/// The value of a JSON text.
+pub(crate) fn of_json(alloc: Global, store: &mut Store, text: &str) -> Option<View>
+    ensures { IfSome result (λ v. ViewStands (length store.new) (view_of v)) }
+{
+    let json = Json::from_str(alloc, text).ok()?;
+    let value = store.of_json(&json).ok()?;
+    Some(View::of_value(value))
+}
+
+/// Sets a name of an object, where both stand.
+pub(crate) fn put(alloc: Global, store: &mut Store, o: u32, name: &str, of: Of) -> bool {
+    let Some(value) = value(alloc, store, of) else {
+        return false;
+    };
+    let Ok(name) = Txt::from_str(alloc, name) else {
+        return false;
+    };
+    if (o as usize) < store.count() {
+        store.set(Oid(o), &name, value).is_ok()
+    } else {
+        false
+    }
+}
+
+/// Adds an item to an array, where both stand.
+pub(crate) fn push(alloc: Global, store: &mut Store, o: u32, of: Of) -> bool {
+    let Some(value) = value(alloc, store, of) else {
+        return false;
+    };
+    if (o as usize) < store.count() {
+        store.push(Oid(o), value).is_ok()
+    } else {
+        false
+    }
+}
+
+/// A value in words: a text has quotes, an object no name.
+pub(crate) fn shown(alloc: Global, v: &View) -> Result<String, AllocError> {
+    match v {
+        View::Prim(Value::Undefined) => format!(in alloc; "undefined"),
+        View::Prim(Value::Null) => format!(in alloc; "null"),
+        View::Prim(Value::Bool(b)) => format!(in alloc; "{b}"),
+        View::Prim(Value::Int(n)) => format!(in alloc; "{n}"),
+        View::Prim(Value::Nan) => format!(in alloc; "NaN"),
+        View::Prim(Value::Text(t)) => format!(in alloc; "'{}'", t.as_str()),
+        View::Prim(Value::Obj(_)) => format!(in alloc; "object"),
+        View::Prim(Value::Fun(_)) => format!(in alloc; "function"),
+        _ => format!(in alloc; "fresh"),
+    }
+}
+
+/// A result in words: a value, or the fault's name.
+pub(crate) fn told(alloc: Global, r: &Result<View, Fault>) -> Result<String, AllocError> {
+    match r {
+        Ok(v) => shown(alloc, v),
+        Err(fault) => format!(in alloc; "{}", fault.name()),
+    }
+}

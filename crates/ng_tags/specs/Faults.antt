@@ -1,0 +1,51 @@
+-- What is wrong inside of a tag, and where.
+use Rattle.std.specs.Prelude.{◌≡◌, Bool, true, false, ℕ, ◌==◌, ◌||◌, List, [], ◌∷◌, ◌++◌}
+use Rattle.std.specs.List.{list_all}
+use Rattle.ng_base.specs.Cells.{Cell}
+use Rattle.ng_tags.specs.Free.{fault}
+use Rattle.ng_tags.specs.Letters.{is_space, is_in_attribute, is_bare}
+use Rattle.ng_tags.specs.Spelling.{chars_of, Reads, BeginsNot, EqualsSign, IsQuote, IsAttribute}
+use Rattle.ng_tags.specs.Refusals.{BadAt}
+use Rattle.ng_tags.specs.declared.fault.HtmlFault.{HtmlFault}
+use Rattle.ng_tags.specs.declared.fault.HtmlKind.TheVariants as kind
+use Rattle.ng_tags.specs.declared.until.Until.{Until}
+use Rattle.ng_tags.specs.declared.until.Until.TheVariants as until
+
+-- attributes and white space, which that rest follows
+pub data SoFar (rest : List Cell) : List Cell → Type 0 where
+  none_yet : SoFar rest []
+  space_first : (c : Cell) (us : List Cell) → is_space c.0 ≡ true → SoFar rest us → SoFar rest (c ∷ us)
+  attribute_first : (name value : List ℕ) (us vs : List Cell) → IsAttribute name value us (vs ++ rest) → SoFar rest vs → SoFar rest (us ++ vs)
+
+-- a value begins with a quote, or stands without quotes
+abbrev pub begins_value : ℕ → Bool
+begins_value c = is_bare c || c == 34 || c == 39
+
+-- behind the `=` of an attribute no whole value stands
+pub data WrongValue (total : ℕ) : List Cell → HtmlFault → Type 0 where
+  value_cut : WrongValue total [] (fault kind.Unclosed total)
+  no_value : (c : Cell) (cs : List Cell) → begins_value c.0 ≡ false → WrongValue total (c ∷ cs) (fault kind.BadAttr c.1)
+  quote_cut : (u : Until) (v : List ℕ) (q : Cell) (w : List Cell) → IsQuote q.0 u → Reads u [] w v → WrongValue total (q ∷ w) (fault kind.Unclosed total)
+  bad_in_quotes : (u : Until) (p : ℕ) (q : Cell) (cs : List Cell) → IsQuote q.0 u → BadAt u p cs → WrongValue total (q ∷ cs) (fault kind.BadReference p)
+  bad_in_bare : (p : ℕ) (c : Cell) (cs : List Cell) → is_bare c.0 ≡ true → BadAt until.Space p (c ∷ cs) → WrongValue total (c ∷ cs) (fault kind.BadReference p)
+  backquote : (v : List ℕ) (c : Cell) (w : List Cell) (b : Cell) (cs : List Cell) → is_bare c.0 ≡ true → Reads until.Space (b ∷ cs) (c ∷ w) v → b.0 ≡ 96 → WrongValue total (c ∷ (w ++ b ∷ cs)) (fault kind.BadAttr b.1)
+
+-- what may stand inside of a tag, where no attribute has begun
+abbrev pub begins_inside : ℕ → Bool
+begins_inside c = is_in_attribute c || is_space c || c == 62 || c == 47
+
+-- neither a whole attribute nor the end of the tag stands here
+pub data Wrong (total : ℕ) : List Cell → HtmlFault → Type 0 where
+  tag_cut : Wrong total [] (fault kind.Unclosed total)
+  slash_cut : (s : Cell) → s.0 ≡ 47 → Wrong total (s ∷ []) (fault kind.Unclosed total)
+  slash_inside : (s c : Cell) (cs : List Cell) → s.0 ≡ 47 → (c.0 == 62) ≡ false → Wrong total (s ∷ c ∷ cs) (fault kind.BadAttr s.1)
+  no_attribute : (c : Cell) (cs : List Cell) → begins_inside c.0 ≡ false → Wrong total (c ∷ cs) (fault kind.BadAttr c.1)
+  wrong_value : (c : Cell) (w us cs : List Cell) (f : HtmlFault) → list_all is_in_attribute (chars_of (c ∷ w)) ≡ true → EqualsSign us → BeginsNot is_space cs → WrongValue total cs f → Wrong total ((c ∷ w) ++ (us ++ cs)) f
+
+-- inside of a tag all is well up to there
+pub record WrongInside (total : ℕ) (cs : List Cell) (f : HtmlFault) : Type 0 where
+  pub before : List Cell
+  pub behind : List Cell
+  pub whole : cs ≡ before ++ behind
+  pub so_far : SoFar behind before
+  pub wrong : Wrong total behind f

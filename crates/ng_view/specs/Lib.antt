@@ -1,0 +1,4 @@
+pub mod Purity
+pub mod Members
+pub mod Methods
+pub mod Evaluation

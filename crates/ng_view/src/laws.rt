@@ -1,0 +1,48 @@
+//! What a reader may take from the definition of values.
+ghost use Rattle.std.specs.Prelude.{◌≡◌, ◌<◌, ◌⊎◌, length, map, Some, None, Ok, Err};
+ghost use Rattle.std.specs.Map.{lookup};
+ghost use Rattle.std.specs.Str.{bytes_eq};
+ghost use Rattle.ng_base.specs.Views.{prim};
+ghost use Rattle.ng_base.specs.declared.value.Value.TheVariants.{Undefined, Null};
+ghost use Rattle.ng_language.specs.Objects.{look};
+ghost use Rattle.ng_language.specs.Trees.{a_name, member_of, call_of, no_trees, trees_from};
+ghost use Rattle.ng_parse.specs.TreeOf.{tree};
+ghost use Rattle.ng_view.specs.Members.{or_undefined};
+ghost use Rattle.ng_view.specs.Evaluation.{evaluated, evaluated_program};
+
+use ng_base::locals::Locals;
+use ng_base::name::Oid;
+use ng_base::txt::Txt;
+use ng_base::value::Value;
+use ng_parse::Expr;
+use ng_store::Store;
+
+/// A local hides what the scope has under its name.
+pub fn local_first(store: &Store, scope: Oid, locals: &Locals, name: &Txt, v: &Value)
+    requires { lookup (bytes_eq name.now) locals.now ≡ Some v.now }
+    ensures { evaluated store.now scope.0 locals.now (a_name name.now) ≡ Ok (prim v.now) }
+{}
+
+/// A name that is no local is looked up from the scope through its prototypes.
+pub fn scope_next(store: &Store, scope: Oid, locals: &Locals, name: &Txt)
+    requires { lookup (bytes_eq name.now) locals.now ≡ None }
+    ensures { evaluated store.now scope.0 locals.now (a_name name.now) ≡ Ok (or_undefined (look store.now scope.0 name.now)) }
+{}
+
+/// A call on null or undefined gives undefined, and its arguments do not count.
+pub fn nothing_called(
+    store: &Store,
+    scope: Oid,
+    locals: &Locals,
+    e: &Expr,
+    name: &Txt,
+    args: &[Expr],
+)
+    requires { (evaluated store.now scope.0 locals.now (tree e.now) ≡ Ok (prim Undefined)) ⊎ (evaluated store.now scope.0 locals.now (tree e.now) ≡ Ok (prim Null)) }
+    ensures { evaluated store.now scope.0 locals.now (call_of (member_of (tree e.now) name.now) (trees_from (map tree args.now))) ≡ Ok (prim Undefined) }
+{}
+
+/// The empty program is undefined.
+pub fn empty_program(store: &Store, scope: Oid, locals: &Locals)
+    ensures { evaluated_program store.now scope.0 locals.now no_trees ≡ Ok (prim Undefined) }
+{}

@@ -1,0 +1,60 @@
+//! The value of a program.
+ghost use Rattle.std.specs.Prelude.{◌≡◌, ◌<◌, length, map, IfOk};
+ghost use Rattle.ng_base.specs.Faults.{is_memory};
+ghost use Rattle.ng_base.specs.Meets.{Gives};
+ghost use Rattle.ng_base.specs.ViewOf.{view_of};
+ghost use Rattle.ng_language.specs.Trees.{trees_from};
+ghost use Rattle.ng_language.specs.Views.{ViewStands};
+ghost use Rattle.ng_parse.specs.ProgramOf.{program};
+ghost use Rattle.ng_parse.specs.TreeOf.{tree};
+ghost use Rattle.ng_view.specs.Purity.{ArePure, FiltersKnown};
+ghost use Rattle.ng_view.specs.Evaluation.{evaluated_program, LocalsStand};
+
+use crate::evaluation::evaluated;
+use crate::members::undefined;
+use ng_base::fault::Fault;
+use ng_base::locals::Locals;
+use ng_base::name::Oid;
+use ng_base::view::View;
+use ng_parse::{Expr, Program};
+use ng_store::Store;
+use std::alloc::Global;
+
+/// The value of the last statement, or undefined.
+fn statements_value(
+    alloc: Global,
+    store: &Store,
+    scope: Oid,
+    locals: &Locals,
+    statements: &[Expr],
+) -> Result<View, Fault>
+    requires scope { scope.0 < length store.now }
+    requires locals { LocalsStand (length store.now) locals.now }
+    requires known { FiltersKnown (trees_from (map tree statements.now)) }
+    ensures exact { Gives is_memory view_of (evaluated_program store.now scope.0 locals.now (trees_from (map tree statements.now))) result }
+    ensures stands { IfOk result (λ v. ViewStands (length store.now) (view_of v)) }
+{
+    let mut value = undefined();
+    for statement in statements {
+        value = evaluated(alloc, store, scope, locals, statement)?;
+    }
+    Ok(value)
+}
+
+/// The value of a program over a scope, with locals before the scope's names. Nothing is changed and no object made.
+pub fn view(
+    alloc: Global,
+    store: &Store,
+    scope: Oid,
+    locals: &Locals,
+    p: &Program,
+) -> Result<View, Fault>
+    requires scope { scope.0 < length store.now }
+    requires locals { LocalsStand (length store.now) locals.now }
+    requires pure { ArePure (program p.now) }
+    requires known { FiltersKnown (program p.now) }
+    ensures exact { Gives is_memory view_of (evaluated_program store.now scope.0 locals.now (program p.now)) result }
+    ensures stands { IfOk result (λ v. ViewStands (length store.now) (view_of v)) }
+{
+    statements_value(alloc, store, scope, locals, p.statements())
+}
