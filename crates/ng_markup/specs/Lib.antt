@@ -1,2 +1,4 @@
 pub mod Tables
 pub mod Forest
+pub mod Holes
+pub mod FirstPath
