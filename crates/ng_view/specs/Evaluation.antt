@@ -105,12 +105,22 @@ callee_or None c = c
 abbrev pub callee : List Object → ViewTree → List ℕ → Callee
 callee objects t name = callee_or (method_of objects t name) (member_callee (member objects t name))
 
+abbrev pub is_nothing : Callee → Bool
+is_nothing callees.Nothing = true
+is_nothing (callees.Method m) = false
+is_nothing callees.Function = false
+is_nothing callees.Other = false
+
+-- the value of a call with its arguments
+abbrev pub called_on : List Object → Callee → ViewTree → List ViewTree → Result ViewTree Fault
+called_on objects (callees.Method m) t args = method_value objects m t args
+called_on objects callees.Nothing t args = Ok (prim value.Undefined)
+called_on objects callees.Function t args = Err ImpureCall
+called_on objects callees.Other t args = Err NotAFunction
+
 -- where nothing is called the arguments do not count, and else they are evaluated first
 abbrev pub called : List Object → Callee → ViewTree → Result (List ViewTree) Fault → Result ViewTree Fault
-called objects (callees.Method m) t args = args >>= λ vs. method_value objects m t vs
-called objects callees.Nothing t args = Ok (prim value.Undefined)
-called objects callees.Function t args = args >>= λ vs. Err ImpureCall
-called objects callees.Other t args = args >>= λ vs. Err NotAFunction
+called objects c t args = if is_nothing c then Ok (prim value.Undefined) else (args >>= λ vs. called_on objects c t vs)
 
 abbrev pub Field : Type 0
 Field = List ℕ × ViewTree

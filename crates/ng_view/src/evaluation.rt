@@ -11,7 +11,7 @@ ghost use Rattle.ng_parse.specs.TreeOf.{tree, pair_tree};
 ghost use Rattle.ng_view.specs.Purity.{count_of, IsKnown, FiltersKnown, IsPairKnown, ArePairsKnown};
 ghost use Rattle.ng_view.specs.Evaluation.{evaluated, receiver, evaluated_all, evaluated_pair, evaluated_pairs, LocalsStand, Field, FieldsAllStand};
 
-use crate::calls::{Callee, called, find_callee};
+use crate::calls::{called_on, find_callee, is_nothing};
 use crate::fields::{put_field, record_of, record_view};
 use crate::lists::list_view;
 use crate::literals::{constant, label_name, named, number};
@@ -64,11 +64,11 @@ pub(crate) fn evaluated(
         Expr::Call(t, args) => {
             let (v, name) = receiver(alloc, store, scope, locals, t)?;
             let callee = find_callee(alloc, store, &v, name)?;
-            if callee == Callee::Nothing {
+            if is_nothing(callee) {
                 return Ok(undefined());
             }
             let args = evaluated_all(alloc, store, scope, locals, args.as_slice())?;
-            called(alloc, store, callee, &v, &args)
+            called_on(alloc, store, callee, &v, &args)
         }
         Expr::List(items) => {
             let views = evaluated_all(alloc, store, scope, locals, items.as_slice())?;
@@ -201,6 +201,7 @@ fn evaluated_pair(
 
 /// The fields of a literal. A name that stands twice keeps its first place and its last value.
 #[cycle(evaluation)]
+#[tactic(auto, using(crate::proofs::Stand::put_stands))]
 fn evaluated_pairs(
     alloc: Global,
     store: &Store,

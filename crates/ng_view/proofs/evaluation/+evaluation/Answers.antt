@@ -1,7 +1,7 @@
 use Rattle.std.proofs.Common.{◌≡◌, sym, ap, subst, length, map, rules}
 use Rattle.ng_base.specs.ViewOf.{view_of, views_of, field_of}
 use Rattle.ng_view.specs.Evaluation.{FieldsAllStand}
-use Rattle.ng_view.proofs.Stand.{views_all_stand, put_stands}
+use Rattle.ng_view.proofs.Stand.{views_all_stand}
 use Rattle.ng_view.proofs.evaluation.+evaluation.Goals as goal
 
 pub evaluated-returns-in-List-clause-stands : goal.evaluated-returns-in-List-clause-stands
@@ -17,11 +17,3 @@ evaluated-returns-in-Unary-clause-stands t c = c.sign_value.ensures.stands (leng
 
 pub evaluated-apply-requires-clause-args : goal.evaluated-apply-requires-clause-args
 evaluated-apply-requires-clause-args t c = views_all_stand (length c.args.store.now) (views_of c.in_ok-args-in-Filter.args) c.in_ok-args-in-Filter.ensures.stands
-
-pub evaluated_pairs-loop-pair-preserved : goal.evaluated_pairs-loop-pair-preserved
-evaluated_pairs-loop-pair-preserved t c =
-    let n = length c.args.store.now in
-    let s : FieldsAllStand n (map field_of c.put_field.new.fields.entries) =
-        subst (FieldsAllStand n) (sym c.in_ok-put_field.ensures)
-            (put_stands n (map field_of c.loop-pair.fields.entries) c.in_ok-name.name (view_of c.in_ok-name.v) c.loop-pair.invariant.stands c.in_ok-name.ensures.stands) in
-    search rules
