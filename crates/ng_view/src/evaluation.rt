@@ -11,6 +11,7 @@ ghost use Rattle.ng_parse.specs.TreeOf.{tree, pair_tree};
 ghost use Rattle.ng_view.specs.Purity.{count_of, IsKnown, FiltersKnown, IsPairKnown, ArePairsKnown};
 ghost use Rattle.ng_view.specs.Evaluation.{evaluated, receiver, evaluated_all, evaluated_pair, evaluated_pairs, LocalsStand, Field, FieldsAllStand};
 
+use crate::applied::apply;
 use crate::calls::{called_on, find_callee, is_nothing};
 use crate::fields::{put_field, record_of, record_view};
 use crate::lists::list_view;
@@ -24,7 +25,6 @@ use ng_base::name::Oid;
 use ng_base::txt::Txt;
 use ng_base::value::Value;
 use ng_base::view::{View, Views};
-use ng_filters::apply;
 use ng_parse::{Expr, Pair};
 use ng_store::Store;
 use ng_value::operators::truthy;
@@ -201,7 +201,6 @@ fn evaluated_pair(
 
 /// The fields of a literal. A name that stands twice keeps its first place and its last value.
 #[cycle(evaluation)]
-#[tactic(auto, using(crate::proofs::Stand::put_stands))]
 fn evaluated_pairs(
     alloc: Global,
     store: &Store,
