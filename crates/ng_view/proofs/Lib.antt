@@ -1,3 +1,4 @@
 pub mod Places
 pub mod Stand
+pub mod Pairs
 pub mod Pure

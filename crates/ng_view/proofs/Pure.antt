@@ -1,9 +1,11 @@
 -- The tests of purity and of filters, as properties.
 use Rattle.std.proofs.Common.{Option, Some, None, ℕ, suc, List, [], ◌∷◌, map, length, ◌<◌, ap, arith, ◌≡◌, ◌↔◌, refl, sym, Bool, true, false, IsTrue, true≢false, ◌&&◌}
 use Rattle.ng_language.specs.Trees.{trees_from, Tree, Trees, PairTree, Pairs, a_number, a_text, a_name, the_scope, a_constant, member_of, item_of, call_of, a_list, a_record, in_brackets, signed, combined, both_of, either_of, choice_of, assigned, filtered, no_trees, tree_then, labelled, shorthand, computed, no_pairs, pair_then}
-use Rattle.ng_filters.specs.Known.{known, named, takes, taken_by}
-use Rattle.ng_filters.specs.declared.table.Filter.{Filter}
-use Rattle.ng_filters.specs.declared.table.Filter.TheVariants as filters
+use Rattle.ng_filters.specs.Known.{taken_by}
+use Rattle.ng_view.specs.Applied.{known}
+use Rattle.ng_base.proofs.Binds.{if_held}
+use Rattle.std.specs.Str.{bytes_eq}
+use Rattle.std.specs.Prelude.{codes}
 use Rattle.ng_parse.specs.TreeOf.{tree}
 use Rattle.ng_parse.specs.declared.tree.Expr.{Expr}
 use Rattle.std.proofs.lemmas.Bool.Decides.{nat_tests}
@@ -164,21 +166,10 @@ pub count_of-trees : (es : List Expr) → count_of (trees_from (map tree es)) �
 count_of-trees [] = refl
 count_of-trees (e ∷ es) = ap suc (count_of-trees es)
 
-many_taken : (f : Filter) (n : ℕ) → 2 < n → takes f n ≡ false
-many_taken filters.Uppercase n h = grind (arith, nat_tests)
-many_taken filters.Lowercase n h = grind (arith, nat_tests)
-many_taken filters.Number n h = grind (arith, nat_tests)
-many_taken filters.Json n h = grind (arith, nat_tests)
-many_taken filters.LimitTo n h = grind (arith, nat_tests)
-many_taken filters.Matching n h = grind (arith, nat_tests)
-many_taken filters.OrderBy n h = grind (arith, nat_tests)
-
-many : (o : Option Filter) (n : ℕ) → 2 < n → taken_by o n ≡ false
-many None n h = refl
-many (Some f) n h = many_taken f n h
-
 -- no filter takes more than two arguments
 pub many_unknown : (name : List ℕ) (n : ℕ) → 2 < n → known name n ≡ false
-many_unknown name n h = many (named name) n h
+unfolding known
+many_unknown name n h =
+    if_held (bytes_eq name (codes "uppercase")) _ _ (λ o. taken_by o n ≡ false) (λ e. grind (arith, nat_tests)) (λ e. if_held (bytes_eq name (codes "lowercase")) _ _ (λ o. taken_by o n ≡ false) (λ e. grind (arith, nat_tests)) (λ e. if_held (bytes_eq name (codes "number")) _ _ (λ o. taken_by o n ≡ false) (λ e. grind (arith, nat_tests)) (λ e. if_held (bytes_eq name (codes "json")) _ _ (λ o. taken_by o n ≡ false) (λ e. grind (arith, nat_tests)) (λ e. if_held (bytes_eq name (codes "limitTo")) _ _ (λ o. taken_by o n ≡ false) (λ e. grind (arith, nat_tests)) (λ e. if_held (bytes_eq name (codes "filter")) _ _ (λ o. taken_by o n ≡ false) (λ e. grind (arith, nat_tests)) (λ e. if_held (bytes_eq name (codes "orderBy")) _ _ (λ o. taken_by o n ≡ false) (λ e. grind (arith, nat_tests)) (λ e. refl)))))))
 
 pub ruleset argument_counts = (count_of-trees, many_unknown)

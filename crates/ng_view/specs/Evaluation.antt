@@ -27,7 +27,7 @@ use Rattle.ng_language.specs.declared.syntax.Binary.{Binary}
 use Rattle.ng_language.specs.declared.syntax.Binary.TheVariants as binaries
 use Rattle.ng_language.specs.declared.syntax.Label.{Label}
 use Rattle.ng_language.specs.declared.syntax.Label.TheVariants as labels
-use Rattle.ng_filters.specs.Applied.{applied}
+use Rattle.ng_view.specs.Applied.{applied}
 use Rattle.ng_view.specs.Purity.{list_method, text_method}
 use Rattle.ng_view.specs.Members.{or_undefined, member, item}
 use Rattle.ng_view.specs.Methods.{is_list, method_value}
@@ -48,7 +48,7 @@ or_from (Some v) o = Some v
 or_from None o = o
 
 -- a bare name: a local, else what the scope or its prototypes have
-abbrev pub named : List Object → ℕ → List Local → List ℕ → ViewTree
+unfoldable pub named : List Object → ℕ → List Local → List ℕ → ViewTree
 named objects scope locals name = or_undefined (or_from (lookup (bytes_eq name) locals) (look objects scope name))
 
 abbrev pub constant_value : Constant → Value
@@ -64,7 +64,7 @@ label_name (labels.Text t) = t
 label_name (labels.Number n) = decimal n
 
 -- `+x` is `x - 0` and `-x` is `0 - x`
-abbrev pub sign_value : Unary → ViewTree → Result ViewTree Fault
+unfoldable pub sign_value : Unary → ViewTree → Result ViewTree Fault
 sign_value unaries.Plus t = as_view (sub t (prim (value.Int (pos 0))))
 sign_value unaries.Minus t = as_view (sub (prim (value.Int (pos 0))) t)
 sign_value unaries.Not t = Ok (prim (value.Bool (not (truthy t))))
@@ -72,7 +72,7 @@ sign_value unaries.Not t = Ok (prim (value.Bool (not (truthy t))))
 abbrev pub truth : Bool → Result ViewTree Fault
 truth b = Ok (prim (value.Bool b))
 
-abbrev pub operator_value : List Object → Binary → ViewTree → ViewTree → Result ViewTree Fault
+unfoldable pub operator_value : List Object → Binary → ViewTree → ViewTree → Result ViewTree Fault
 operator_value objects binaries.Multiply t u = as_view (mul t u)
 operator_value objects binaries.Divide t u = as_view (div t u)
 operator_value objects binaries.Remainder t u = as_view (remainder_of t u)
@@ -102,15 +102,25 @@ abbrev pub callee_or : Option Method → Callee → Callee
 callee_or (Some m) c = callees.Method m
 callee_or None c = c
 
-abbrev pub callee : List Object → ViewTree → List ℕ → Callee
+unfoldable pub callee : List Object → ViewTree → List ℕ → Callee
 callee objects t name = callee_or (method_of objects t name) (member_callee (member objects t name))
+
+abbrev pub is_nothing : Callee → Bool
+is_nothing callees.Nothing = true
+is_nothing (callees.Method m) = false
+is_nothing callees.Function = false
+is_nothing callees.Other = false
+
+-- the value of a call with its arguments
+unfoldable pub called_on : List Object → Callee → ViewTree → List ViewTree → Result ViewTree Fault
+called_on objects (callees.Method m) t args = method_value objects m t args
+called_on objects callees.Nothing t args = Ok (prim value.Undefined)
+called_on objects callees.Function t args = Err ImpureCall
+called_on objects callees.Other t args = Err NotAFunction
 
 -- where nothing is called the arguments do not count, and else they are evaluated first
 abbrev pub called : List Object → Callee → ViewTree → Result (List ViewTree) Fault → Result ViewTree Fault
-called objects (callees.Method m) t args = args >>= λ vs. method_value objects m t vs
-called objects callees.Nothing t args = Ok (prim value.Undefined)
-called objects callees.Function t args = args >>= λ vs. Err ImpureCall
-called objects callees.Other t args = args >>= λ vs. Err NotAFunction
+called objects c t args = if is_nothing c then Ok (prim value.Undefined) else (args >>= λ vs. called_on objects c t vs)
 
 abbrev pub Field : Type 0
 Field = List ℕ × ViewTree

@@ -56,7 +56,7 @@ abbrev pub record_member : List (List ℕ × ViewTree) → List ℕ → ViewTree
 record_member fs name = view_or_undefined (lookup (bytes_eq name) fs)
 
 -- undefined, null, numbers, truth values and functions have no members
-abbrev pub member : List Object → ViewTree → List ℕ → ViewTree
+unfoldable pub member : List Object → ViewTree → List ℕ → ViewTree
 member objects (prim (value.Obj o)) name = object_member objects o.0 name
 member objects (prim (value.Text t)) name = text_member t name
 member objects (prim v) name = prim value.Undefined
@@ -71,5 +71,5 @@ has_members (list ts) = true
 has_members (rec fs) = true
 
 -- a member by index: the name is the text of the index
-abbrev pub item : List Object → ViewTree → ViewTree → Result ViewTree Fault
+unfoldable pub item : List Object → ViewTree → ViewTree → Result ViewTree Fault
 item objects t i = if has_members t then (to_text objects i >>= λ name. Ok (member objects t name)) else Ok (prim value.Undefined)

@@ -124,7 +124,7 @@ as_text (Ok t) = Ok (prim (value.Text t))
 as_text (Err e) = Err e
 
 -- what a method gives
-abbrev pub method_value : List Object → Method → ViewTree → List ViewTree → Result ViewTree Fault
+unfoldable pub method_value : List Object → Method → ViewTree → List ViewTree → Result ViewTree Fault
 method_value objects methods.IndexOf t args = Ok (place_or_none (place_of (argument args 0) 0 (items_of objects t)))
 method_value objects methods.Slice t args = Ok (list (views_from (sliced args (items_of objects t))))
 method_value objects methods.Concat t args = Ok (list (views_from (concatenated objects (items_of objects t) args)))

@@ -2,7 +2,7 @@
 use Rattle.std.specs.Prelude.{ℕ, suc, Bool, true, false, ⊤, IsTrue, List, Option, Some, None, is_some, codes, ◌&&◌, ◌||◌, if◌then◌else◌}
 use Rattle.std.specs.Str.{bytes_eq}
 use Rattle.ng_language.specs.Trees.{Tree, Trees, PairTree, Pairs, a_number, a_text, a_name, the_scope, a_constant, member_of, item_of, call_of, a_list, a_record, in_brackets, signed, combined, both_of, either_of, choice_of, assigned, filtered, no_trees, tree_then, labelled, shorthand, computed, no_pairs, pair_then}
-use Rattle.ng_filters.specs.Known.{known}
+use Rattle.ng_view.specs.Applied.{known}
 use Rattle.ng_view.specs.declared.methods.Method.{Method}
 use Rattle.ng_view.specs.declared.methods.Method.TheVariants as methods
 

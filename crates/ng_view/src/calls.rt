@@ -1,5 +1,5 @@
 //! What a call calls.
-ghost use Rattle.std.specs.Prelude.{◌≡◌, Ok, length, IfOk};
+ghost use Rattle.std.specs.Prelude.{◌≡◌, length, IfOk};
 ghost use Rattle.std.specs.List.{AllByRecursion};
 ghost use Rattle.ng_base.specs.Faults.{is_memory};
 ghost use Rattle.ng_base.specs.Meets.{Gives};
@@ -8,7 +8,7 @@ ghost use Rattle.ng_base.specs.Views.{prim, views_list};
 ghost use Rattle.ng_base.specs.ViewOf.{view_of, views_of};
 ghost use Rattle.ng_language.specs.Views.{ViewStands};
 ghost use Rattle.ng_view.specs.Methods.{method_value};
-ghost use Rattle.ng_view.specs.Evaluation.{method_of, member_callee, callee, called};
+ghost use Rattle.ng_view.specs.Evaluation.{method_of, member_callee, callee, is_nothing, called_on};
 
 use crate::items::is_list;
 use crate::lists::{argument, concat, join, list_view, place_of, place_or_none, slice};
@@ -62,6 +62,7 @@ fn member_callee(v: &View) -> Callee
 }
 
 /// What a name calls on a value: a method comes before a member of the same name.
+#[tactic(auto, unfolding(crate::specs::Evaluation::callee))]
 pub(crate) fn find_callee(alloc: Global, store: &Store, v: &View, name: &Txt) -> Result<Callee, Memory>
     requires { ViewStands (length store.now) (view_of v.now) }
     ensures { IfOk result (λ c. c ≡ callee store.now (view_of v.now) name.now) }
@@ -73,6 +74,7 @@ pub(crate) fn find_callee(alloc: Global, store: &Store, v: &View, name: &Txt) ->
 }
 
 /// What a method gives.
+#[tactic(auto, unfolding(crate::specs::Methods::method_value))]
 pub(crate) fn method_value(
     alloc: Global,
     store: &Store,
@@ -107,8 +109,21 @@ pub(crate) fn method_value(
     }
 }
 
+/// Whether nothing is called.
+pub(crate) fn is_nothing(callee: Callee) -> bool
+    ensures { result ≡ is_nothing callee }
+{
+    match callee {
+        Callee::Nothing => true,
+        Callee::Method(_) => false,
+        Callee::Function => false,
+        Callee::Other => false,
+    }
+}
+
 /// The value of a call whose arguments were evaluated.
-pub(crate) fn called(
+#[tactic(auto, unfolding(crate::specs::Evaluation::called_on))]
+pub(crate) fn called_on(
     alloc: Global,
     store: &Store,
     callee: Callee,
@@ -117,7 +132,7 @@ pub(crate) fn called(
 ) -> Result<View, Fault>
     requires value { ViewStands (length store.now) (view_of v.now) }
     requires args { AllByRecursion (ViewStands (length store.now)) (views_list (views_of args.now)) }
-    ensures exact { Gives is_memory view_of (called store.now callee (view_of v.now) (Ok (views_list (views_of args.now)))) result }
+    ensures exact { Gives is_memory view_of (called_on store.now callee (view_of v.now) (views_list (views_of args.now))) result }
     ensures stands { IfOk result (λ w. ViewStands (length store.now) (view_of w)) }
 {
     match callee {

@@ -11,7 +11,8 @@ ghost use Rattle.ng_parse.specs.TreeOf.{tree, pair_tree};
 ghost use Rattle.ng_view.specs.Purity.{count_of, IsKnown, FiltersKnown, IsPairKnown, ArePairsKnown};
 ghost use Rattle.ng_view.specs.Evaluation.{evaluated, receiver, evaluated_all, evaluated_pair, evaluated_pairs, LocalsStand, Field, FieldsAllStand};
 
-use crate::calls::{Callee, called, find_callee};
+use crate::applied::apply;
+use crate::calls::{called_on, find_callee, is_nothing};
 use crate::fields::{put_field, record_of, record_view};
 use crate::lists::list_view;
 use crate::literals::{constant, label_name, named, number};
@@ -24,7 +25,6 @@ use ng_base::name::Oid;
 use ng_base::txt::Txt;
 use ng_base::value::Value;
 use ng_base::view::{View, Views};
-use ng_filters::apply;
 use ng_parse::{Expr, Pair};
 use ng_store::Store;
 use ng_value::operators::truthy;
@@ -64,11 +64,11 @@ pub(crate) fn evaluated(
         Expr::Call(t, args) => {
             let (v, name) = receiver(alloc, store, scope, locals, t)?;
             let callee = find_callee(alloc, store, &v, name)?;
-            if callee == Callee::Nothing {
+            if is_nothing(callee) {
                 return Ok(undefined());
             }
             let args = evaluated_all(alloc, store, scope, locals, args.as_slice())?;
-            called(alloc, store, callee, &v, &args)
+            called_on(alloc, store, callee, &v, &args)
         }
         Expr::List(items) => {
             let views = evaluated_all(alloc, store, scope, locals, items.as_slice())?;

@@ -3,11 +3,11 @@ ghost use Rattle.std.specs.Prelude.{◌≡◌, ◌↔◌, IsTrue, map};
 ghost use Rattle.ng_language.specs.Trees.{trees_from, pairs_from};
 ghost use Rattle.ng_parse.specs.ProgramOf.{program};
 ghost use Rattle.ng_parse.specs.TreeOf.{tree, pair_tree};
-ghost use Rattle.ng_filters.specs.Known.{known};
+ghost use Rattle.ng_view.specs.Applied.{known};
 ghost use Rattle.ng_view.specs.Purity.{count_of, filters_known_tree, all_filters_known, pair_filter_known, pair_filters_known, FiltersKnown};
 
+use crate::applied::known;
 use ng_base::txt::Txt;
-use ng_filters::known;
 use ng_parse::{Expr, Pair, Program};
 
 /// No filter takes more arguments.

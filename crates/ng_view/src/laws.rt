@@ -18,18 +18,21 @@ use ng_parse::Expr;
 use ng_store::Store;
 
 /// A local hides what the scope has under its name.
+#[tactic(auto, unfolding(crate::specs::Evaluation::named))]
 pub fn local_first(store: &Store, scope: Oid, locals: &Locals, name: &Txt, v: &Value)
     requires { lookup (bytes_eq name.now) locals.now ≡ Some v.now }
     ensures { evaluated store.now scope.0 locals.now (a_name name.now) ≡ Ok (prim v.now) }
 {}
 
 /// A name that is no local is looked up from the scope through its prototypes.
+#[tactic(auto, unfolding(crate::specs::Evaluation::named))]
 pub fn scope_next(store: &Store, scope: Oid, locals: &Locals, name: &Txt)
     requires { lookup (bytes_eq name.now) locals.now ≡ None }
     ensures { evaluated store.now scope.0 locals.now (a_name name.now) ≡ Ok (or_undefined (look store.now scope.0 name.now)) }
 {}
 
 /// A call on null or undefined gives undefined, and its arguments do not count.
+#[tactic(auto, unfolding(crate::specs::Evaluation::callee, crate::specs::Members::member))]
 pub fn nothing_called(
     store: &Store,
     scope: Oid,

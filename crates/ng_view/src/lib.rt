@@ -21,6 +21,7 @@
 //! ng_filters and ng_value.
 #![tactic(auto)]
 
+mod applied;
 pub mod calls;
 mod evaluation;
 mod fields;

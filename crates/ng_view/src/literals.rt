@@ -76,6 +76,7 @@ fn local<'a>(locals: &'a Locals, name: &Txt) -> Option<&'a Value>
 }
 
 /// A bare name: a local, else what the scope or its prototypes have.
+#[tactic(auto, unfolding(crate::specs::Evaluation::named))]
 pub(crate) fn named(store: &Store, scope: Oid, locals: &Locals, name: &Txt) -> Result<View, Memory>
     requires scope { scope.0 < length store.now }
     requires locals { LocalsStand (length store.now) locals.now }

@@ -154,6 +154,7 @@ fn record_member(alloc: Global, fields: &Fields, name: &Txt) -> Result<View, Mem
 }
 
 /// What stands under a name of a value.
+#[tactic(auto, unfolding(crate::specs::Members::member))]
 pub(crate) fn member(alloc: Global, store: &Store, v: &View, name: &Txt) -> Result<View, Memory>
     requires { ViewStands (length store.now) (view_of v.now) }
     ensures value { IfOk result (λ w. view_of w ≡ member store.now (view_of v.now) name.now) }
@@ -181,6 +182,7 @@ fn has_members(v: &View) -> bool
 }
 
 /// A member by index: the name is the text of the index.
+#[tactic(auto, unfolding(crate::specs::Members::item))]
 pub(crate) fn item(alloc: Global, store: &Store, v: &View, index: &View) -> Result<View, Fault>
     requires value { ViewStands (length store.now) (view_of v.now) }
     requires index { ViewStands (length store.now) (view_of index.now) }
