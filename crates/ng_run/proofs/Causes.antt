@@ -90,9 +90,9 @@ below m n h = grind (arith, nat_tests)
 opened_empty : (facts : Facts) (template : Template) (r : Reply) → nat_lt node_limit (nodes template.parts) ≡ true → OpensPage facts template r
     → (r.status ≡ 1) × IfSome r.page (λ s. shown s ≡ no_nodes)
 opened_empty facts template r more (answer, state, (end, digests, at), e) = (
-    ap (λ q. q.status) e ∙ ap (λ b. step_status (if b then Some NodeLimit else None) answer) more,
-    subst (λ o. IfSome o (λ s. shown s ≡ no_nodes)) (sym (ap (λ q. q.page) e)) (ap shown at ∙ ap (λ b. draw (kept_texts end.state) (if b then no_parts else template.parts)) more),
-  )
+  ap (λ q. q.status) e ∙ ap (λ b. step_status (if b then Some NodeLimit else None) answer) more,
+  subst (λ o. IfSome o (λ s. shown s ≡ no_nodes)) (sym (ap (λ q. q.page) e)) (ap shown at ∙ ap (λ b. draw (kept_texts end.state) (if b then no_parts else template.parts)) more),
+)
 
 -- a page that would have too many nodes is empty
 pub session_empty : (t a : List ℕ) (r : Reply) → Session t a r → TooManyNodes t a → (r.status ≡ 1) × IfSome r.page (λ s. shown s ≡ no_nodes)

@@ -14,9 +14,6 @@ use Rattle.ng_page.specs.State.{State, rendering, fault_count, Settles}
 use Rattle.ng_run.specs.ReplyOf.{opening, status_of}
 use Rattle.ng_run.specs.Session.{Reply, action_line, digest_line, document_line, step_status, OpensPage, opened}
 
-
-
-
 same_status : (first : Option Fault) (d : Result Report DigestFault) → status_of first (Some d) ≡ step_status first (plain_answer d)
 same_status None d = refl
 same_status (Some f) d = refl
@@ -38,12 +35,14 @@ pub opens_page : (facts : Facts) (template : Template) (digest : Option (Result 
     → r ≡ record { status = status_of first digest; bytes = opening count first digest f; page = Some s } → OpensPage facts template r
 opens_page facts template None f s count first r o h c l e = absurd o
 opens_page facts template (Some d) f s count first r o h c l e = (
-    plain_answer d, s, o,
-    e
-    ∙ (ap (λ n. record { status = status_of first (Some d); bytes = opening n first (Some d) f; page = Some s }) c
-    ∙ (ap (λ x. record { status = status_of x (Some d); bytes = opening (fault_count x) x (Some d) f; page = Some s }) l
-    ∙ same_opened facts template d f s h)),
-  )
+  plain_answer d,
+  s,
+  o,
+  e
+      ∙ (ap (λ n. record { status = status_of first (Some d); bytes = opening n first (Some d) f; page = Some s }) c
+      ∙ (ap (λ x. record { status = status_of x (Some d); bytes = opening (fault_count x) x (Some d) f; page = Some s }) l
+      ∙ same_opened facts template d f s h)),
+)
 
 -- where the step's status is 0, its digest answered Ok
 pub settled_page : (first : Option Fault) (digest : Option (Result Report DigestFault)) (facts : Facts) (template : Template) (s : State)

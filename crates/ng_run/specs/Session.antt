@@ -140,11 +140,11 @@ step_status (Some f) answer = 1
 -- rendering of what was linked
 abbrev pub opened : Facts → Template → Result (ℕ × ℕ) DigestFault → State → Reply
 opened facts template answer state = record {
-    status = step_status (link_fault template.parts) answer;
-    bytes = codes "# 0 open\n" ++ action_line (fault_count (link_fault template.parts)) (link_fault template.parts)
-        ++ digest_line answer ++ document_line answer (rendering facts template);
-    page = Some state;
-  }
+  status = step_status (link_fault template.parts) answer;
+  bytes = codes "# 0 open\n" ++ action_line (fault_count (link_fault template.parts)) (link_fault template.parts)
+      ++ digest_line answer ++ document_line answer (rendering facts template);
+  page = Some state;
+}
 
 -- the plain digest that opens the page ends in the state, with the answer
 abbrev pub OpensPage : Facts → Template → Reply → Type 0

@@ -6,12 +6,12 @@ use Rattle.ng_run.proofs.run.run.Goals as goal
 
 pub returns-in-Ok-put_all-clause-session : goal.returns-in-Ok-put_all-clause-session
 returns-in-Ok-put_all-clause-session g c n m t a has same = (
-    reply_of c.in-Ok.reply,
-    reply_session _ _ _ _ (reply_of c.in-Ok.reply) c.in-Ok.ensures.reply t a has same,
-    refl,
-    refl,
-    subst (λ bytes. Appends (g.K.Sink.taken c.args.sink.now) (g.K.Sink.taken c.put_all.new.sink) bytes) c.as_slice.ensures.value c.in-Ok-put_all.ensures.all,
-  )
+  reply_of c.in-Ok.reply,
+  reply_session _ _ _ _ (reply_of c.in-Ok.reply) c.in-Ok.ensures.reply t a has same,
+  refl,
+  refl,
+  subst (λ bytes. Appends (g.K.Sink.taken c.args.sink.now) (g.K.Sink.taken c.put_all.new.sink) bytes) c.as_slice.ensures.value c.in-Ok-put_all.ensures.all,
+)
 
 pub returns-in-Ok-put_all-clause-causes : goal.returns-in-Ok-put_all-clause-causes
 returns-in-Ok-put_all-clause-causes g c n m t a has same =
