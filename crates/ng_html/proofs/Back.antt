@@ -13,6 +13,7 @@ use Rattle.ng_tags.specs.Skips.{past_spaces, past_word}
 use Rattle.ng_tags.specs.Lexing.{doctype_at, doctype_behind, past_sign, after_doctype}
 use Rattle.ng_tags.specs.Spelling.{chars_of}
 use Rattle.ng_tags.specs.declared.fault.HtmlFault.{HtmlFault}
+use Rattle.ng_html.proofs.Lexed.{doctype_is, doctype_complete}
 use Rattle.ng_html.specs.Reading.{begin, cells_of}
 use Rattle.ng_html.specs.Grammar.{Written, IsPlainText, Html}
 use Rattle.ng_html.specs.Laws.{PrintsBack}
@@ -82,7 +83,7 @@ behind cs rest h = doctype_at_behind cs (past_spaces cs) rest (spaces_behind cs 
 -- a forest that bytes spell can be printed
 spelled_read : (bytes : List ℕ) (f : Forest) (ps : List ℕ) → Html bytes f ps → IsReadForest f
 spelled_read bytes f ps h =
-    let b = behind (cells_of bytes) h.1 h.2 in
+    let b = behind (cells_of bytes) h.1 (doctype_complete (cells_of bytes) (Ok h.1) h.2) in
     let all = cells_chars (length bytes) false (chars bytes) (scalars-chars bytes h.0.0) (text_chars bytes h.0.0 h.0.1) in
     let p = parts is_cell_char b.before h.1 (subst (λ (xs : List Cell). list_all is_cell_char (chars_of xs) ≡ true) b.whole all) in
     spelled_kept f h.3.0 (are_good h.3.0 h.1 h.3.1 p.1) h.3.2
@@ -122,4 +123,4 @@ prints_back bytes f ps h =
     let w = forest_written f us [] [] r same tt refl in
     let written : Written w.es us = subst (λ (xs : List Cell). Written w.es xs) (append-nil us) w.written in
     let plain : IsPlainText out = ((print f, (line_scalars (print f) line, refl)), text_bytes (print f) (line_some (print f) line)) in
-    (flat_map begin w.es, (plain, us, no_doctype f us r same, (w.es, written, w.spells, h.3.3, refl)))
+    (flat_map begin w.es, (plain, us, doctype_is us (Ok us) (no_doctype f us r same), (w.es, written, w.spells, h.3.3, refl)))

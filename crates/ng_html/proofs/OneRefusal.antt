@@ -16,8 +16,9 @@ use Rattle.ng_tags.specs.declared.event.Event.TheVariants as event
 use Rattle.ng_tags.specs.declared.event.Tag.{Tag}
 use Rattle.ng_tags.specs.declared.fault.HtmlFault.{HtmlFault}
 use Rattle.ng_tags.specs.declared.fault.HtmlKind.TheVariants as kind
+use Rattle.ng_html.proofs.Lexed.{refused_complete, doctype_complete}
 use Rattle.ng_html.specs.Building.{State, Around, open_limit, ended, take_event, unharmed, admitted, opened, content, entered, entered_raw, shut_by, close, finish_of, finished, with_leaf, empty}
-use Rattle.ng_html.specs.Reading.{begin, read_on, read_bytes}
+use Rattle.ng_html.specs.Reading.{begin, read_on, read_bytes, cells_of}
 use Rattle.ng_html.specs.Running.{run}
 use Rattle.ng_html.specs.Standing.{Stands}
 use Rattle.ng_html.specs.Refusals.{WrittenBefore, CanEnd, CanFinish, IsWrongTag, IsWrongEvent, IsWrong, RefusesCells, Refuses}
@@ -171,7 +172,7 @@ wrong_read total os done t ps rest [] f i j (none, cannot, e) =
     let here : run total t [] ≡ run total (at os done) [] = subst (λ (es : List Event). run total t es ≡ run total (at os done) es) none j in
     let r : finished total t ≡ Err (fault kind.Unclosed total) = here ∙ finish_not total os done cannot in
     ap (λ (x : Result Forest HtmlFault). x >>= λ g. let q : Answer = Ok (g, ps) in q) r ∙ ap (λ (x : HtmlFault). let q : Answer = Err x in q) (sym e)
-wrong_read total os done t ps rest (c ∷ cs) f i j (inl (none, e)) = read_event_err total t ps c cs f e
+wrong_read total os done t ps rest (c ∷ cs) f i j (inl (none, e)) = read_event_err total t ps c cs f (refused_complete total c cs f e)
 wrong_read total os done t ps rest (c ∷ cs) f i j (inr (e, more, one, l, w)) =
     let h = event_not total (at os done) t e f (take_not os done e f w) (subst (λ (es : List Event). stuck (at os done) es ≡ stuck t es) one i) (subst (λ (es : List Event). run total t es ≡ run total (at os done) es) one j) in
     take_event_err total t ps c cs more e f l h
@@ -185,8 +186,8 @@ cells_refused total cs f (us, ws, es, rest, os, done, whole, written, stands, wr
 
 pub refused_read : (bs : List ℕ) (f : HtmlFault) → Refuses bs f → read_bytes bs ≡ Err f
 refused_read bs f (inl (h, e)) = no_plain_read bs h ∙ ap (λ (x : HtmlFault). let q : Answer = Err x in q) (sym e)
-refused_read bs f (inr (inl (h, e))) = plain_read bs h ∙ ap (λ (r : Result (List Cell) HtmlFault). r >>= λ cs. read_on (length bs) empty [] cs) e
+refused_read bs f (inr (inl (h, e))) = plain_read bs h ∙ ap (λ (r : Result (List Cell) HtmlFault). r >>= λ cs. read_on (length bs) empty [] cs) (doctype_complete (cells_of bs) (Err f) e)
 refused_read bs f (inr (inr (h, cs, e, w))) =
     plain_read bs h
-    ∙ (ap (λ (r : Result (List Cell) HtmlFault). r >>= λ cs. read_on (length bs) empty [] cs) e
+    ∙ (ap (λ (r : Result (List Cell) HtmlFault). r >>= λ cs. read_on (length bs) empty [] cs) (doctype_complete (cells_of bs) (Ok cs) e)
     ∙ cells_refused (length bs) cs f w)

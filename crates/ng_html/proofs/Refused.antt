@@ -23,7 +23,7 @@ use Rattle.ng_html.specs.Reading.{begin, reads, read_on, read_cells, cells_of, i
 use Rattle.ng_html.specs.Standing.{Stands}
 use Rattle.ng_html.specs.Refusals.{WrittenBefore, left_open, CanEnd, CanFinish, IsWrongTag, IsWrongEvent, no_event, IsWrong, RefusesCells, Refuses}
 use Rattle.ng_html.proofs.Bytes.{Answer, no_answer, plain_of, not_plain}
-use Rattle.ng_html.proofs.Lexed.{lexed_less, lexed_sound}
+use Rattle.ng_html.proofs.Lexed.{lexed_less, lexed_sound, refused_sound, doctype_is}
 use Rattle.ng_html.proofs.TreeSound.{take_stands, taken_whole}
 
 err_same : {A : Type 0} (a b : HtmlFault) → ◌≡◌ {A = Result A HtmlFault} (Err a) (Err b) → b ≡ a
@@ -144,7 +144,7 @@ reads_err total (suc k) s ps [] f l h =
     ]
 reads_err total (suc k) s ps (c ∷ cs) f l h =
     elim (bind_err (event_at total c cs) (λ r. take_event s r.0 >>= λ t. reads total k t (ps ++ begin r.0) r.1) f h) [
-      | inl g ↦ stops_here total s (c ∷ cs) f no_event (inl (refl, g))
+      | inl g ↦ stops_here total s (c ∷ cs) f no_event (inl (refl, refused_sound total c cs f g))
       | inr g ↦ elim (bind_err (take_event s g.0.0) (λ t. reads total k t (ps ++ begin g.0.0) g.0.1) f g.2) [
         | inl m ↦ stops_here total s (c ∷ cs) f (g.0.0 ∷ []) (inr (g.0.0, g.0.1, refl, g.1, take_err s g.0.0 f m))
         | inr m ↦
@@ -165,7 +165,7 @@ refuses bs f h =
     elim (chosen (is_plain_text bs) (read_cells (length bs) (cells_of bs)) (no_answer bs) (Err f) h) [
       | inr g ↦ inl (not_plain bs g.0, err_same (fault kind.Utf8 (sound_len bs)) f g.1)
       | inl g ↦ elim (bind_err (after_doctype (cells_of bs)) (λ cs. read_on (length bs) empty [] cs) f g.1) [
-        | inl e ↦ inr (inl (plain_of bs g.0, e))
-        | inr e ↦ inr (inr (plain_of bs g.0, e.0, e.1, cells_refuse (length bs) e.0 f e.2))
+        | inl e ↦ inr (inl (plain_of bs g.0, doctype_is (cells_of bs) (Err f) e))
+        | inr e ↦ inr (inr (plain_of bs g.0, e.0, doctype_is (cells_of bs) (Ok e.0) e.1, cells_refuse (length bs) e.0 f e.2))
       ]
     ]

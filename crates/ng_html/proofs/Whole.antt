@@ -17,7 +17,7 @@ use Rattle.ng_html.specs.Reading.{begin, reads, read_on, read_cells, cells_of, i
 use Rattle.ng_html.specs.Running.{run}
 use Rattle.ng_html.specs.Grammar.{Written, Spelled, Html}
 use Rattle.ng_html.proofs.Bytes.{Answer, plain_of, plain_read}
-use Rattle.ng_html.proofs.Lexed.{lexed_less, lexed_sound, lexed_complete, lexeme_some}
+use Rattle.ng_html.proofs.Lexed.{lexed_less, lexed_sound, lexed_complete, lexeme_some, doctype_is, doctype_complete}
 use Rattle.ng_html.proofs.Turns.{read_event_on}
 use Rattle.ng_html.proofs.TreeSound.{taken_whole, run_spells}
 use Rattle.ng_html.proofs.TreeRuns.{spelled_runs}
@@ -93,10 +93,10 @@ unfolding read_bytes
 html_of bs f ps h =
     let g = guarded (is_plain_text bs) (read_cells (length bs) (cells_of bs)) (fault kind.Utf8 (sound_len bs)) (f, ps) h in
     let b = bind_ok (after_doctype (cells_of bs)) (λ cs. read_on (length bs) empty [] cs) (f, ps) g.1 in
-    (plain_of bs g.0, b.0, b.1, spelled_of (length bs) b.0 f ps b.2)
+    (plain_of bs g.0, b.0, doctype_is (cells_of bs) (Ok b.0) b.1, spelled_of (length bs) b.0 f ps b.2)
 
 pub html_read : (bs : List ℕ) (f : Forest) (ps : List ℕ) → Html bs f ps → read_bytes bs ≡ answer f ps
 html_read bs f ps h =
     plain_read bs h.0
-    ∙ (ap (λ (r : Result (List Cell) HtmlFault). r >>= λ cs. read_on (length bs) empty [] cs) h.2
+    ∙ (ap (λ (r : Result (List Cell) HtmlFault). r >>= λ cs. read_on (length bs) empty [] cs) (doctype_complete (cells_of bs) (Ok h.1) h.2)
     ∙ spelled_read (length bs) h.1 f ps h.3)

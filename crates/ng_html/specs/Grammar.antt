@@ -5,7 +5,7 @@ use Rattle.std.specs.Str.{bytes_eq, IsUtf8}
 use Rattle.ng_base.specs.Cells.{Cell}
 use Rattle.ng_markup.specs.Tables.{is_void, is_omittable}
 use Rattle.ng_markup.specs.Forest.{Node, Forest, Attributes, element, text, comment, no_nodes, node}
-use Rattle.ng_tags.specs.Lexing.{after_doctype}
+use Rattle.ng_tags.specs.Doctypes.{AfterDoctype}
 use Rattle.ng_tags.specs.Spelling.{Lexeme}
 use Rattle.ng_tags.specs.declared.event.Event.{Event}
 use Rattle.ng_tags.specs.declared.event.Event.TheVariants as event
@@ -83,4 +83,4 @@ IsPlainText bytes = IsUtf8 bytes × (before_zero bytes ≡ length bytes)
 
 -- the bytes of a document, its forest, and the place of each node: a text, which spells the forest behind its doctype
 abbrev pub Html : List ℕ → Forest → List ℕ → Type 0
-Html bytes f ps = IsPlainText bytes × (cs : List Cell) × (after_doctype (cells_of bytes) ≡ Ok cs) × Spelled cs f ps
+Html bytes f ps = IsPlainText bytes × (cs : List Cell) × AfterDoctype (cells_of bytes) (Ok cs) × Spelled cs f ps

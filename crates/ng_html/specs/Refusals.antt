@@ -4,7 +4,9 @@ use Rattle.ng_base.specs.Cells.{Cell}
 use Rattle.ng_markup.specs.Tables.{is_void, is_omittable}
 use Rattle.ng_markup.specs.Forest.{Forest}
 use Rattle.ng_tags.specs.Free.{fault}
-use Rattle.ng_tags.specs.Lexing.{event_at, after_doctype}
+use Rattle.ng_tags.specs.Lexing.{event_at}
+use Rattle.ng_tags.specs.Doctypes.{AfterDoctype}
+use Rattle.ng_tags.specs.Refusals.{Refused}
 use Rattle.ng_tags.specs.Spelling.{Lexeme}
 use Rattle.ng_tags.specs.declared.event.Event.{Event}
 use Rattle.ng_tags.specs.declared.event.Event.TheVariants as event
@@ -61,7 +63,7 @@ no_event = event.Text [] 0 ∷ []
 abbrev pub IsWrong : ℕ → List Around → List Event → List Cell → HtmlFault → Type 0
 IsWrong total os rest [] f = (rest ≡ []) × (CanFinish os → ⊥) × (f ≡ fault kind.Unclosed total)
 IsWrong total os rest (c ∷ cs) f =
-    ((rest ≡ no_event) × (event_at total c cs ≡ Err f))
+    ((rest ≡ no_event) × Refused total c cs f)
     ⊎ ((e : Event) × (more : List Cell) × (rest ≡ e ∷ []) × (event_at total c cs ≡ Ok (e, more)) × IsWrongEvent os e f)
 
 -- all before ws is read, and what stands there is wrong
@@ -74,5 +76,5 @@ RefusesCells total cs f =
 abbrev pub Refuses : List ℕ → HtmlFault → Type 0
 Refuses bytes f =
     ((IsPlainText bytes → ⊥) × (f ≡ fault kind.Utf8 (sound_len bytes)))
-    ⊎ (IsPlainText bytes × (after_doctype (cells_of bytes) ≡ Err f))
-    ⊎ (IsPlainText bytes × (cs : List Cell) × (after_doctype (cells_of bytes) ≡ Ok cs) × RefusesCells (length bytes) cs f)
+    ⊎ (IsPlainText bytes × AfterDoctype (cells_of bytes) (Err f))
+    ⊎ (IsPlainText bytes × (cs : List Cell) × AfterDoctype (cells_of bytes) (Ok cs) × RefusesCells (length bytes) cs f)

@@ -4,7 +4,6 @@ use Rattle.ng_markup.specs.Forest.{Forest, node, with_node}
 use Rattle.ng_pages.specs.Parts.{Part, parts_from}
 use Rattle.ng_pages.specs.Drawing.{Look, draw_part, draw}
 
-
 -- the parts of a list, drawn
 abbrev pub drawn_list : Look → List Part → Forest
 drawn_list look ps = draw look (parts_from ps)

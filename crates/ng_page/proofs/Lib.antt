@@ -5,4 +5,3 @@ pub mod Linking
 pub mod Json
 pub mod Builds
 pub mod CoreNames
-pub mod Marks

@@ -41,11 +41,11 @@ settled_shows s n settled = ap (program_now s.objects s.root) (slice_get-map (λ
 pub settled_renders : (facts : Facts) (t : Template) (s : sites.State) (parts : Parts) → HasSameData (linked_state facts t) s → IsSettled s → parts ≡ linked t.parts → rendering facts t ≡ Ok (draw (kept_texts s) parts)
 settled_renders facts t s parts same settled is =
     fresh_parts (kept_texts s) (λ n. program_now facts.1 (root_of facts.0) (slice_get (linked_programs t) n))
-      (λ n. ap (λ o. program_now o (root_of facts.0) (slice_get (linked_programs t) n)) (sym same.objects)
-        ∙ (ap (λ r. program_now s.objects r (slice_get (linked_programs t) n)) (sym same.root)
-        ∙ (ap (λ ps. program_now s.objects s.root (slice_get ps n)) (sym (unset_programs (linked_programs t)) ∙ sym same.programs)
-        ∙ settled_shows s n settled)))
-      (linked t.parts)
+    (λ n. ap (λ o. program_now o (root_of facts.0) (slice_get (linked_programs t) n)) (sym same.objects)
+    ∙ (ap (λ r. program_now s.objects r (slice_get (linked_programs t) n)) (sym same.root)
+    ∙ (ap (λ ps. program_now s.objects s.root (slice_get ps n)) (sym (unset_programs (linked_programs t)) ∙ sym same.programs)
+    ∙ settled_shows s n settled)))
+    (linked t.parts)
     ∙ ap (λ ps. Ok (draw (kept_texts s) ps)) (sym is)
 
 pub when_ok : (P Q : Type 0) (d : Result Report DigestFault) → IfOk d (λ _. P) → (P → Q) → WhenOk (Some d) Q

@@ -1,7 +1,7 @@
 //! A watcher.
-ghost use Rattle.std.specs.Prelude.{◌≡◌};
+ghost use Rattle.std.specs.Prelude.{◌≡◌, true};
 ghost use Rattle.ng_parse.specs.ProgramOf.{program};
-ghost use Rattle.ng_view.specs.Purity.{ArePure, FiltersKnown};
+ghost use Rattle.ng_view.specs.Purity.{are_pure, all_filters_known};
 ghost use Rattle.ng_sites.specs.Sites.{unset};
 ghost use Rattle.ng_sites.specs.SiteOf.{site_of};
 
@@ -20,8 +20,8 @@ pub struct Site {
 impl Site {
     /// The watcher of a hole, which has kept nothing.
     pub fn new(expression: Program) -> Site
-        requires pure { ArePure (program expression) }
-        requires known { FiltersKnown (program expression) }
+        requires pure { are_pure (program expression) ≡ true }
+        requires known { all_filters_known (program expression) ≡ true }
         ensures { site_of result ≡ unset (program expression) }
     {
         Site {

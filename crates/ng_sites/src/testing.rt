@@ -35,7 +35,7 @@ use ng_view::view;
 use std::alloc::{AllocError, Global};
 
 /// The text of a hole's program over the root scope.
-#[tactic(auto, unfolding(crate::specs::Now::now))]
+#[tactic(auto, using(ng_view::proofs::Pure::pure_are, ng_view::proofs::Pure::known_are), unfolding(crate::specs::Now::now))]
 fn shown_now(alloc: Global, store: &Store, root: Oid, watched: &Watched) -> Result<Txt, Fault>
     requires { root.0 < length store.now }
     ensures { Meets is_memory (now store.now root.0 (watched_of watched.now)) result }

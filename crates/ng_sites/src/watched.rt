@@ -1,6 +1,7 @@
 //! A hole's program.
+ghost use Rattle.std.specs.Prelude.{◌≡◌, true};
 ghost use Rattle.ng_parse.specs.ProgramOf.{program as trees_of};
-ghost use Rattle.ng_view.specs.Purity.{ArePure, FiltersKnown};
+ghost use Rattle.ng_view.specs.Purity.{are_pure, all_filters_known};
 
 use ng_parse::programs::Program;
 
@@ -8,6 +9,6 @@ use ng_parse::programs::Program;
 #[derive(Drop)]
 pub struct Watched {
     pub(crate) program: Program,
-    ghost pure: { ArePure (trees_of program) },
-    ghost known: { FiltersKnown (trees_of program) },
+    ghost pure: { are_pure (trees_of program) ≡ true },
+    ghost known: { all_filters_known (trees_of program) ≡ true },
 }

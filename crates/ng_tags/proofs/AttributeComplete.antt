@@ -34,7 +34,7 @@ equals_no_space : (c : ℕ) → c ≡ 61 → is_space c ≡ false
 equals_no_space c h = subst (λ (n : ℕ). is_space n ≡ false) (sym h) refl
 
 -- `=` and white space, and what stands behind
-equals_on : (total : ℕ) (vs ds : List Cell) → EqualsSign vs → BeginsNot is_space ds → value_behind total (past_spaces (vs ++ ds)) ≡ value_at total ds
+pub equals_on : (total : ℕ) (vs ds : List Cell) → EqualsSign vs → BeginsNot is_space ds → value_behind total (past_spaces (vs ++ ds)) ≡ value_at total ds
 equals_on total vs ds e s =
     let more = e.sign ∷ (e.behind ++ ds) in
     ap (λ xs. value_behind total (past_spaces (xs ++ ds))) e.whole
@@ -43,10 +43,10 @@ equals_on total vs ds e s =
     ∙ (if_true (e.sign.0 == 61) (value_at total (past_spaces (e.behind ++ ds))) (Ok (no_text, more)) (code_is e.sign.0 61 e.is_sign)
     ∙ ap (value_at total) (spaces_on e.behind ds e.spaces_behind s))))
 
-bare_no_double : (c : ℕ) → is_bare c ≡ true → (c == 34) ≡ false
+pub bare_no_double : (c : ℕ) → is_bare c ≡ true → (c == 34) ≡ false
 bare_no_double c h = grind (arith, nat_tests)
 
-bare_no_single : (c : ℕ) → is_bare c ≡ true → (c == 39) ≡ false
+pub bare_no_single : (c : ℕ) → is_bare c ≡ true → (c == 39) ≡ false
 bare_no_single c h = grind (arith, nat_tests)
 
 bare_no_space : (c : ℕ) → is_bare c ≡ true → is_space c ≡ false
@@ -82,7 +82,7 @@ double_on total q w z rest v h r e =
     if_true (q.0 == 34) (quoted total (text_run until.Double cs)) (if q.0 == 39 then single else if is_bare q.0 then bare else bad) (code_is q.0 34 h)
     ∙ ap (quoted total) (reads_run until.Double w (z ∷ rest) v r (code_is z.0 34 (e ∙ h)))
 
-single_no_double : (c : ℕ) → c ≡ 39 → (c == 34) ≡ false
+pub single_no_double : (c : ℕ) → c ≡ 39 → (c == 34) ≡ false
 single_no_double c h = subst (λ (n : ℕ). (n == 34) ≡ false) (sym h) refl
 
 single_on : (total : ℕ) (q : Cell) (w : List Cell) (z : Cell) (rest : List Cell) (v : List ℕ) → q.0 ≡ 39 → Reads until.Single (z ∷ rest) w v → z.0 ≡ q.0 → value_at total (q ∷ (w ++ z ∷ rest)) ≡ Ok (decoded v None, rest)
@@ -125,25 +125,25 @@ attribute_spelled total n v us rest a =
     ∙ (ap (λ (r : ValueRead). r >>= build (lower c.0 ∷ map lower (chars_of a.more))) (valued_on total v a.behind rest a.valued)
     ∙ ap (λ (m : List ℕ). let q : AttributeRead = Ok (m, decoded v None, rest) in q) (sym a.in_lower))))
 
-attribute_no_end : (c : ℕ) → is_in_attribute c ≡ true → (c == 62) ≡ false
+pub attribute_no_end : (c : ℕ) → is_in_attribute c ≡ true → (c == 62) ≡ false
 attribute_no_end c h = grind (arith, nat_tests)
 
-attribute_no_slash : (c : ℕ) → is_in_attribute c ≡ true → (c == 47) ≡ false
+pub attribute_no_slash : (c : ℕ) → is_in_attribute c ≡ true → (c == 47) ≡ false
 attribute_no_slash c h = grind (arith, nat_tests)
 
-attribute_no_space : (c : ℕ) → is_in_attribute c ≡ true → is_space c ≡ false
+pub attribute_no_space : (c : ℕ) → is_in_attribute c ≡ true → is_space c ≡ false
 attribute_no_space c h = grind (arith, nat_tests)
 
-space_no_end : (c : ℕ) → is_space c ≡ true → (c == 62) ≡ false
+pub space_no_end : (c : ℕ) → is_space c ≡ true → (c == 62) ≡ false
 space_no_end c h = grind (arith, nat_tests)
 
-space_no_slash : (c : ℕ) → is_space c ≡ true → (c == 47) ≡ false
+pub space_no_slash : (c : ℕ) → is_space c ≡ true → (c == 47) ≡ false
 space_no_slash c h = grind (arith, nat_tests)
 
-slash_no_end : (c : ℕ) → c ≡ 47 → (c == 62) ≡ false
+pub slash_no_end : (c : ℕ) → c ≡ 47 → (c == 62) ≡ false
 slash_no_end c h = subst (λ (n : ℕ). (n == 62) ≡ false) (sym h) refl
 
-one_on : (total : ℕ) (done : Attributes) (n v : List ℕ) (us rest : List Cell) → IsAttribute n v us rest → attributes_from total done None (us ++ rest) ≡ attributes_from total (with_attribute done n v) None rest
+pub one_on : (total : ℕ) (done : Attributes) (n v : List ℕ) (us rest : List Cell) → IsAttribute n v us rest → attributes_from total done None (us ++ rest) ≡ attributes_from total (with_attribute done n v) None rest
 one_on total done n v us rest a =
     let c = a.first in
     let t = both_true (is_in_attribute c.0) (list_all is_in_attribute (chars_of a.more)) a.characters in

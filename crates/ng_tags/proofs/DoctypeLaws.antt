@@ -64,8 +64,8 @@ sign_read : (p : ℕ) (cs : List Cell) → SignRead p cs (past_sign p cs)
 sign_read p [] = missing refl
 sign_read p (c ∷ cs) =
     elim (chosen (c.0 == 62) (Ok cs) (past_sign p cs) (past_sign p (c ∷ cs)) refl) [
-      inl g ↦ subst (SignRead p (c ∷ cs)) g.1 (found [] c cs refl refl (is_code c.0 62 g.0))
-    | inr g ↦ subst (SignRead p (c ∷ cs)) g.1 (one_more p c cs (past_sign p cs) g.0 (sign_read p cs))
+      | inl g ↦ subst (SignRead p (c ∷ cs)) g.1 (found [] c cs refl refl (is_code c.0 62 g.0))
+      | inr g ↦ subst (SignRead p (c ∷ cs)) g.1 (one_more p c cs (past_sign p cs) g.0 (sign_read p cs))
     ]
 
 behind_read : (cs : List Cell) (a : Cell) (more : List Cell) (r : Result (List Cell) HtmlFault) → BeginsDoctype cs a more → SignRead a.1 more r → AfterDoctype cs r
@@ -99,8 +99,8 @@ at_read cs [] e = no_doctype (λ c more b. absurd (nothing c more b))
 at_read cs (a ∷ ds) e =
     let s = spaces_are cs (a ∷ ds) e in
     elim (chosen (a.0 == 60) (doctype_behind a.1 cs (past_word (codes "!doctype") ds)) (Ok cs) (doctype_at cs (a ∷ ds)) refl) [
-      inl g ↦ subst (AfterDoctype cs) g.1 (known cs a ds s.s (past_word (codes "!doctype") ds) s.whole s.are (is_code a.0 60 g.0) e refl)
-    | inr g ↦ subst (AfterDoctype cs) g.1 (no_doctype (λ c more b. absurd (other g.0 c more b)))
+      | inl g ↦ subst (AfterDoctype cs) g.1 (known cs a ds s.s (past_word (codes "!doctype") ds) s.whole s.are (is_code a.0 60 g.0) e refl)
+      | inr g ↦ subst (AfterDoctype cs) g.1 (no_doctype (λ c more b. absurd (other g.0 c more b)))
     ]
   where
     other : (a.0 == 60) ≡ false → (c : Cell) (more : List Cell) → BeginsDoctype cs c more → ⊥

@@ -82,7 +82,7 @@ name_of [] h = absurd h
 name_of (c ∷ w) h = record { c = c; w = w; whole = refl; is_one = h.0 }
 
 -- a start tag, up to what follows from it
-tagged : (total : ℕ) (t : Tag) (us rest : List Cell) (e : Event) (left : List Cell) → IsStartTag t us rest → started total t rest ≡ (e, left) → (first : Cell) × (more : List Cell) × (us ++ rest ≡ first ∷ more) × (event_at total first more ≡ Ok (e, left))
+pub tagged : (total : ℕ) (t : Tag) (us rest : List Cell) (e : Event) (left : List Cell) → IsStartTag t us rest → started total t rest ≡ (e, left) → (first : Cell) × (more : List Cell) × (us ++ rest ≡ first ∷ more) × (event_at total first more ≡ Ok (e, left))
 tagged total t us rest e left s h =
     let n = name_of s.name s.characters in
     let a = s.first in

@@ -89,14 +89,17 @@ bare_wrong total c cs f d (z ∷ zs) g b h e w = by_test (z.0 == 96) refl w
   where
     here : HtmlFault
     here = fault kind.BadAttr z.1
+
     by_fault : (o : Option HtmlFault) → d.fault ≡ o → z.0 ≡ 96 → (let r : Option HtmlFault = Some (met_or d.fault (fault kind.BadAttr z.1)) in r) ≡ Some f → WrongValue total (c ∷ cs) f
     by_fault (Some x) i k v = as_value total (c ∷ cs) f x (sym (ap (λ (o : Option HtmlFault). let r : Option HtmlFault = Some (met_or o (fault kind.BadAttr z.1)) in r) i) ∙ v) (bare_bad total c cs x b (ap (λ (r : Decoded × List Cell). r.0.fault) h ∙ i))
     by_fault None i k v =
         let t = text_read until.Space no_text d (c ∷ cs) (z ∷ zs) h i in
         as_value total (c ∷ cs) f (fault kind.BadAttr z.1) (sym (ap (λ (o : Option HtmlFault). let r : Option HtmlFault = Some (met_or o (fault kind.BadAttr z.1)) in r) i) ∙ v)
         (back_wrong total c cs d z zs t.us b k t.whole (subst (λ (x : List ℕ). Reads until.Space (z ∷ zs) t.us x) (sym t.text) t.reads))
+
     kept : (o : Option HtmlFault) → d.fault ≡ o → d.fault ≡ Some f → WrongValue total (c ∷ cs) f
     kept o i v = bare_bad total c cs f b (ap (λ (r : Decoded × List Cell). r.0.fault) h ∙ v)
+
     by_test : (x : Bool) → (z.0 == 96) ≡ x → value_fault (if x then Err (met_or d.fault (fault kind.BadAttr z.1)) else Ok (d, z ∷ zs)) ≡ Some f → WrongValue total (c ∷ cs) f
     by_test true i v = by_fault d.fault refl (is_code z.0 96 i) v
     by_test false i v = kept d.fault refl v
@@ -109,12 +112,12 @@ value_wrong total (c ∷ cs) f h =
     let bare = unquoted (text_run until.Space (c ∷ cs)) in
     let bad : ValueRead = Err (fault kind.BadAttr c.1) in
     elim (chosen (c.0 == 34) double (if c.0 == 39 then single else if is_bare c.0 then bare else bad) (value_at total (c ∷ cs)) refl) [
-      inl g ↦ let r = text_run until.Double cs in quote_wrong total until.Double c cs f r.0 r.1 r.0.fault (inl (is_code c.0 34 g.0, refl)) refl refl (ap value_fault g.1 ∙ h)
-    | inr g ↦ elim (chosen (c.0 == 39) single (if is_bare c.0 then bare else bad) (value_at total (c ∷ cs)) g.1) [
-        inl k ↦ let r = text_run until.Single cs in quote_wrong total until.Single c cs f r.0 r.1 r.0.fault (inr (is_code c.0 39 k.0, refl)) refl refl (ap value_fault k.1 ∙ h)
-      | inr k ↦ elim (chosen (is_bare c.0) bare bad (value_at total (c ∷ cs)) k.1) [
-          inl m ↦ let r = text_run until.Space (c ∷ cs) in bare_wrong total c cs f r.0 r.1 r.0.fault m.0 refl refl (ap value_fault m.1 ∙ h)
-        | inr m ↦ as_value total (c ∷ cs) f (fault kind.BadAttr c.1) (ap value_fault m.1 ∙ h) (no_value c cs (none (is_bare c.0 || c.0 == 34) (c.0 == 39) (none (is_bare c.0) (c.0 == 34) m.0 g.0) k.0))
+      | inl g ↦ let r = text_run until.Double cs in quote_wrong total until.Double c cs f r.0 r.1 r.0.fault (inl (is_code c.0 34 g.0, refl)) refl refl (ap value_fault g.1 ∙ h)
+      | inr g ↦ elim (chosen (c.0 == 39) single (if is_bare c.0 then bare else bad) (value_at total (c ∷ cs)) g.1) [
+        | inl k ↦ let r = text_run until.Single cs in quote_wrong total until.Single c cs f r.0 r.1 r.0.fault (inr (is_code c.0 39 k.0, refl)) refl refl (ap value_fault k.1 ∙ h)
+        | inr k ↦ elim (chosen (is_bare c.0) bare bad (value_at total (c ∷ cs)) k.1) [
+          | inl m ↦ let r = text_run until.Space (c ∷ cs) in bare_wrong total c cs f r.0 r.1 r.0.fault m.0 refl refl (ap value_fault m.1 ∙ h)
+          | inr m ↦ as_value total (c ∷ cs) f (fault kind.BadAttr c.1) (ap value_fault m.1 ∙ h) (no_value c cs (none (is_bare c.0 || c.0 == 34) (c.0 == 39) (none (is_bare c.0) (c.0 == 34) m.0 g.0) k.0))
         ]
       ]
     ]
@@ -127,12 +130,12 @@ behind_wrong : (total : ℕ) (c : Cell) (w s cs : List Cell) (f : HtmlFault) →
 behind_wrong total c w s [] f al a h = absurd (cc (h))
 behind_wrong total c w s (e ∷ es) f al a h =
     elim (chosen (e.0 == 61) (value_at total (past_spaces es)) (Ok (no_text, e ∷ es)) (value_behind total (e ∷ es)) refl) [
-      inr g ↦ let no_one : None ≡ Some f = ap value_fault g.1 ∙ h in absurd (cc (no_one))
-    | inl g ↦
-        let p = spaces_are es (past_spaces es) refl in
-        let sign : EqualsSign (s ++ e ∷ p.s) = record { before = s; sign = e; behind = p.s; whole = refl; spaces_before = a; is_sign = is_code e.0 61 g.0; spaces_behind = p.are } in
-        let cs : (s ++ e ∷ p.s) ++ past_spaces es ≡ s ++ e ∷ es = append_assoc s (e ∷ p.s) (past_spaces es) ∙ ap (λ xs. s ++ e ∷ xs) (sym p.whole) in
-        subst (λ (xs : List Cell). Wrong total ((c ∷ w) ++ xs) f) cs (wrong_value c w (s ++ e ∷ p.s) (past_spaces es) f al sign p.stops (value_wrong total (past_spaces es) f (ap value_fault g.1 ∙ h)))
+      | inr g ↦ let no_one : None ≡ Some f = ap value_fault g.1 ∙ h in absurd (cc (no_one))
+      | inl g ↦
+          let p = spaces_are es (past_spaces es) refl in
+          let sign : EqualsSign (s ++ e ∷ p.s) = record { before = s; sign = e; behind = p.s; whole = refl; spaces_before = a; is_sign = is_code e.0 61 g.0; spaces_behind = p.are } in
+          let cs : (s ++ e ∷ p.s) ++ past_spaces es ≡ s ++ e ∷ es = append_assoc s (e ∷ p.s) (past_spaces es) ∙ ap (λ xs. s ++ e ∷ xs) (sym p.whole) in
+          subst (λ (xs : List Cell). Wrong total ((c ∷ w) ++ xs) f) cs (wrong_value c w (s ++ e ∷ p.s) (past_spaces es) f al sign p.stops (value_wrong total (past_spaces es) f (ap value_fault g.1 ∙ h)))
     ]
 
 then_fault : (n : List ℕ) (v : ValueRead) → attribute_fault (v >>= λ r. Ok (n, r.0, r.1)) ≡ value_fault v
@@ -143,16 +146,16 @@ attribute_wrong : (total : ℕ) (c : Cell) (cs : List Cell) (f : HtmlFault) → 
 attribute_wrong total c cs f a b s h =
     let r = attribute_run (lower c.0 ∷ []) cs in
     elim (chosen (is_in_attribute c.0) (named total r) (Err (fault kind.BadAttr c.1)) (attribute_at total c cs) refl) [
-      inl g ↦
-        let w = attribute_runs (lower c.0 ∷ []) r.0 cs r.1 refl in
-        let p = spaces_are r.1 (past_spaces r.1) refl in
-        let v : value_fault (value_behind total (past_spaces r.1)) ≡ Some f = sym (then_fault r.0 (value_behind total (past_spaces r.1))) ∙ (ap attribute_fault g.1 ∙ h) in
-        let whole : (c ∷ w.w) ++ (p.s ++ past_spaces r.1) ≡ c ∷ cs = ap (λ xs. c ∷ xs) (ap (λ xs. w.w ++ xs) (sym p.whole) ∙ sym w.whole) in
-        subst (λ (xs : List Cell). Wrong total xs f) whole (behind_wrong total c w.w p.s (past_spaces r.1) f (both (is_in_attribute c.0) (list_all is_in_attribute (chars_of w.w)) g.0 w.all) p.are v)
-    | inr g ↦
-        let e : (let q : Option HtmlFault = Some (fault kind.BadAttr c.1) in q) ≡ Some f = ap attribute_fault g.1 ∙ h in
-        subst (λ (x : HtmlFault). Wrong total (c ∷ cs) x) (ap (fault_or f) e)
-        (no_attribute c cs (none (is_in_attribute c.0 || is_space c.0 || c.0 == 62) (c.0 == 47) (none (is_in_attribute c.0 || is_space c.0) (c.0 == 62) (none (is_in_attribute c.0) (is_space c.0) g.0 s) a) b))
+      | inl g ↦
+          let w = attribute_runs (lower c.0 ∷ []) r.0 cs r.1 refl in
+          let p = spaces_are r.1 (past_spaces r.1) refl in
+          let v : value_fault (value_behind total (past_spaces r.1)) ≡ Some f = sym (then_fault r.0 (value_behind total (past_spaces r.1))) ∙ (ap attribute_fault g.1 ∙ h) in
+          let whole : (c ∷ w.w) ++ (p.s ++ past_spaces r.1) ≡ c ∷ cs = ap (λ xs. c ∷ xs) (ap (λ xs. w.w ++ xs) (sym p.whole) ∙ sym w.whole) in
+          subst (λ (xs : List Cell). Wrong total xs f) whole (behind_wrong total c w.w p.s (past_spaces r.1) f (both (is_in_attribute c.0) (list_all is_in_attribute (chars_of w.w)) g.0 w.all) p.are v)
+      | inr g ↦
+          let e : (let q : Option HtmlFault = Some (fault kind.BadAttr c.1) in q) ≡ Some f = ap attribute_fault g.1 ∙ h in
+          subst (λ (x : HtmlFault). Wrong total (c ∷ cs) x) (ap (fault_or f) e)
+          (no_attribute c cs (none (is_in_attribute c.0 || is_space c.0 || c.0 == 62) (c.0 == 47) (none (is_in_attribute c.0 || is_space c.0) (c.0 == 62) (none (is_in_attribute c.0) (is_space c.0) g.0 s) a) b))
     ]
 
 -- a fault stays
@@ -195,15 +198,15 @@ slash_wrong : (total : ℕ) (done : Attributes) (c : Cell) (cs : List Cell) (f :
 slash_wrong total done c [] f k h = at_once total (c ∷ []) f (fault kind.Unclosed total) h (slash_cut c k)
 slash_wrong total done c (z ∷ zs) f k h =
     elim (chosen (z.0 == 62) (inside done true None, zs) (broken done None (fault kind.BadAttr c.1) (z ∷ zs)) (slash total done None c.1 (z ∷ zs)) refl) [
-      inl g ↦ let no_one : None ≡ Some f = ap inside_fault g.1 ∙ h in absurd (cc (no_one))
-    | inr g ↦ at_once total (c ∷ z ∷ zs) f (fault kind.BadAttr c.1) (ap inside_fault g.1 ∙ h) (slash_inside c z zs k g.0)
+      | inl g ↦ let no_one : None ≡ Some f = ap inside_fault g.1 ∙ h in absurd (cc (no_one))
+      | inr g ↦ at_once total (c ∷ z ∷ zs) f (fault kind.BadAttr c.1) (ap inside_fault g.1 ∙ h) (slash_inside c z zs k g.0)
     ]
 
 abbrev AllWrong : ℕ → ℕ → Type 0
 AllWrong k total = (done : Attributes) (cs : List Cell) (f : HtmlFault) → length cs < k → inside_fault (attributes_within k total done None cs) ≡ Some f → WrongInside total cs f
 
 one_wrong : (k total : ℕ) (done : Attributes) (c : Cell) (cs : List Cell) (f : HtmlFault) (x : AttributeRead) → AllWrong k total → length cs < k → (c.0 == 62) ≡ false → (c.0 == 47) ≡ false → is_space c.0 ≡ false →
-  attribute_at total c cs ≡ x → inside_fault (go_on k total done None c cs x) ≡ Some f → WrongInside total (c ∷ cs) f
+    attribute_at total c cs ≡ x → inside_fault (go_on k total done None c cs x) ≡ Some f → WrongInside total (c ∷ cs) f
 one_wrong k total done c cs f (Err e) ih l a b s h w =
     at_once total (c ∷ cs) f f refl (attribute_wrong total c cs f a b s (ap attribute_fault h ∙ w))
 one_wrong k total done c cs f (Ok r) ih l a b s h w = by_fault r.1.fault refl
@@ -215,7 +218,7 @@ one_wrong k total done c cs f (Ok r) ih l a b s h w = by_fault r.1.fault refl
     by_fault None e =
         let less = attribute_left total c cs r h in
         let on : inside_fault (attributes_within k total (with_attribute done r.0 r.1.text) None r.2) ≡ Some f =
-          sym (ap (λ (o : Option HtmlFault). inside_fault (attributes_within k total (with_attribute done r.0 r.1.text) o r.2)) e) ∙ w in
+        sym (ap (λ (o : Option HtmlFault). inside_fault (attributes_within k total (with_attribute done r.0 r.1.text) o r.2)) e) ∙ w in
         let m = ih (with_attribute done r.0 r.1.text) r.2 f (omega (arith, less)) on in
         let x = attribute_read total c cs r.0 r.1 r.2 h e in
         record {
@@ -233,14 +236,14 @@ all_wrong (suc k) total done (c ∷ cs) f l h =
     let on = go_on k total done None c cs (attribute_at total c cs) in
     let all = attributes_within (suc k) total done None (c ∷ cs) in
     elim (chosen (c.0 == 62) (inside done false None, cs) (if c.0 == 47 then slash total done None c.1 cs else if is_space c.0 then attributes_within k total done None cs else on) all refl) [
-      inl g ↦ let no_one : None ≡ Some f = ap inside_fault g.1 ∙ h in absurd (cc (no_one))
-    | inr g ↦ elim (chosen (c.0 == 47) (slash total done None c.1 cs) (if is_space c.0 then attributes_within k total done None cs else on) all g.1) [
-        inl s ↦ slash_wrong total done c cs f (is_code c.0 47 s.0) (ap inside_fault s.1 ∙ h)
-      | inr s ↦ elim (chosen (is_space c.0) (attributes_within k total done None cs) on all s.1) [
-          inl w ↦
-            let m = all_wrong k total done cs f (omega arith) (ap inside_fault w.1 ∙ h) in
-            record { before = c ∷ m.before; behind = m.behind; whole = ap (λ xs. c ∷ xs) m.whole; so_far = space_first c m.before w.0 m.so_far; wrong = m.wrong }
-        | inr w ↦ one_wrong k total done c cs f (attribute_at total c cs) (all_wrong k total) (omega arith) g.0 s.0 w.0 refl (ap inside_fault w.1 ∙ h)
+      | inl g ↦ let no_one : None ≡ Some f = ap inside_fault g.1 ∙ h in absurd (cc (no_one))
+      | inr g ↦ elim (chosen (c.0 == 47) (slash total done None c.1 cs) (if is_space c.0 then attributes_within k total done None cs else on) all g.1) [
+        | inl s ↦ slash_wrong total done c cs f (is_code c.0 47 s.0) (ap inside_fault s.1 ∙ h)
+        | inr s ↦ elim (chosen (is_space c.0) (attributes_within k total done None cs) on all s.1) [
+          | inl w ↦
+              let m = all_wrong k total done cs f (omega arith) (ap inside_fault w.1 ∙ h) in
+              record { before = c ∷ m.before; behind = m.behind; whole = ap (λ xs. c ∷ xs) m.whole; so_far = space_first c m.before w.0 m.so_far; wrong = m.wrong }
+          | inr w ↦ one_wrong k total done c cs f (attribute_at total c cs) (all_wrong k total) (omega arith) g.0 s.0 w.0 refl (ap inside_fault w.1 ∙ h)
         ]
       ]
     ]

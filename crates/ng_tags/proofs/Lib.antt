@@ -22,3 +22,7 @@ pub mod Refused
 pub mod RefusedComplete
 pub mod DoctypeLaws
 pub mod InsideRefused
+pub mod InsideComplete
+pub mod NoStart
+pub mod FaultySound
+pub mod FaultyComplete

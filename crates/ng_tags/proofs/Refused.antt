@@ -51,10 +51,10 @@ start_refused total a c cs f h l s =
     let good : Answer = Ok (start_with total a.1 r.0 (attributes total r.1)) in
     let name = whole_name c w.w r.1 r.0 l w.all w.read w.stops in
     elim (chosen (is_left_out r.0) bad (if may_follow_name r.1 then good else bad) (Err f) s) [
-      inl g ↦ refused_as total a (c ∷ cs) f (fault kind.BadTag a.1) g.1 (bad_tag h (subst NoTag (sym (ap (λ xs. c ∷ xs) w.whole)) (left_out r.0 (c ∷ w.w) r.1 name g.0)))
-    | inr g ↦ elim (chosen (may_follow_name r.1) good bad (Err f) g.1) [
-        inl k ↦ absurd (cc (k.1))
-      | inr k ↦ refused_as total a (c ∷ cs) f (fault kind.BadTag a.1) k.1 (bad_tag h (subst NoTag (sym (ap (λ xs. c ∷ xs) w.whole)) (follower r.0 (c ∷ w.w) r.1 name g.0 k.0)))
+      | inl g ↦ refused_as total a (c ∷ cs) f (fault kind.BadTag a.1) g.1 (bad_tag h (subst NoTag (sym (ap (λ xs. c ∷ xs) w.whole)) (left_out r.0 (c ∷ w.w) r.1 name g.0)))
+      | inr g ↦ elim (chosen (may_follow_name r.1) good bad (Err f) g.1) [
+        | inl k ↦ absurd (cc (k.1))
+        | inr k ↦ refused_as total a (c ∷ cs) f (fault kind.BadTag a.1) k.1 (bad_tag h (subst NoTag (sym (ap (λ xs. c ∷ xs) w.whole)) (follower r.0 (c ∷ w.w) r.1 name g.0 k.0)))
       ]
     ]
   where
@@ -71,13 +71,13 @@ end_refused total a s (c ∷ cs) f h k e =
     let p = spaces_are r.1 (past_spaces r.1) refl in
     let bad : Answer = Err (fault kind.BadTag a.1) in
     elim (chosen (is_letter c.0) (end_tag_named total a.1 r) bad (Err f) e) [
-      inr g ↦ refused_as total a (s ∷ c ∷ cs) f (fault kind.BadTag a.1) g.1 (bad_tag h (no_name s (c ∷ cs) k g.0))
-    | inl g ↦
-        let name = whole_name c w.w r.1 r.0 g.0 w.all w.read w.stops in
-        elim (chosen (is_left_out r.0) bad (end_tag_end total a.1 r.0 (past_spaces r.1)) (Err f) g.1) [
-          inl m ↦ refused_as total a (s ∷ c ∷ cs) f (fault kind.BadTag a.1) m.1 (bad_tag h (subst (λ (xs : List Cell). NoTag (s ∷ c ∷ xs)) (sym w.whole) (left_out_end s r.0 (c ∷ w.w) r.1 k name m.0)))
-        | inr m ↦ closes r.0 w.w p.s (past_spaces r.1) (w.whole ∙ ap (λ xs. w.w ++ xs) p.whole) (subst (IsWholeName r.0 (c ∷ w.w)) p.whole name) p.are p.stops m.0 m.1
-        ]
+      | inr g ↦ refused_as total a (s ∷ c ∷ cs) f (fault kind.BadTag a.1) g.1 (bad_tag h (no_name s (c ∷ cs) k g.0))
+      | inl g ↦
+          let name = whole_name c w.w r.1 r.0 g.0 w.all w.read w.stops in
+          elim (chosen (is_left_out r.0) bad (end_tag_end total a.1 r.0 (past_spaces r.1)) (Err f) g.1) [
+            | inl m ↦ refused_as total a (s ∷ c ∷ cs) f (fault kind.BadTag a.1) m.1 (bad_tag h (subst (λ (xs : List Cell). NoTag (s ∷ c ∷ xs)) (sym w.whole) (left_out_end s r.0 (c ∷ w.w) r.1 k name m.0)))
+            | inr m ↦ closes r.0 w.w p.s (past_spaces r.1) (w.whole ∙ ap (λ xs. w.w ++ xs) p.whole) (subst (IsWholeName r.0 (c ∷ w.w)) p.whole name) p.are p.stops m.0 m.1
+          ]
     ]
   where
     closes : (n : List ℕ) (w sp ds : List Cell) → cs ≡ w ++ (sp ++ ds) → IsWholeName n (c ∷ w) (sp ++ ds) → AreSpaces sp → BeginsNot is_space ds → is_left_out n ≡ false → end_tag_end total a.1 n ds ≡ Err f → Refused total a (s ∷ c ∷ cs) f
@@ -87,8 +87,8 @@ end_refused total a s (c ∷ cs) f h k e =
         (unclosed h (subst (λ (xs : List Cell). CutOff (s ∷ c ∷ xs)) (sym left) (end_tag_cut s n (c ∷ w) sp k (subst (IsWholeName n (c ∷ w)) (append-nil sp) i) lo ar)))
     closes n w sp (z ∷ zs) wh i ar st lo q =
         elim (chosen (z.0 == 62) (Ok (event.End n a.1, zs)) (Err (fault kind.BadTag a.1)) (Err f) q) [
-          inl g ↦ absurd (cc (g.1))
-        | inr g ↦ refused_as total a (s ∷ c ∷ cs) f (fault kind.BadTag a.1) g.1 (bad_tag h (subst (λ (xs : List Cell). NoTag (s ∷ c ∷ xs)) (sym wh) (no_end s n (c ∷ w) sp z zs k i lo ar (none (is_space z.0) (z.0 == 62) st g.0))))
+          | inl g ↦ absurd (cc (g.1))
+          | inr g ↦ refused_as total a (s ∷ c ∷ cs) f (fault kind.BadTag a.1) g.1 (bad_tag h (subst (λ (xs : List Cell). NoTag (s ∷ c ∷ xs)) (sym wh) (no_end s n (c ∷ w) sp z zs k i lo ar (none (is_space z.0) (z.0 == 62) st g.0))))
         ]
 
 -- a comment
@@ -99,15 +99,15 @@ comment_stops : (t u : List ℕ) (cs rest : List Cell) → comment_run t cs ≡ 
 comment_stops t u [] rest h n = sym (ap (λ (r : List ℕ × List Cell). r.1) h)
 comment_stops t u (c ∷ cs) rest h n =
     elim (chosen (ends_comment (c ∷ cs)) (t, c ∷ cs) (comment_run (t ++ as_space c.0 ∷ []) cs) (u, rest) h) [
-      inl g ↦
-        let left : c ∷ cs ≡ rest = ap (λ (r : List ℕ × List Cell). r.1) g.1 in
-        let yes : true ≡ false = sym g.0 ∙ (ap ends_comment left ∙ ap is_some n) in
-        absurd (cc (yes))
-    | inr g ↦ comment_stops (t ++ as_space c.0 ∷ []) u cs rest g.1 n
+      | inl g ↦
+          let left : c ∷ cs ≡ rest = ap (λ (r : List ℕ × List Cell). r.1) g.1 in
+          let yes : true ≡ false = sym g.0 ∙ (ap ends_comment left ∙ ap is_some n) in
+          absurd (cc (yes))
+      | inr g ↦ comment_stops (t ++ as_space c.0 ∷ []) u cs rest g.1 n
     ]
 
 cut_refused : (total : ℕ) (a s : Cell) (dashes ds : List Cell) (f : HtmlFault) (t : List ℕ) (rest : List Cell) (o : Option (List Cell)) → a.0 ≡ 60 → s.0 ≡ 33 → chars_of dashes ≡ codes "--" → comment_run [] ds ≡ (t, rest) → past_word (codes "-->") rest ≡ o →
-  comment_with total a.1 t o ≡ Err f → Refused total a (s ∷ (dashes ++ ds)) f
+    comment_with total a.1 t o ≡ Err f → Refused total a (s ∷ (dashes ++ ds)) f
 cut_refused total a s dashes ds f t rest (Some more) h k d r e q = absurd (cc (q))
 cut_refused total a s dashes ds f t rest None h k d r e q =
     let m = comment_runs [] t ds rest r in
@@ -134,12 +134,12 @@ markup_refused total a (c ∷ cs) f h t e =
     let start = start_tag total a.1 (name_run (lower c.0 ∷ []) cs) in
     let note = comment total a.1 (past_word (codes "--") cs) in
     elim (chosen (is_letter c.0) start (if c.0 == 47 then end_tag total a.1 cs else if c.0 == 33 then note else bad) (Err f) e) [
-      inl g ↦ start_refused total a c cs f h g.0 g.1
-    | inr g ↦ elim (chosen (c.0 == 47) (end_tag total a.1 cs) (if c.0 == 33 then note else bad) (Err f) g.1) [
-        inl k ↦ end_refused total a c cs f h (is_code c.0 47 k.0) k.1
-      | inr k ↦ elim (chosen (c.0 == 33) note bad (Err f) k.1) [
-          inl m ↦ comment_refused total a c cs f (past_word (codes "--") cs) h (is_code c.0 33 m.0) refl m.1
-        | inr m ↦ refused_as total a (c ∷ cs) f (fault kind.BadTag a.1) m.1 (bad_tag h (question_mark c cs (last_mark c.0 t g.0 k.0 m.0)))
+      | inl g ↦ start_refused total a c cs f h g.0 g.1
+      | inr g ↦ elim (chosen (c.0 == 47) (end_tag total a.1 cs) (if c.0 == 33 then note else bad) (Err f) g.1) [
+        | inl k ↦ end_refused total a c cs f h (is_code c.0 47 k.0) k.1
+        | inr k ↦ elim (chosen (c.0 == 33) note bad (Err f) k.1) [
+          | inl m ↦ comment_refused total a c cs f (past_word (codes "--") cs) h (is_code c.0 33 m.0) refl m.1
+          | inr m ↦ refused_as total a (c ∷ cs) f (fault kind.BadTag a.1) m.1 (bad_tag h (question_mark c cs (last_mark c.0 t g.0 k.0 m.0)))
         ]
       ]
     ]
@@ -155,6 +155,6 @@ pub refused_sound : (total : ℕ) (c : Cell) (cs : List Cell) (f : HtmlFault) �
 refused_sound total c cs f h =
     let d = text_behind c.1 (character c.0 cs) in
     elim (chosen (c.0 == 60 && tag_follows cs) (markup total c.1 cs) (text_event c.1 d) (Err f) h) [
-      inl g ↦ let b = both_true (c.0 == 60) (tag_follows cs) g.0 in markup_refused total c cs f (is_code c.0 60 b.0) b.1 g.1
-    | inr g ↦ text_refused total c cs f d.0.text d.0.fault d.1 g.0 (ap (λ (r : Decoded × List Cell). r.0.fault) (text_on until.Tag no_text c cs g.0)) g.1
+      | inl g ↦ let b = both_true (c.0 == 60) (tag_follows cs) g.0 in markup_refused total c cs f (is_code c.0 60 b.0) b.1 g.1
+      | inr g ↦ text_refused total c cs f d.0.text d.0.fault d.1 g.0 (ap (λ (r : Decoded × List Cell). r.0.fault) (text_on until.Tag no_text c cs g.0)) g.1
     ]

@@ -45,7 +45,7 @@ may_follow : (us rest : List Cell) → NameEnds us → may_follow_name (us ++ re
 may_follow [] rest h = absurd h
 may_follow (c ∷ cs) rest h = h
 
-drops_on : (n : List ℕ) (ds rest : List Cell) → Dropped n rest ds → behind_tag n (ds ++ rest) ≡ rest
+pub drops_on : (n : List ℕ) (ds rest : List Cell) → Dropped n rest ds → behind_tag n (ds ++ rest) ≡ rest
 drops_on n ds rest (line_feed c h e) =
     if_true (is_line_dropping n) (past_line_feed (c ∷ rest)) (c ∷ rest) h ∙ if_true (c.0 == 10) rest (c ∷ rest) (code_is c.0 10 e)
 drops_on n ds rest (nothing f) = by_test (is_line_dropping n) refl

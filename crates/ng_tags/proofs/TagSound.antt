@@ -43,15 +43,15 @@ some_attributes rest done us all b (attribute_then d f g n v ws vs a m) e =
     let w : ws ++ vs ≡ a.first ∷ ((a.more ++ a.behind) ++ vs) = ap (λ xs. xs ++ vs) a.whole in
     cc (w, e)
 
-name_ends_of : (us rest : List Cell) → (us ≡ [] → ⊥) → may_follow_name (us ++ rest) ≡ true → NameEnds us
+pub name_ends_of : (us rest : List Cell) → (us ≡ [] → ⊥) → may_follow_name (us ++ rest) ≡ true → NameEnds us
 name_ends_of [] rest f h = f refl
 name_ends_of (c ∷ cs) rest f h = h
 
 -- a line feed that is dropped, or none
-record DroppedBy (n : List ℕ) (cs rest : List Cell) : Type 0 where
-  ds : List Cell
-  whole : cs ≡ ds ++ rest
-  drops : Dropped n rest ds
+pub record DroppedBy (n : List ℕ) (cs rest : List Cell) : Type 0 where
+  pub ds : List Cell
+  pub whole : cs ≡ ds ++ rest
+  pub drops : Dropped n rest ds
 
 feed_dropped : (n : List ℕ) (cs rest : List Cell) → is_line_dropping n ≡ true → past_line_feed cs ≡ rest → DroppedBy n cs rest
 feed_dropped n [] rest h e = record { ds = []; whole = e; drops = nothing (λ i. subst (BeginsNot is_line_feed) e tt) }
@@ -61,7 +61,7 @@ feed_dropped n (c ∷ cs) rest h e =
       | inr g ↦ record { ds = []; whole = g.1; drops = nothing (λ i. subst (BeginsNot is_line_feed) g.1 g.0) }
     ]
 
-dropped_by : (n : List ℕ) (cs rest : List Cell) → behind_tag n cs ≡ rest → DroppedBy n cs rest
+pub dropped_by : (n : List ℕ) (cs rest : List Cell) → behind_tag n cs ≡ rest → DroppedBy n cs rest
 dropped_by n cs rest e =
     elim (chosen (is_line_dropping n) (past_line_feed cs) cs rest e) [
       | inl g ↦ feed_dropped n cs rest g.0 g.1
@@ -206,7 +206,7 @@ opens_whole t h = ap (λ (f : Option HtmlFault). is_raw t.name && not t.closed &
     last false true = refl
     last false false = refl
 
-raw_parts : (t : Tag) → t.fault ≡ None → opens_raw t ≡ true → (is_raw t.name ≡ true) × (t.closed ≡ false)
+pub raw_parts : (t : Tag) → t.fault ≡ None → opens_raw t ≡ true → (is_raw t.name ≡ true) × (t.closed ≡ false)
 raw_parts t n h =
     let b = both_true (is_raw t.name) (not t.closed) (sym (opens_whole t n) ∙ h) in
     (b.0, opened t.closed b.1)
@@ -215,7 +215,7 @@ raw_parts t n h =
     opened true h = absurd (cc)
     opened false h = refl
 
-none_opened : (t : Tag) → opens_raw t ≡ true → t.fault ≡ None
+pub none_opened : (t : Tag) → opens_raw t ≡ true → t.fault ≡ None
 none_opened t h = is_nothing t.fault (second (is_raw t.name) (not t.closed) (is_none t.fault) h)
   where
     is_nothing : (f : Option HtmlFault) → is_none f ≡ true → f ≡ None

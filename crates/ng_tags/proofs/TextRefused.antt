@@ -32,8 +32,9 @@ fault_stays (suc k) u d (c ∷ cs) g h =
     with_stays : (o : Option ℕ) → (with_character d c.1 o).fault ≡ Some g
     with_stays (Some x) = h
     with_stays None = ap (λ (f : Option HtmlFault). let q : Option HtmlFault = Some (met_or f (fault kind.BadReference c.1)) in q) h
+
     by_test : (b : Bool) → (text_within k u (with_character d c.1 (character c.0 cs).0) (character c.0 cs).1).0.fault ≡ Some g →
-      (if b then (let q : Decoded × List Cell = (d, c ∷ cs) in q) else text_within k u (with_character d c.1 (character c.0 cs).0) (character c.0 cs).1).0.fault ≡ Some g
+        (if b then (let q : Decoded × List Cell = (d, c ∷ cs) in q) else text_within k u (with_character d c.1 (character c.0 cs).0) (character c.0 cs).1).0.fault ≡ Some g
     by_test true i = h
     by_test false i = i
 
@@ -49,16 +50,18 @@ bad_itself cs rest (Some r) e h = e ∙ ap Some h
 bad_character : (c : Cell) (cs rest : List Cell) → character c.0 cs ≡ (None, rest) → (c.0 ≡ 38) × IsBadReference cs
 bad_character c cs rest h =
     elim (chosen (c.0 == 38) (or_itself cs (reference cs)) (Some c.0, cs) (None, rest) h) [
-      inl g ↦
-        let r = bad_itself cs rest (reference cs) refl g.1 in
-        (is_code c.0 38 g.0, record {
-          is_number = number_begins cs rest r;
-          names_none = λ x vs more e n.
-            let s : Some (Some x, more) ≡ Some (None, rest) = sym (reference_on x vs more n) ∙ (ap reference (sym e) ∙ r) in
-            let t : Some x ≡ None = ap (λ (q : Option Read). first_in q None) s in
-            cc (t);
-        })
-    | inr g ↦ let f : Some c.0 ≡ None = ap (λ (r : Read). r.0) g.1 in absurd (cc (f))
+      | inl g ↦
+          let r = bad_itself cs rest (reference cs) refl g.1 in (
+            is_code c.0 38 g.0,
+            record {
+              is_number = number_begins cs rest r;
+              names_none = λ x vs more e n.
+                  let s : Some (Some x, more) ≡ Some (None, rest) = sym (reference_on x vs more n) ∙ (ap reference (sym e) ∙ r) in
+                  let t : Some x ≡ None = ap (λ (q : Option Read). first_in q None) s in
+                  cc (t);
+            },
+          )
+      | inr g ↦ let f : Some c.0 ≡ None = ap (λ (r : Read). r.0) g.1 in absurd (cc (f))
     ]
 
 -- the first fault of a text is that of a bad reference
@@ -78,7 +81,7 @@ none_bad : (u : Until) (d : Decoded) (f : HtmlFault) (cs : List Cell) → d.faul
 none_bad u d f cs h i = let e : None ≡ Some f = sym h ∙ i in absurd (cc (e))
 
 one_bad : (k : ℕ) (u : Until) (d : Decoded) (c : Cell) (cs : List Cell) (f : HtmlFault) (o : Option ℕ) (more : List Cell) → TextsBad k → length more < k → character c.0 cs ≡ (o, more) → ends u c.0 cs ≡ false → d.fault ≡ None →
-  (text_within k u (with_character d c.1 o) more).0.fault ≡ Some f → FirstBad u f (c ∷ cs)
+    (text_within k u (with_character d c.1 o) more).0.fault ≡ Some f → FirstBad u f (c ∷ cs)
 one_bad k u d c cs f None more ih l e s n h =
     let b = bad_character c cs more e in
     let here = fault kind.BadReference c.1 in
@@ -115,7 +118,7 @@ text_bad u cs f h = texts_bad (suc (length cs)) u no_text cs f (omega arith) ref
 
 -- what reads as a text is passed by
 past_character : (u : Until) (s t : List ℕ) (f : Option HtmlFault) (c : Cell) (cs more rest : List Cell) (x : ℕ) → ends u c.0 cs ≡ false → character c.0 cs ≡ (Some x, more) →
-  text_from u (decoded (s ++ x ∷ []) f) more ≡ text_from u (decoded ((s ++ x ∷ []) ++ t) f) rest → text_from u (decoded s f) (c ∷ cs) ≡ text_from u (decoded (s ++ x ∷ t) f) rest
+    text_from u (decoded (s ++ x ∷ []) f) more ≡ text_from u (decoded ((s ++ x ∷ []) ++ t) f) rest → text_from u (decoded s f) (c ∷ cs) ≡ text_from u (decoded (s ++ x ∷ t) f) rest
 past_character u s t f c cs more rest x e h i =
     text_on u (decoded s f) c cs e
     ∙ (ap (λ (r : Read). text_from u (with_character (decoded s f) c.1 r.0) r.1) h
@@ -143,10 +146,10 @@ bad_text u p cs b =
     let more = (character c.0 b.behind).1 in
     let here = fault kind.BadReference c.1 in
     let on : text_run u cs ≡ text_from u (with_character d c.1 None) more =
-      ap (text_run u) b.whole
-      ∙ (reads_past u None (c ∷ b.behind) b.before b.t b.reads []
-      ∙ (text_on u d c b.behind (amp_goes_on u c.0 b.behind b.is_amp)
-      ∙ ap (λ (o : Option ℕ). text_from u (with_character d c.1 o) more) none)) in
+    ap (text_run u) b.whole
+    ∙ (reads_past u None (c ∷ b.behind) b.before b.t b.reads []
+    ∙ (text_on u d c b.behind (amp_goes_on u c.0 b.behind b.is_amp)
+    ∙ ap (λ (o : Option ℕ). text_from u (with_character d c.1 o) more) none)) in
     ap (λ (r : Decoded × List Cell). r.0.fault) on
     ∙ (fault_stays (suc (length more)) u (with_character d c.1 None) more here refl
     ∙ ap (λ (q : ℕ). let o : Option HtmlFault = Some (fault kind.BadReference q) in o) b.place)

@@ -1,11 +1,13 @@
 -- What is wrong inside of a tag, and where.
-use Rattle.std.specs.Prelude.{◌≡◌, Bool, true, false, ℕ, ◌==◌, ◌||◌, List, [], ◌∷◌, ◌++◌}
+use Rattle.std.specs.Prelude.{⊤, ◌≡◌, Bool, true, false, ℕ, ◌==◌, ◌||◌, List, [], ◌∷◌, ◌++◌}
 use Rattle.std.specs.List.{list_all}
 use Rattle.ng_base.specs.Cells.{Cell}
+use Rattle.ng_markup.specs.Tables.{is_left_out, is_raw}
 use Rattle.ng_tags.specs.Free.{fault}
 use Rattle.ng_tags.specs.Letters.{is_space, is_in_attribute, is_bare}
-use Rattle.ng_tags.specs.Spelling.{chars_of, Reads, BeginsNot, EqualsSign, IsQuote, IsAttribute}
-use Rattle.ng_tags.specs.Refusals.{BadAt}
+use Rattle.ng_tags.specs.Spelling.{chars_of, Reads, BeginsNot, EqualsSign, IsQuote, IsAttribute, IsStartTag, Dropped}
+use Rattle.ng_tags.specs.Refusals.{IsWholeName, is_follower, BadAt}
+use Rattle.ng_tags.specs.declared.event.Tag.{Tag}
 use Rattle.ng_tags.specs.declared.fault.HtmlFault.{HtmlFault}
 use Rattle.ng_tags.specs.declared.fault.HtmlKind.TheVariants as kind
 use Rattle.ng_tags.specs.declared.until.Until.{Until}
@@ -49,3 +51,16 @@ pub record WrongInside (total : ℕ) (cs : List Cell) (f : HtmlFault) : Type 0 w
   pub whole : cs ≡ before ++ behind
   pub so_far : SoFar behind before
   pub wrong : Wrong total behind f
+
+-- nothing, or what may stand right behind a tag's name
+abbrev pub MayFollow : List Cell → Type 0
+MayFollow [] = ⊤
+MayFollow (c ∷ cs) = is_follower c.0 ≡ true
+
+-- a start tag begins with this cell, and this is its first fault: inside of it, or in the content of an element of text alone
+pub data IsFaulty (total : ℕ) (c : Cell) (cs : List Cell) : HtmlFault → Type 0 where
+  in_tag : (n : List ℕ) (name behind : List Cell) (f : HtmlFault) → c.0 ≡ 60 → cs ≡ name ++ behind → IsWholeName n name behind → is_left_out n ≡ false → MayFollow behind → WrongInside total behind f → IsFaulty total c cs f
+  content_cut : (t : Tag) (tag dropped inner : List Cell) (text : List ℕ) → c ∷ cs ≡ tag ++ (dropped ++ inner) → IsStartTag t tag (dropped ++ inner) → is_raw t.name ≡ true → t.closed ≡ false → Dropped t.name inner dropped →
+      Reads (until.EndTag t.name) [] inner text → IsFaulty total c cs (fault kind.Unclosed total)
+  bad_in_content : (t : Tag) (tag dropped inner : List Cell) (p : ℕ) → c ∷ cs ≡ tag ++ (dropped ++ inner) → IsStartTag t tag (dropped ++ inner) → is_raw t.name ≡ true → t.closed ≡ false → Dropped t.name inner dropped →
+      BadAt (until.EndTag t.name) p inner → IsFaulty total c cs (fault kind.BadReference p)
