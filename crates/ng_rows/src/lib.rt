@@ -6,8 +6,12 @@
 #![tactic(auto)]
 
 #[cfg(test)]
+mod expressions;
+#[cfg(test)]
 mod first_path;
 #[cfg(test)]
 mod limits;
 #[cfg(test)]
 mod outside;
+#[cfg(test)]
+mod profile;

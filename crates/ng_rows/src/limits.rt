@@ -1,11 +1,11 @@
-//! The limits of the first path, through `run`: each at its last good value and one past it.
+//! Limits, through `run`: each at its last good value and one past it.
 use crate::first_path::ran;
 use std::alloc::{AllocError, Global};
 
 const OPENED: &str = "# 0 open\n\n";
 
 /// A text so many times in a row.
-fn repeated(alloc: Global, text: &str, count: usize) -> Result<String, AllocError> {
+pub(crate) fn repeated(alloc: Global, text: &str, count: usize) -> Result<String, AllocError> {
     let mut all = String::new(alloc);
     for _ in 0..count {
         all.push_str(text)?;
@@ -44,18 +44,6 @@ fn two_hundred_elements_may_be_open(rt: HostRuntime) {
         let open = repeated(alloc, "<b>", count).expect(&rt, "memory");
         let close = repeated(alloc, "</b>", count).expect(&rt, "memory");
         let template = joined(alloc, &[open.as_str(), close.as_str()]).expect(&rt, "memory");
-        let (found, _) = ran(alloc, &["t", "a"], template.as_str(), "{}", 0, 0).expect(
-            &rt, "memory",
-        );
-        assert_eq!(rt; found, status, "{count}");
-    }
-}
-
-#[test]
-fn a_template_has_two_hundred_thousand_nodes_at_most(rt: HostRuntime) {
-    let alloc = rt.alloc();
-    for (count, status) in [(200_000, 0), (200_001, 3)] {
-        let template = repeated(alloc, "<b></b>", count).expect(&rt, "memory");
         let (found, _) = ran(alloc, &["t", "a"], template.as_str(), "{}", 0, 0).expect(
             &rt, "memory",
         );
