@@ -24,7 +24,8 @@ use std::alloc::{AllocError, Global};
 use std::test::Fail;
 
 /// What the prototype of the scope has.
-const DATA: &str = "{\"a\":{\"b\":{\"c\":5}},\"e\":\"\",\"f\":false,\"n\":7,\"nul\":null,\"o\":{\"length\":3,\"slice\":\"own\"},\"s\":\"  Pear \",\"t\":\"Äpfel und Birnen\",\"u\":3,\"xs\":[3,1,2,null,\"4\"],\"ys\":[[1,2],[3]],\"z\":0}";
+const DATA: &str =
+    "{\"a\":{\"b\":{\"c\":5}},\"e\":\"\",\"f\":false,\"n\":7,\"nul\":null,\"o\":{\"length\":3,\"slice\":\"own\"},\"s\":\"  Pear \",\"t\":\"Äpfel und Birnen\",\"u\":3,\"xs\":[3,1,2,null,\"4\"],\"ys\":[[1,2],[3]],\"z\":0}";
 
 /// A store with a scope whose prototype has the data.
 fn made(alloc: Global) -> Result<(Store, Oid), Fail>
