@@ -134,7 +134,7 @@ sub_stands t u = of_numbers_numeric difference (λ a b. in_range_numeric (a -ℤ
 quotient_numeric : (m n : ℤ) → Numeric (quotient m n)
 quotient_numeric m n =
     if_numeric (int_eq n (pos 0)) (Err NotWhole) (if int_eq (int_rem m n) (pos 0) then in_range (int_div m n) else Err NotWhole) (err_numeric NotWhole)
-        (if_numeric (int_eq (int_rem m n) (pos 0)) (in_range (int_div m n)) (Err NotWhole) (in_range_numeric (int_div m n)) (err_numeric NotWhole))
+    (if_numeric (int_eq (int_rem m n) (pos 0)) (in_range (int_div m n)) (Err NotWhole) (in_range_numeric (int_div m n)) (err_numeric NotWhole))
 
 remainder_numeric : (m n : ℤ) → Numeric (remainder m n)
 remainder_numeric m n = if_numeric (int_eq n (pos 0)) (Err NotWhole) (in_range (int_rem m n)) (err_numeric NotWhole) (in_range_numeric (int_rem m n))

@@ -63,7 +63,7 @@ place_at missing n t = from_end n (view_num t)
 abbrev pub sliced : List ViewTree → List ViewTree → List ViewTree
 sliced args items =
     take (place_at (length items) (length items) (argument args 1) - place_at 0 (length items) (argument args 0))
-        (drop (place_at 0 (length items) (argument args 0)) items)
+    (drop (place_at 0 (length items) (argument args 0)) items)
 
 -- the parts of an argument of `concat`
 abbrev pub parts_of : List Object → ViewTree → List ViewTree

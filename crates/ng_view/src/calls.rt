@@ -63,7 +63,12 @@ fn member_callee(v: &View) -> Callee
 
 /// What a name calls on a value: a method comes before a member of the same name.
 #[tactic(auto, unfolding(crate::specs::Evaluation::callee))]
-pub(crate) fn find_callee(alloc: Global, store: &Store, v: &View, name: &Txt) -> Result<Callee, Memory>
+pub(crate) fn find_callee(
+    alloc: Global,
+    store: &Store,
+    v: &View,
+    name: &Txt,
+) -> Result<Callee, Memory>
     requires { ViewStands (length store.now) (view_of v.now) }
     ensures { IfOk result (λ c. c ≡ callee store.now (view_of v.now) name.now) }
 {

@@ -14,7 +14,11 @@ use ng_base::view::{Fields, View};
 use std::alloc::Global;
 
 /// Sets the view of a name: in its place, or at the end.
-pub(crate) fn put_field(fields: &mut IndexMap<Txt, View>, name: Txt, view: View) -> Result<(), Memory>
+pub(crate) fn put_field(
+    fields: &mut IndexMap<Txt, View>,
+    name: Txt,
+    view: View,
+) -> Result<(), Memory>
     ensures { OnOk result (map field_of fields.new.entries ≡ insert_entry bytes_eq (map field_of fields.old.entries) name (view_of view)) }
 {
     fields.insert(name, view)?;

@@ -188,7 +188,13 @@ fn append_text(done: &mut Txt, between: &Txt, text: &Txt) -> Result<(), Memory>
 }
 
 /// The texts of the items behind the first, each behind a separator.
-fn join_behind(alloc: Global, store: &Store, v: &View, between: &Txt, done: Txt) -> Result<Txt, Fault>
+fn join_behind(
+    alloc: Global,
+    store: &Store,
+    v: &View,
+    between: &Txt,
+    done: Txt,
+) -> Result<Txt, Fault>
     requires { ViewStands (length store.now) (view_of v.now) }
     ensures { Meets is_memory (joined_behind store.now between.now done (drop 1 (items_of store.now (view_of v.now)))) result }
 {

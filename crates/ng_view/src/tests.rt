@@ -24,7 +24,8 @@ use std::alloc::{AllocError, Global};
 use std::test::Fail;
 
 /// What the prototype of the scope has.
-const DATA: &str = "{\"a\":{\"b\":{\"c\":5}},\"e\":\"\",\"f\":false,\"n\":7,\"nul\":null,\"o\":{\"length\":3,\"slice\":\"own\"},\"s\":\"  Pear \",\"t\":\"Äpfel und Birnen\",\"u\":3,\"xs\":[3,1,2,null,\"4\"],\"ys\":[[1,2],[3]],\"z\":0}";
+const DATA: &str =
+    "{\"a\":{\"b\":{\"c\":5}},\"e\":\"\",\"f\":false,\"n\":7,\"nul\":null,\"o\":{\"length\":3,\"slice\":\"own\"},\"s\":\"  Pear \",\"t\":\"Äpfel und Birnen\",\"u\":3,\"xs\":[3,1,2,null,\"4\"],\"ys\":[[1,2],[3]],\"z\":0}";
 
 /// A store with a scope whose prototype has the data.
 fn made(alloc: Global) -> Result<(Store, Oid), Fail>
@@ -86,7 +87,7 @@ fn shown(
     }
 }
 
-const ROWS: [(&str, &str); 156] = [
+const SUMS: [(&str, &str); 38] = [
     ("1 + 2 * 3", "7"),
     ("(1 + 2) * 3", "9"),
     ("10 - 2 - 3", "5"),
@@ -125,6 +126,20 @@ const ROWS: [(&str, &str); 156] = [
     ("7 / 2", "NotWhole"),
     ("6 / 2", "3"),
     ("1 / 0", "NotWhole"),
+];
+
+#[test]
+fn sums_join_texts_and_add_numbers(rt: HostRuntime) -> Result<(), Fail> {
+    let (store, scope) = made(rt.alloc())?;
+    let locals = with_locals(rt.alloc())?;
+    for (text, want) in SUMS {
+        let got = shown(rt.alloc(), &store, scope, &locals, text)?;
+        assert_eq!(rt; got.as_str(), want, "at {text}");
+    }
+    Ok(())
+}
+
+const COMPARISONS: [(&str, &str); 31] = [
     ("-7 % 3", "-1"),
     ("'x' / 0", "NaN"),
     ("9007199254740991 + 1", "Range"),
@@ -156,6 +171,20 @@ const ROWS: [(&str, &str); 156] = [
     ("f ? 1/0 : 2", "2"),
     ("[] && 1", "1"),
     ("'' || {}", "{}"),
+];
+
+#[test]
+fn comparisons_and_choices_give_what_they_need(rt: HostRuntime) -> Result<(), Fail> {
+    let (store, scope) = made(rt.alloc())?;
+    let locals = with_locals(rt.alloc())?;
+    for (text, want) in COMPARISONS {
+        let got = shown(rt.alloc(), &store, scope, &locals, text)?;
+        assert_eq!(rt; got.as_str(), want, "at {text}");
+    }
+    Ok(())
+}
+
+const MEMBERS: [(&str, &str); 32] = [
     ("!xs", "false"),
     ("nul && nul.x", "null"),
     ("a.b.c", "5"),
@@ -188,6 +217,20 @@ const ROWS: [(&str, &str); 156] = [
     ("{n}", "{\"n\":7}"),
     ("{[s.trim()]: 1}", "{\"Pear\":1}"),
     ("{true}", "{\"true\":true}"),
+];
+
+#[test]
+fn members_and_literals_are_read(rt: HostRuntime) -> Result<(), Fail> {
+    let (store, scope) = made(rt.alloc())?;
+    let locals = with_locals(rt.alloc())?;
+    for (text, want) in MEMBERS {
+        let got = shown(rt.alloc(), &store, scope, &locals, text)?;
+        assert_eq!(rt; got.as_str(), want, "at {text}");
+    }
+    Ok(())
+}
+
+const LISTS: [(&str, &str); 18] = [
     ("[1/0, 'x'].length", "NotWhole"),
     ("l", "true"),
     ("z", "1"),
@@ -206,6 +249,20 @@ const ROWS: [(&str, &str); 156] = [
     ("xs.slice(9)", "[]"),
     ("xs.concat(5, [6, [7]])", "[3,1,2,null,\"4\",5,6,[7]]"),
     ("ys.concat(ys)", "[[1,2],[3],[1,2],[3]]"),
+];
+
+#[test]
+fn locals_and_lists_are_found(rt: HostRuntime) -> Result<(), Fail> {
+    let (store, scope) = made(rt.alloc())?;
+    let locals = with_locals(rt.alloc())?;
+    for (text, want) in LISTS {
+        let got = shown(rt.alloc(), &store, scope, &locals, text)?;
+        assert_eq!(rt; got.as_str(), want, "at {text}");
+    }
+    Ok(())
+}
+
+const CALLS: [(&str, &str); 37] = [
     ("xs.join('-')", "\"3-1-2--4\""),
     ("xs.join()", "\"3,1,2,,4\""),
     ("xs.join(nul)", "\"3null1null2nullnull4\""),
@@ -246,10 +303,10 @@ const ROWS: [(&str, &str); 156] = [
 ];
 
 #[test]
-fn programs_have_the_values_of_the_guide(rt: HostRuntime) -> Result<(), Fail> {
+fn texts_faults_and_filters_answer(rt: HostRuntime) -> Result<(), Fail> {
     let (store, scope) = made(rt.alloc())?;
     let locals = with_locals(rt.alloc())?;
-    for (text, want) in ROWS {
+    for (text, want) in CALLS {
         let got = shown(rt.alloc(), &store, scope, &locals, text)?;
         assert_eq!(rt; got.as_str(), want, "at {text}");
     }
