@@ -1,5 +1,5 @@
 -- The pairs of a literal, one by one.
-use Rattle.std.proofs.Common.{◌≡◌, ◌∙◌, ◌<◌, ◌+◌, ℕ, zero, suc, List, [], ◌∷◌, map, drop, length, get_or, refl, sym, ap, subst, arith, add-one, bytes_eq}
+use Rattle.std.proofs.Common.{◌≡◌, ◌<◌, ◌+◌, ℕ, zero, suc, List, [], ◌∷◌, map, drop, length, get_or, refl, sym, ap, subst, arith, add-one, bytes_eq}
 use Rattle.std.specs.Prelude.{Ok}
 use Rattle.indexmap.specs.IndexMap.{insert_entry}
 use Rattle.ng_base.specs.Objects.{Object}

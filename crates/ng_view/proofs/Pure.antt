@@ -1,5 +1,5 @@
 -- The tests of purity and of filters, as properties.
-use Rattle.std.proofs.Common.{Option, Some, None, ℕ, suc, List, [], ◌∷◌, map, length, ◌<◌, ap, arith, ◌≡◌, ◌↔◌, refl, sym, Bool, true, false, IsTrue, true≢false, ◌&&◌}
+use Rattle.std.proofs.Common.{ℕ, suc, List, [], ◌∷◌, map, length, ◌<◌, ap, arith, ◌≡◌, refl, sym, Bool, true, false, true≢false, ◌&&◌}
 use Rattle.ng_language.specs.Trees.{trees_from, Tree, Trees, PairTree, Pairs, a_number, a_text, a_name, the_scope, a_constant, member_of, item_of, call_of, a_list, a_record, in_brackets, signed, combined, both_of, either_of, choice_of, assigned, filtered, no_trees, tree_then, labelled, shorthand, computed, no_pairs, pair_then}
 use Rattle.ng_filters.specs.Known.{taken_by}
 use Rattle.ng_view.specs.Applied.{known}

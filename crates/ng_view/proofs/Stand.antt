@@ -1,16 +1,16 @@
 -- What is made of views whose objects stand.
-use Rattle.std.proofs.Common.{◌≡◌, ◌∙◌, ◌<◌, ℕ, zero, suc, List, [], ◌∷◌, ◌++◌, map, slice_get, length, Option, Some, None, refl, sym, ap, subst, Bool, true, false, if◌then◌else◌, bytes_eq, ℤ, pos, ◌*ℤ◌, ◌-ℤ◌, ◌+ℤ◌, int_div, int_rem}
-use Rattle.std.specs.Prelude.{Result, Ok, Err, ◌⊎◌, option_and_then, IfOk}
+use Rattle.std.proofs.Common.{◌≡◌, ◌∙◌, ℕ, zero, suc, List, [], ◌∷◌, ◌++◌, map, slice_get, length, Option, Some, None, refl, sym, ap, subst, Bool, true, false, if◌then◌else◌, bytes_eq, ℤ, pos, ◌*ℤ◌, ◌-ℤ◌, ◌+ℤ◌, int_div, int_rem}
+use Rattle.std.specs.Prelude.{Result, Ok, Err, option_and_then, IfOk}
 use Rattle.std.specs.Ordering.{int_eq}
 use Rattle.ng_base.specs.declared.fault.Fault.TheVariants.{NotWhole, Range}
 use Rattle.std.specs.List.{AllByRecursion}
 use Rattle.std.specs.Map.{lookup}
 use Rattle.indexmap.specs.IndexMap.{insert_entry}
-use Rattle.ng_base.proofs.Binds.{bind_ok, chosen}
+use Rattle.ng_base.proofs.Binds.{bind_ok}
 use Rattle.ng_base.specs.Faults.{is_memory}
-use Rattle.ng_base.specs.Meets.{◌>>=◌, Gives}
+use Rattle.ng_base.specs.Meets.{Gives}
 use Rattle.ng_base.specs.Objects.{Object, StandsAmong, index_of}
-use Rattle.ng_base.specs.Views.{ViewTree, ViewTrees, ViewFields, prim, list, rec, no_views, view_then, no_fields, field_then, views_list, fields_list, views_from, fields_from}
+use Rattle.ng_base.specs.Views.{ViewTree, ViewTrees, ViewFields, prim, no_views, view_then, no_fields, field_then, views_list, fields_list, views_from}
 use Rattle.ng_base.specs.ViewOf.{view_of, field_of}
 use Rattle.ng_base.specs.declared.view.View.{View}
 use Rattle.ng_base.specs.declared.value.Value.{Value}
@@ -18,7 +18,7 @@ use Rattle.ng_base.specs.declared.value.Value.TheVariants as value
 use Rattle.ng_base.specs.declared.fault.Fault.{Fault}
 use Rattle.ng_language.specs.Operators.{in_range, of_numbers, sum, difference, product, quotient, remainder, view_num, sub, mul, div, remainder_of, term_num}
 use Rattle.ng_language.specs.Numbers.{is_in_range}
-use Rattle.ng_language.specs.Sums.{add, add_defined, joined, as_view, is_undefined, is_joined}
+use Rattle.ng_language.specs.Sums.{add, joined, as_view, is_undefined, is_joined}
 use Rattle.ng_language.specs.Texts.{to_text}
 use Rattle.ng_language.specs.Views.{ViewStands, ViewsStand, FieldsStand}
 use Rattle.ng_value.proofs.ViewParts.{views_stand, fields_stand}

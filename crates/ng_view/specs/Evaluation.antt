@@ -1,14 +1,13 @@
 -- The value of a program that changes nothing (guide: Expressions): by cases on the tree, from left to right, and the
 -- first fault stands.
-use Rattle.std.specs.Prelude.{ℕ, pos, Bool, true, false, not, List, [], ◌∷◌, ◌++◌, map, Option, Some, None, Result, Ok, Err, if◌then◌else◌, decimal}
+use Rattle.std.specs.Prelude.{ℕ, pos, Bool, true, false, not, List, [], ◌∷◌, ◌++◌, Option, Some, None, Result, Ok, Err, if◌then◌else◌, decimal}
 use Rattle.std.specs.Str.{bytes_eq}
 use Rattle.std.specs.Map.{lookup}
 use Rattle.std.specs.List.{AllByRecursion}
 use Rattle.indexmap.specs.IndexMap.{insert_entry}
 use Rattle.ng_base.specs.Meets.{◌>>=◌}
-use Rattle.ng_base.specs.Objects.{Object, object_at, is_array, StandsAmong}
-use Rattle.ng_base.specs.Views.{ViewTree, ViewTrees, prim, list, rec, views_from, fields_from}
-use Rattle.ng_base.specs.declared.name.Oid.{Oid}
+use Rattle.ng_base.specs.Objects.{Object, StandsAmong}
+use Rattle.ng_base.specs.Views.{ViewTree, prim, list, rec, views_from, fields_from}
 use Rattle.ng_base.specs.declared.value.Value.{Value}
 use Rattle.ng_base.specs.declared.value.Value.TheVariants as value
 use Rattle.ng_base.specs.declared.fault.Fault.{Fault}

@@ -1,17 +1,16 @@
 -- The methods of arrays, fresh lists and texts that change nothing.
-use Rattle.std.specs.Prelude.{ℕ, ℤ, zero, suc, pos, negsuc, ◌-◌, min, Bool, true, false, List, [], ◌∷◌, ◌++◌, length, map, take, drop, Option, Some, None, Result, Ok, Err, slice_get, nat_eq, if◌then◌else◌}
+use Rattle.std.specs.Prelude.{ℕ, ℤ, suc, pos, negsuc, ◌-◌, min, Bool, true, false, List, [], ◌∷◌, ◌++◌, length, map, take, drop, Option, Some, None, Result, Ok, Err, slice_get, nat_eq, if◌then◌else◌}
 use Rattle.std.specs.Char.{to_ascii_uppercase, to_ascii_lowercase}
 use Rattle.ng_base.specs.Meets.{◌>>=◌}
 use Rattle.ng_base.specs.Objects.{Object, object_at, is_array}
 use Rattle.ng_base.specs.Views.{ViewTree, prim, list, rec, views_from, views_list}
-use Rattle.ng_base.specs.declared.value.Value.{Value}
 use Rattle.ng_base.specs.declared.value.Value.TheVariants as value
 use Rattle.ng_base.specs.declared.fault.Fault.{Fault}
 use Rattle.ng_language.specs.Objects.{items_at}
 use Rattle.ng_language.specs.Operators.{is_space, strict_eq, view_num}
 use Rattle.ng_language.specs.Texts.{to_text}
 use Rattle.ng_language.specs.Unfolding.{prims}
-use Rattle.ng_view.specs.Members.{undefined, view_or_undefined}
+use Rattle.ng_view.specs.Members.{view_or_undefined}
 use Rattle.ng_view.specs.declared.methods.Method.{Method}
 use Rattle.ng_view.specs.declared.methods.Method.TheVariants as methods
 

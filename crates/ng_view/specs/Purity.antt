@@ -1,5 +1,5 @@
 -- Pure programs: nothing is assigned, and every call is one, in dotted form, of a method that changes nothing.
-use Rattle.std.specs.Prelude.{ℕ, suc, Bool, true, false, ⊤, IsTrue, List, Option, Some, None, is_some, codes, ◌&&◌, ◌||◌, if◌then◌else◌}
+use Rattle.std.specs.Prelude.{ℕ, suc, Bool, true, false, ⊤, IsTrue, List, Option, Some, None, is_some, codes, ◌&&◌, if◌then◌else◌}
 use Rattle.std.specs.Str.{bytes_eq}
 use Rattle.ng_language.specs.Trees.{Tree, Trees, PairTree, Pairs, a_number, a_text, a_name, the_scope, a_constant, member_of, item_of, call_of, a_list, a_record, in_brackets, signed, combined, both_of, either_of, choice_of, assigned, filtered, no_trees, tree_then, labelled, shorthand, computed, no_pairs, pair_then}
 use Rattle.ng_view.specs.Applied.{known}

@@ -2,7 +2,9 @@
 //!
 //! The expected values were written by hand from the rules of the language, which are those of AngularJS's guide,
 //! "Expressions", and JavaScript's where docs/DIFFERENCES.md doesn't say otherwise.
-ghost use Rattle.std.specs.Prelude.{◌<◌, ℕ, length, IfOk};
+ghost use Rattle.std.specs.Prelude.{◌<◌, length, IfOk};
+ghost use Rattle.ng_base.specs.ViewOf.{view_of};
+ghost use Rattle.ng_language.specs.Views.{ViewStands};
 ghost use Rattle.ng_view.specs.Evaluation.{LocalsStand};
 
 use crate::filters::filters_known;
@@ -43,8 +45,8 @@ fn made(alloc: Global) -> Result<(Store, Oid), Fail>
 }
 
 /// Locals that hide names of the scope.
-fn with_locals(alloc: Global) -> Result<Locals, AllocError>
-    ensures { IfOk result (λ l. (n : ℕ) → LocalsStand n l) }
+fn with_locals(alloc: Global, store: &Store) -> Result<Locals, AllocError>
+    ensures { IfOk result (λ l. LocalsStand (length store.now) l) }
 {
     let mut locals = Locals::new(alloc);
     locals.push(Txt::from_str(alloc, "l")?, Value::Bool(true))?;
@@ -54,7 +56,9 @@ fn with_locals(alloc: Global) -> Result<Locals, AllocError>
 }
 
 /// A value as JSON, or what JSON has no word for.
-fn told(alloc: Global, store: &Store, v: &View) -> Result<String, Fail> {
+fn told(alloc: Global, store: &Store, v: &View) -> Result<String, Fail>
+    requires { ViewStands (length store.now) (view_of v.now) }
+{
     match v {
         View::Prim(Value::Undefined) => Ok(String::from_str(alloc, "undefined")?),
         View::Prim(Value::Nan) => Ok(String::from_str(alloc, "NaN")?),
@@ -72,7 +76,10 @@ fn shown(
     scope: Oid,
     locals: &Locals,
     text: &str,
-) -> Result<String, Fail> {
+) -> Result<String, Fail>
+    requires scope { scope.0 < length store.now }
+    requires locals { LocalsStand (length store.now) locals.now }
+{
     let tokens = lex(alloc, text)?;
     let program = parse(alloc, &tokens)?;
     if !is_pure(&program) {
@@ -131,7 +138,7 @@ const SUMS: [(&str, &str); 38] = [
 #[test]
 fn sums_join_texts_and_add_numbers(rt: HostRuntime) -> Result<(), Fail> {
     let (store, scope) = made(rt.alloc())?;
-    let locals = with_locals(rt.alloc())?;
+    let locals = with_locals(rt.alloc(), &store)?;
     for (text, want) in SUMS {
         let got = shown(rt.alloc(), &store, scope, &locals, text)?;
         assert_eq!(rt; got.as_str(), want, "at {text}");
@@ -176,7 +183,7 @@ const COMPARISONS: [(&str, &str); 31] = [
 #[test]
 fn comparisons_and_choices_give_what_they_need(rt: HostRuntime) -> Result<(), Fail> {
     let (store, scope) = made(rt.alloc())?;
-    let locals = with_locals(rt.alloc())?;
+    let locals = with_locals(rt.alloc(), &store)?;
     for (text, want) in COMPARISONS {
         let got = shown(rt.alloc(), &store, scope, &locals, text)?;
         assert_eq!(rt; got.as_str(), want, "at {text}");
@@ -222,7 +229,7 @@ const MEMBERS: [(&str, &str); 32] = [
 #[test]
 fn members_and_literals_are_read(rt: HostRuntime) -> Result<(), Fail> {
     let (store, scope) = made(rt.alloc())?;
-    let locals = with_locals(rt.alloc())?;
+    let locals = with_locals(rt.alloc(), &store)?;
     for (text, want) in MEMBERS {
         let got = shown(rt.alloc(), &store, scope, &locals, text)?;
         assert_eq!(rt; got.as_str(), want, "at {text}");
@@ -254,7 +261,7 @@ const LISTS: [(&str, &str); 18] = [
 #[test]
 fn locals_and_lists_are_found(rt: HostRuntime) -> Result<(), Fail> {
     let (store, scope) = made(rt.alloc())?;
-    let locals = with_locals(rt.alloc())?;
+    let locals = with_locals(rt.alloc(), &store)?;
     for (text, want) in LISTS {
         let got = shown(rt.alloc(), &store, scope, &locals, text)?;
         assert_eq!(rt; got.as_str(), want, "at {text}");
@@ -305,7 +312,7 @@ const CALLS: [(&str, &str); 37] = [
 #[test]
 fn texts_faults_and_filters_answer(rt: HostRuntime) -> Result<(), Fail> {
     let (store, scope) = made(rt.alloc())?;
-    let locals = with_locals(rt.alloc())?;
+    let locals = with_locals(rt.alloc(), &store)?;
     for (text, want) in CALLS {
         let got = shown(rt.alloc(), &store, scope, &locals, text)?;
         assert_eq!(rt; got.as_str(), want, "at {text}");

@@ -1,4 +1,4 @@
-use Rattle.std.proofs.Common.{◌≡◌, ◌∙◌, sym, ap, subst, length, map, arith}
+use Rattle.std.proofs.Common.{◌∙◌, sym, subst, length, map, arith}
 use Rattle.ng_base.specs.ViewOf.{view_of, views_of, field_of}
 use Rattle.ng_view.specs.Evaluation.{FieldsAllStand}
 use Rattle.ng_view.proofs.Stand.{views_all_stand, put_stands}

@@ -1,7 +1,7 @@
 use Rattle.std.proofs.Common.{◌≡◌, ◌+◌, [], map, drop, length}
 use Rattle.std.specs.List.{AllByRecursion}
 use Rattle.ng_base.specs.Views.{views_list}
-use Rattle.ng_base.specs.ViewOf.{view_of, views_of, field_of}
+use Rattle.ng_base.specs.ViewOf.{views_of, field_of}
 use Rattle.ng_language.specs.Trees.{trees_from, pairs_from}
 use Rattle.ng_language.specs.Views.{ViewStands}
 use Rattle.ng_parse.specs.TreeOf.{tree, pair_tree}

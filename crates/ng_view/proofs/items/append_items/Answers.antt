@@ -1,4 +1,4 @@
-use Rattle.std.proofs.Common.{◌≡◌, ◌∙◌, ◌+◌, ◌-◌, ◌++◌, ap, sym, subst, length, take, drop}
+use Rattle.std.proofs.Common.{◌∙◌, ◌+◌, ◌-◌, ◌++◌, ap, sym, subst, length, take, drop}
 use Rattle.std.specs.List.{AllByRecursion}
 use Rattle.ng_base.specs.Views.{views_list}
 use Rattle.ng_base.specs.ViewOf.{view_of, views_of}

@@ -1,4 +1,4 @@
-use Rattle.std.proofs.Common.{◌≡◌, ◌∙◌, ◌<◌, ◌+◌, ap, sym, subst, length, drop}
+use Rattle.std.proofs.Common.{◌∙◌, ◌<◌, ◌+◌, ap, sym, subst, length, drop}
 use Rattle.ng_base.specs.ViewOf.{view_of}
 use Rattle.ng_view.specs.Methods.{items_of, joined_behind}
 use Rattle.ng_view.proofs.Places.{joined_ok, joined_err}

@@ -1,4 +1,4 @@
-use Rattle.std.proofs.Common.{◌≡◌, ◌∙◌, ◌<◌, sym, subst, length}
+use Rattle.std.proofs.Common.{◌∙◌, ◌<◌, sym, subst, length}
 use Rattle.ng_base.specs.ViewOf.{view_of}
 use Rattle.ng_view.specs.Methods.{items_of}
 use Rattle.ng_view.proofs.Places.{place_here, place_later}

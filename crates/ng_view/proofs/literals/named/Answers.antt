@@ -1,4 +1,4 @@
-use Rattle.std.proofs.Common.{◌≡◌, ◌∙◌, sym, ap, length, rules}
+use Rattle.std.proofs.Common.{◌∙◌, sym, ap, length, rules}
 use Rattle.std.specs.Prelude.{option_copied}
 use Rattle.ng_base.specs.Objects.{StandsAmong}
 use Rattle.ng_view.proofs.Stand.{local_stands}

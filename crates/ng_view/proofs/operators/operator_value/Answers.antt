@@ -1,4 +1,4 @@
-use Rattle.std.proofs.Common.{◌≡◌, ◌∙◌, sym, length, rules}
+use Rattle.std.proofs.Common.{◌∙◌, sym, length, rules}
 use Rattle.ng_base.specs.Objects.{StandsAmong}
 use Rattle.ng_base.specs.ViewOf.{view_of}
 use Rattle.ng_view.proofs.Stand.{mul_stands, div_stands, rem_stands, sub_stands, given_stands, add_stands}
