@@ -1,6 +1,5 @@
 pub mod Forests
 pub mod Prints
-pub mod HoleSteps
 pub mod Lexed
 pub mod Turns
 pub mod Omitted

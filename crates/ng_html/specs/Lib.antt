@@ -1,6 +1,5 @@
 pub mod Free
 pub mod Attrs
-pub mod Pieces
 pub mod Seen
 pub mod Closing
 pub mod Building

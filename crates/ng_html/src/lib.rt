@@ -8,7 +8,6 @@
 //!   spell it. `refused` and `one` say the same of refusals: each document that spells no forest has one, at its place.
 //! - `write` appends the print of a forest: the crates above show a page by it. `prints_back` is the law that the
 //!   print of what was read is read as the same forest.
-//! - `split` of `holes` gives the parts of a text, its plain words and its holes.
 //!
 //! The reader takes one event of `ng_tags` after another: a tag, a text or a comment. `build` keeps the open elements
 //! and the tree so far; which start tag closes which element stands in `closings`, and the other elements with rules
@@ -27,8 +26,6 @@ pub mod build;
 pub mod closings;
 pub mod fault;
 pub mod forest;
-pub mod form;
-pub mod holes;
 pub mod reading;
 pub mod source;
 pub mod tables;

@@ -2,7 +2,6 @@
 
 use crate::fault::{HtmlFault, HtmlKind};
 use crate::forest::{Forest, comment_node, element_node, text_node};
-use crate::holes::{Piece, split};
 use crate::{Attrs, read, write};
 use ng_base::txt::Txt;
 use std::alloc::{AllocError, Global};
@@ -321,21 +320,5 @@ fn a_made_forest_is_printed(rt: HostRuntime) -> Result<(), AllocError> {
     let print = printed(rt.alloc(), &f);
     assert!(rt; print.as_slice() == want.as_bytes());
     assert_eq!(rt; f.nodes().len(), 2);
-    Ok(())
-}
-
-#[test]
-fn a_text_has_plain_parts_and_holes_in_turn(rt: HostRuntime) -> Result<(), AllocError> {
-    let text = Txt::from_str(rt.alloc(), "a {{ b.c }} d")?;
-    let mut names = 0;
-    if let Some(parts) = split(rt.alloc(), &text)? {
-        assert_eq!(rt; parts.as_slice().len(), 3);
-        for piece in parts.as_slice() {
-            if let Piece::Hole(path) = piece {
-                names = path.as_slice().len();
-            }
-        }
-    }
-    assert_eq!(rt; names, 2);
     Ok(())
 }

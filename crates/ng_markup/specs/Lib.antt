@@ -1,4 +1,2 @@
 pub mod Tables
 pub mod Forest
-pub mod Holes
-pub mod FirstPath
