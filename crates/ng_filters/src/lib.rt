@@ -19,7 +19,6 @@
 
 mod casing;
 mod dispatch;
-mod index;
 mod keys;
 pub mod laws;
 mod limits;

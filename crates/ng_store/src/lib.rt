@@ -19,7 +19,6 @@
 
 mod arrays;
 mod heap;
-mod index;
 pub mod json;
 pub mod laws;
 mod names;

@@ -5,7 +5,7 @@ ghost use Rattle.ng_base.specs.Objects.{names_of, indices_from, with_index, othe
 ghost use Rattle.ng_base.specs.declared.fault.Memory.TheVariants.{Refused};
 ghost use Rattle.ng_store.specs.ObjectOf.{object_of};
 
-use crate::index::index_of;
+use ng_base::index::index_of;
 use crate::stored::Stored;
 use indexmap::IndexMap;
 use ng_base::fault::Memory;

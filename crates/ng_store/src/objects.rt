@@ -6,7 +6,7 @@ ghost use Rattle.ng_base.specs.declared.fault.Memory.TheVariants.{Refused};
 ghost use Rattle.ng_language.specs.Objects.{AreObjects, look, set_name};
 ghost use Rattle.ng_store.specs.ObjectOf.{object_of, objects_of};
 
-use crate::index::index_of;
+use ng_base::index::index_of;
 use crate::names::names_of;
 use crate::stored::{Stored, put_property};
 use ng_base::fault::Memory;

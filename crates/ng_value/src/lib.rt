@@ -20,7 +20,6 @@
 pub mod classes;
 mod collecting;
 pub mod copies;
-mod index;
 mod json;
 pub mod laws;
 pub mod numbers;

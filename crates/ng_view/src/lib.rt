@@ -26,7 +26,6 @@ pub mod calls;
 mod evaluation;
 mod fields;
 mod filters;
-mod index;
 mod items;
 pub mod laws;
 mod lists;

@@ -2,8 +2,8 @@
 ghost use Rattle.std.specs.Prelude.{◌≡◌};
 ghost use Rattle.ng_base.specs.Objects.{is_digit, spelled, only_zero, index_of};
 
-use ng_base::reader::Plain;
-use ng_base::txt::Txt;
+use crate::reader::Plain;
+use crate::txt::Txt;
 
 /// Array indices are below this.
 const INDEX_LIMIT: u64 = 4_294_967_295;
@@ -33,7 +33,7 @@ fn spelled(mut reader: Plain<'_>) -> Option<u32>
 }
 
 /// The array index that a name spells: digits without a leading zero.
-pub(crate) fn index_of(name: &Txt) -> Option<u32>
+pub fn index_of(name: &Txt) -> Option<u32>
     ensures { result ≡ index_of name.now }
 {
     let reader = Plain::new(name.as_str());
