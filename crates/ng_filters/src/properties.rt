@@ -12,10 +12,10 @@ ghost use Rattle.ng_language.specs.Views.{ViewStands};
 ghost use Rattle.ng_filters.specs.Parts.{properties, indexed};
 ghost use Rattle.ng_filters.specs.Seen.{seen, field_seen, indexed_seen};
 
-use ng_base::index::index_of;
 use crate::view_ref::{ViewRef, of_value, of_view};
 use ng_base::fault::Memory;
 use ng_base::heap::Heap;
+use ng_base::index::index_of;
 use ng_base::name::Oid;
 use ng_base::txt::Txt;
 use ng_base::view::View;

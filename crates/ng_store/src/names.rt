@@ -5,11 +5,11 @@ ghost use Rattle.ng_base.specs.Objects.{names_of, indices_from, with_index, othe
 ghost use Rattle.ng_base.specs.declared.fault.Memory.TheVariants.{Refused};
 ghost use Rattle.ng_store.specs.ObjectOf.{object_of};
 
-use ng_base::index::index_of;
 use crate::stored::Stored;
 use indexmap::IndexMap;
 use ng_base::fault::Memory;
 use ng_base::heap::ObjKind;
+use ng_base::index::index_of;
 use ng_base::lists::Names;
 use ng_base::txt::Txt;
 use ng_base::value::Value;

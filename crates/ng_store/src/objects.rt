@@ -6,11 +6,11 @@ ghost use Rattle.ng_base.specs.declared.fault.Memory.TheVariants.{Refused};
 ghost use Rattle.ng_language.specs.Objects.{AreObjects, look, set_name};
 ghost use Rattle.ng_store.specs.ObjectOf.{object_of, objects_of};
 
-use ng_base::index::index_of;
 use crate::names::names_of;
 use crate::stored::{Stored, put_property};
 use ng_base::fault::Memory;
 use ng_base::heap::ObjKind;
+use ng_base::index::index_of;
 use ng_base::lists::Names;
 use ng_base::name::Oid;
 use ng_base::txt::Txt;

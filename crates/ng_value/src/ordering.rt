@@ -11,8 +11,8 @@ ghost use Rattle.std.specs.Ordering.{nat_cmp};
 ghost use Rattle.ng_base.specs.Objects.{index_of};
 ghost use Rattle.ng_base.specs.Order.{txt_cmp};
 
-use ng_base::index::index_of;
 use ng_base::fault::Memory;
+use ng_base::index::index_of;
 use ng_base::txt::Txt;
 use ng_base::view::{Fields, View};
 use ng_language::unfolding::Mode;

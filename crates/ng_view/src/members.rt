@@ -10,10 +10,10 @@ ghost use Rattle.ng_base.specs.ViewOf.{view_of, views_of, fields_of, field_of};
 ghost use Rattle.ng_language.specs.Views.{ViewStands, ViewsStand, FieldsStand};
 ghost use Rattle.ng_view.specs.Members.{undefined, view_or_undefined, is_length, count, object_member, char_or_undefined, text_member, list_member, record_member, member, has_members, item};
 
-use ng_base::index::index_of;
 use crate::items::views_count;
 use ng_base::fault::{Fault, Memory};
 use ng_base::heap::{Heap, ObjKind};
+use ng_base::index::index_of;
 use ng_base::name::Oid;
 use ng_base::reader::Plain;
 use ng_base::txt::Txt;
