@@ -2,7 +2,7 @@
 """Times the program on pages of the whole HTML profile, beside html5ever.
 
 usage: bench/html.py [--cmd PROGRAM] [--mib N]
-Each row is one run over one page: the page's size, the seconds, MiB a second, and the peak memory in MiB. `ngrun` does
+Each row is one run over one page: the seconds of processor time, MiB a second, and the peak memory in MiB. `ngrun` does
 the whole run: it reads, compiles, links, digests and prints. html5ever reads the tokens alone, or reads the tree and
 serialises it. It is built from Debian's librust-html5ever-dev and librust-markup5ever-rcdom-dev with cargo, without a
 network; where that fails its rows are left out.
@@ -15,7 +15,6 @@ import os
 import shutil
 import subprocess
 import tempfile
-import time
 
 HERE = os.path.dirname(os.path.abspath(__file__))
 REGISTRY = '/usr/share/cargo/registry'
@@ -126,12 +125,11 @@ def html5ever():
 
 
 def timed(words):
-    """The seconds, the peak memory in MiB and the status of a command."""
+    """The seconds of processor time, the peak memory in MiB and the status of a command."""
     with open(os.devnull, 'wb') as out:
-        start = time.monotonic()
         process = subprocess.Popen(words, stdout=out)
         _, status, usage = os.wait4(process.pid, 0)
-        return time.monotonic() - start, usage.ru_maxrss / 1024, os.waitstatus_to_exitcode(status)
+        return usage.ru_utime + usage.ru_stime, usage.ru_maxrss / 1024, os.waitstatus_to_exitcode(status)
 
 
 def report(name, size, words):
