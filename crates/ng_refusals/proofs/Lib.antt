@@ -1,0 +1,4 @@
+pub mod Local
+pub mod Readers
+pub mod Programs
+pub mod Steady

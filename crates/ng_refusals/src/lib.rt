@@ -1,0 +1,4 @@
+//! Where the parser refuses.
+#![tactic(auto)]
+
+pub mod laws;
