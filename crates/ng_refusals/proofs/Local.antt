@@ -1,10 +1,10 @@
 -- A reader leaves no more than it was given, and looks at no token behind the one that it refuses.
-use Rattle.std.proofs.Common.{◌≡◌, ◌≤◌, ℕ, Bool, true, false, List, [], ◌∷◌, ◌++◌, length, refl, ap, ◌∙◌, sym, subst, arith, inl, inr}
-use Rattle.std.specs.Prelude.{Option, Some, None, Result, Ok, Err, ◌⊎◌, if◌then◌else◌}
+use Rattle.std.proofs.Common.{◌≡◌, ◌≤◌, ℕ, Bool, true, false, List, [], ◌∷◌, ◌++◌, length, refl, ap, arith, inl, inr}
+use Rattle.std.specs.Prelude.{Option, Some, None, Ok, Err, ◌⊎◌}
 use Rattle.ng_base.specs.Meets.{◌>>=◌}
 use Rattle.ng_base.proofs.Binds.{if_true, if_false}
 use Rattle.ng_language.specs.Choice.{when_some}
-use Rattle.ng_language.specs.Tokens.{same_sign, after, name_at, label_at, unary_of, unary_at, joint_of, joint_at, and_then}
+use Rattle.ng_language.specs.Tokens.{same_sign, after, name_at, unary_of, unary_at, joint_of, joint_at}
 use Rattle.ng_language.specs.Reading.{Read, unfit, expect}
 use Rattle.ng_language.specs.declared.syntax.Sign.{Sign}
 use Rattle.ng_language.specs.declared.syntax.Token.{Token}

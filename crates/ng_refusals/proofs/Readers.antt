@@ -1,12 +1,12 @@
 -- Each reader looks at no token behind the one that it refuses.
 use Rattle.std.proofs.Common.{◌≡◌, ℕ, zero, suc, Bool, true, false, List, [], ◌∷◌, ◌++◌, length, refl, inl, inr}
-use Rattle.std.specs.Prelude.{Option, Some, None, Result, Ok, Err, codes, if◌then◌else◌}
+use Rattle.std.specs.Prelude.{Some, None, codes, if◌then◌else◌}
 use Rattle.std.specs.Str.{bytes_eq}
 use Rattle.ng_base.specs.Meets.{◌>>=◌}
 use Rattle.ng_base.proofs.Binds.{if_true, if_false}
 use Rattle.ng_language.specs.Choice.{when_some}
 use Rattle.ng_language.specs.Trees.{Tree, PairTree, a_number, a_text, member_of, item_of, call_of, a_list, a_record, in_brackets, signed, choice_of, assigned, filtered, labelled, shorthand, computed, trees_from, pairs_from}
-use Rattle.ng_language.specs.Tokens.{same_sign, after, name_at, label_at, unary_at, joint_at}
+use Rattle.ng_language.specs.Tokens.{same_sign, after, name_at, label_at}
 use Rattle.ng_language.specs.Reading.{Read, unfit, expect, word_tree, leaf, label, lone_label, is_assignable, joined, statement, filters, named_filter, arguments, expression, assignment, ternary, choice, operators, operand, operations, unary, primary, postfix, called, values, items, pairs, pair, valued, head}
 use Rattle.ng_language.specs.declared.syntax.Sign.{Sign}
 use Rattle.ng_language.specs.declared.syntax.Sign.TheVariants as sign
@@ -16,10 +16,6 @@ use Rattle.ng_language.specs.declared.syntax.Label.{Label}
 use Rattle.ng_language.specs.declared.syntax.Label.TheVariants as labels
 use Rattle.ng_language.specs.declared.syntax.Level.{Level}
 use Rattle.ng_language.specs.declared.syntax.Level.TheVariants as levels
-use Rattle.ng_language.specs.declared.syntax.Unary.{Unary}
-use Rattle.ng_language.specs.declared.syntax.Joint.{Joint}
-use Rattle.ng_language.specs.declared.syntax.Refusal.{Refusal}
-use Rattle.ng_language.specs.declared.syntax.Refusal.TheVariants as refusals
 use Rattle.ng_language.proofs.Sound.{got}
 use Rattle.ng_refusals.proofs.Local.{refused, then_read, Local, Looks, local_ok, local_refused, local_unfit, local_then, local_look, local_after, local_expect, local_name, local_unary, local_joint}
 
