@@ -1,0 +1,10 @@
+pub mod Local
+pub mod Readers
+pub mod Programs
+pub mod Steady
+pub mod Completable
+pub mod Completed
+pub mod Joints
+pub mod Heads
+pub mod Begun
+pub mod Refused
