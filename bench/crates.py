@@ -1,5 +1,5 @@
 #!/usr/bin/env python3
-"""Times workloads of the crates that stand ahead of the page, at a size and at ten times that size.
+"""Times workloads of single crates, at a size and at ten times that size.
 
 usage: bench/crates.py [--cmd PROGRAM]
 PROGRAM is the built `ng_bench` (crates/ng_bench/out/ng_bench after `rt run` in that crate). Each row is a workload,
@@ -19,6 +19,8 @@ ROWS = [
     ('listeners, walked and taken out from the middle', 'middle', 10_000),
     ('scopes dropped, of which each tenth has a listener', 'drop', 1_000),
     ('scopes, made and met in the order of their paths', 'scopes', 10_000),
+    ('evaluations of `a.b.c + d * 2 > 10 ? e.f : g[h]`', 'choice', 100_000),
+    ("a hundred evaluations of `xs | orderBy:'n' | limitTo:10` over so many objects", 'order', 10_000),
 ]
 
 

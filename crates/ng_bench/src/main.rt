@@ -1,4 +1,4 @@
-//! Workloads of the crates that stand ahead of the page, for `bench/crates.py`, which times them.
+//! Workloads of single crates, for `bench/crates.py`, which times them.
 //!
 //! `ng_bench WORKLOAD SIZE` does one workload and prints what it counted; nothing else is measured here. The
 //! workloads:
@@ -9,7 +9,9 @@
 //! - `digest` runs a digest over so many watchers that is clean, behind one in which each fired;
 //! - `front`, `back` and `middle` walk so many listeners of one scope and name, and then take them out from there,
 //!   one after another, with the walk open; `drop` drops so many scopes, of which each tenth has a listener;
-//! - `scopes` makes so many scopes, and meets them in the order of their paths.
+//! - `scopes` makes so many scopes, and meets them in the order of their paths;
+//! - `choice` evaluates an expression with members, sums and a choice so many times, and `order` a hundred times an `orderBy`
+//!   and a `limitTo` over so many objects.
 //!
 //! It decides nothing and no other crate stands on it.
 #![tactic(auto)]
@@ -19,6 +21,7 @@ mod listening;
 mod scoping;
 mod snapping;
 mod syntax;
+mod viewing;
 
 use listening::Side;
 use std::alloc::Global;
@@ -36,6 +39,8 @@ fn counted(alloc: Global, workload: &str, size: u64) -> Option<u64> {
         "middle" => listening::walked(alloc, Side::Middle, size),
         "drop" => listening::dropped(alloc, size),
         "scopes" => scoping::walked(alloc, size),
+        "choice" => viewing::chosen(alloc, size),
+        "order" => viewing::sorted(alloc, size),
         _ => None,
     }
 }
