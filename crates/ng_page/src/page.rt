@@ -6,7 +6,7 @@ ghost use Rattle.ng_pages.specs.Nodes.{part_nodes as part_nodes_of, nodes, node_
 ghost use Rattle.ng_sites.specs.PlaceOf.{state_of as engine_state};
 ghost use Rattle.ng_sites.specs.SiteOf.{site_of};
 ghost use Rattle.ng_sites.specs.Settled.{IsSettled, HasSameData};
-ghost use Rattle.ng_page.specs.Answered.{Answered, Opened, WhenOk};
+ghost use Rattle.ng_page.specs.Answered.{Answered, Counted, Opened, OpenedShort, WhenOk};
 ghost use Rattle.ng_page.specs.Facts.{facts};
 ghost use Rattle.ng_page.specs.PageOf.{state_of, document_of};
 ghost use Rattle.ng_page.specs.Seen.{part_of, parts_of};
@@ -106,6 +106,7 @@ fn count_faults(first: &Option<Fault>) -> u32
 /// A digest whose answer isn't want of memory.
 fn digested(engine: &mut Engine) -> Result<Result<Report, DigestFault>, Memory>
     ensures plain { IfOk result (λ d. Answered (engine_state engine.old) d (engine_state engine.new)) }
+    ensures short { IfOk result (λ d. Counted (engine_state engine.old) d (engine_state engine.new)) }
     ensures settled { IfOk result (λ d. IfOk d (λ _. IsSettled (engine_state engine.new))) }
     ensures unchanged { OnOk result (HasSameData (engine_state engine.old) (engine_state engine.new)) }
 {
@@ -122,6 +123,8 @@ impl Page {
     pub fn start(alloc: Global, t: Tpl, app: App) -> Result<(Page, Outcome), Memory>
         // The page is where the plain digest over the linked template ends, with its answer.
         ensures state { IfOk result (λ r. Opened (facts app) (template_of t) r.1.digest (state_of r.0)) }
+        // Its counts, the tests among them, are those of the digest that stops early.
+        ensures report { IfOk result (λ r. OpenedShort (facts app) (template_of t) r.1.digest (state_of r.0)) }
         // The document is what the watchers kept.
         ensures shown { IfOk result (λ r. document_of r.0 ≡ shown (state_of r.0)) }
         // After a digest that answered Ok no watcher is dirty, and the document is the rendering.

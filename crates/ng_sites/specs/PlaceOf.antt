@@ -1,8 +1,10 @@
 -- The watchers as a world.
-use Rattle.std.specs.Prelude.{ℕ, map}
+use Rattle.std.specs.Prelude.{ℕ, map, None}
+use Rattle.ng_digest.specs.Log.{zero_log}
 use Rattle.ng_digest.specs.Place.{Place, Moves}
+use Rattle.ng_digest.specs.declared.world.Stage.TheVariants.{Between}
 use Rattle.ng_sites.specs.SiteOf.{site_of}
-use Rattle.ng_sites.specs.Sites.{State, page_machine}
+use Rattle.ng_sites.specs.Sites.{State, page_machine, readied}
 use Rattle.ng_sites.specs.declared.engine.Engine.{Engine}
 
 abbrev pub state_of : Engine → State
@@ -17,3 +19,7 @@ with_state p s = record p { state = s }
 
 abbrev pub engine_moves : Moves Engine
 engine_moves = record { State = State; Key = ℕ; machine = page_machine; at = place_of }
+
+-- where a digest begins: nothing was counted, remembered or handed over yet
+abbrev pub ready_place : State → Place State ℕ
+ready_place s = record { state = readied s; cursor = None; remembered = None; log = zero_log; stage = Between }

@@ -4,11 +4,12 @@ ghost use Rattle.ng_digest.specs.Log.{zero_log};
 ghost use Rattle.ng_digest.specs.Causes.{Unless};
 ghost use Rattle.ng_digest.specs.Early.{plain_of, plain_answer};
 ghost use Rattle.ng_digest.specs.Plain.{PlainDigests};
+ghost use Rattle.ng_digest.specs.Short.{Digests};
 ghost use Rattle.ng_digest.specs.declared.world.Stage.TheVariants.{Between};
 ghost use Rattle.ng_sites.specs.Sites.{page_machine, untold, unset_again, readied, linked};
 ghost use Rattle.ng_sites.specs.Settled.{IsSettled, HasSameData, kept_at};
 ghost use Rattle.ng_sites.specs.SiteOf.{site_of};
-ghost use Rattle.ng_sites.specs.PlaceOf.{state_of, place_of};
+ghost use Rattle.ng_sites.specs.PlaceOf.{state_of, place_of, ready_place};
 
 use crate::engine::Engine;
 use crate::site::Site;
@@ -61,7 +62,7 @@ impl Engine {
 
     /// Makes it ready for a digest, in which nothing was counted, remembered or handed over yet.
     fn ready(&mut self)
-        ensures { place_of self.new ≡ record { state = readied (state_of self.old); cursor = None; remembered = None; log = zero_log; stage = Between } }
+        ensures { place_of self.new ≡ ready_place (state_of self.old) }
     {
         untell_all(&mut self.sites);
         self.handed = None;
@@ -73,6 +74,7 @@ impl Engine {
 
     /// A digest over the watchers (guide: Scopes, "Scope Life Cycle").
     pub fn digest(&mut self) -> Result<Report, DigestFault>
+        ensures short { Digests page_machine (ready_place (state_of self.old)) result (place_of self.new) }
         ensures plain { Unless result (PlainDigests page_machine (readied (state_of self.old)) (plain_answer result) (plain_of (place_of self.new))) }
         ensures settled { IfOk result (λ _. IsSettled (state_of self.new)) }
         ensures unchanged { Unless result (HasSameData (state_of self.old) (state_of self.new)) }
