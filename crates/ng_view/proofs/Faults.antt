@@ -1,10 +1,10 @@
 -- Which faults a coercion, an operator, a member and a method can give: NotWhole, Range and TooBig.
-use Rattle.std.proofs.Common.{◌≡◌, ℕ, zero, suc, List, [], ◌∷◌, ◌++◌, Bool, true, false, Option, Some, None}
+use Rattle.std.proofs.Common.{ℕ, zero, suc, List, [], ◌∷◌, ◌++◌, Bool, true, false, Option, Some, None}
 use Rattle.std.specs.Prelude.{ℤ, pos, Result, Ok, Err, IfErr, if◌then◌else◌, int_div, int_rem, ◌+ℤ◌, ◌-ℤ◌, ◌*ℤ◌}
 use Rattle.std.specs.Ordering.{int_eq}
 use Rattle.ng_base.specs.Meets.{◌>>=◌}
 use Rattle.ng_base.specs.Objects.{Object, object_at}
-use Rattle.ng_base.specs.Views.{ViewTree, ViewTrees, ViewFields, prim, list, rec, no_views, no_fields, views_from, views_list, fields_list, fields_from}
+use Rattle.ng_base.specs.Views.{ViewTree, prim, list, rec, no_views, no_fields, views_from, views_list, fields_list, fields_from}
 use Rattle.ng_base.specs.declared.value.Value.{Value}
 use Rattle.ng_base.specs.declared.value.Value.TheVariants as value
 use Rattle.ng_base.specs.declared.fault.Fault.{Fault}
@@ -13,7 +13,7 @@ use Rattle.ng_language.specs.Numbers.{is_in_range}
 use Rattle.ng_language.specs.Operators.{in_range, of_numbers, sum, difference, product, quotient, remainder, sub, mul, div, remainder_of, view_num, term_num}
 use Rattle.ng_language.specs.Sums.{add, add_defined, as_view, joined, is_undefined, is_joined}
 use Rattle.ng_language.specs.Texts.{to_text, text_of, json_text, json_of}
-use Rattle.ng_language.specs.Unfolding.{Field, Spent, and_then, made, unfold_items, unfold_fields, as_list, as_record, unfold_object, unfold_value, unfold_list, unfold_record, unfold_view, unfold_within, unfolded, level_limit, node_limit, is_left_out, item_mode, name_mode, object_order, record_order, own_entries, prims, below_object, unfolds_lists, unfolds_records}
+use Rattle.ng_language.specs.Unfolding.{Field, Spent, and_then, made, unfold_items, unfold_fields, as_list, as_record, unfold_object, unfold_value, unfold_view, unfold_within, unfolded, level_limit, node_limit, is_left_out, item_mode, name_mode, object_order, record_order, own_entries, prims, below_object, unfolds_lists, unfolds_records}
 use Rattle.ng_language.specs.declared.unfolding.Mode.{Mode}
 use Rattle.ng_language.specs.declared.unfolding.Mode.TheVariants as modes
 use Rattle.ng_language.specs.declared.unfolding.Below.{Below}

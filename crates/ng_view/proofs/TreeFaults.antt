@@ -9,7 +9,7 @@ use Rattle.ng_base.specs.Objects.{Object}
 use Rattle.ng_base.specs.Views.{ViewTree, prim, list, rec, views_from, fields_from}
 use Rattle.ng_base.specs.declared.value.Value.TheVariants as value
 use Rattle.ng_base.specs.declared.fault.Fault.{Fault}
-use Rattle.ng_base.specs.declared.fault.Fault.TheVariants.{NotWhole, Range, TooBig, NotAFunction, ImpureCall, Syntax}
+use Rattle.ng_base.specs.declared.fault.Fault.TheVariants.{NotAFunction, ImpureCall, Syntax}
 use Rattle.ng_language.specs.Operators.{truthy}
 use Rattle.ng_language.specs.Texts.{to_text}
 use Rattle.ng_language.specs.Trees.{Tree, Trees, PairTree, Pairs, a_number, a_text, a_name, the_scope, a_constant, member_of, item_of, call_of, a_list, a_record, in_brackets, signed, combined, both_of, either_of, choice_of, assigned, filtered, no_trees, tree_then, labelled, shorthand, computed, no_pairs, pair_then}
@@ -80,7 +80,8 @@ module _ (Q : Fault → Type 0) (calls filters : Bool) (k : OfSome Q calls filte
         let both = second (keeps_to calls filters c) (keeps_to calls filters a && keeps_to calls filters b) h in
         only_then Q (evaluated objects scope locals c) (λ v. if truthy v then evaluated objects scope locals a else evaluated objects scope locals b)
         (evaluated_only c (first (keeps_to calls filters c) (keeps_to calls filters a && keeps_to calls filters b) h))
-        (λ v. only_if Q (truthy v) (evaluated objects scope locals a) (evaluated objects scope locals b) (evaluated_only a (first (keeps_to calls filters a) (keeps_to calls filters b) both)) (evaluated_only b (second (keeps_to calls filters a) (keeps_to calls filters b) both)))
+        (λ v. only_if Q (truthy v) (evaluated objects scope locals a) (evaluated objects scope locals b) (evaluated_only a (first (keeps_to calls filters a) (keeps_to calls filters b) both))
+        (evaluated_only b (second (keeps_to calls filters a) (keeps_to calls filters b) both)))
     evaluated_only (assigned a b) h = k.impure (first calls (keeps_to calls filters a && keeps_to calls filters b) h)
     evaluated_only (filtered t s ts) h =
         let may = first filters (keeps_to calls filters t && all_keep_to calls filters ts) h in
