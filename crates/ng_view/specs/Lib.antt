@@ -3,3 +3,4 @@ pub mod Purity
 pub mod Members
 pub mod Methods
 pub mod Evaluation
+pub mod Calls

@@ -1,12 +1,15 @@
 //! What a reader may take from the definition of values.
-ghost use Rattle.std.specs.Prelude.{◌≡◌, ◌<◌, ◌⊎◌, length, map, Some, None, Ok, Err};
+ghost use Rattle.std.specs.Prelude.{◌≡◌, ◌<◌, ◌⊎◌, length, map, true, Some, None, Ok, Err};
 ghost use Rattle.std.specs.Map.{lookup};
 ghost use Rattle.std.specs.Str.{bytes_eq};
 ghost use Rattle.ng_base.specs.Views.{prim};
 ghost use Rattle.ng_base.specs.declared.value.Value.TheVariants.{Undefined, Null};
+ghost use Rattle.ng_base.specs.declared.fault.Fault.TheVariants.{NotAFunction, ImpureCall, Syntax};
 ghost use Rattle.ng_language.specs.Objects.{look};
 ghost use Rattle.ng_language.specs.Trees.{a_name, member_of, call_of, no_trees, trees_from};
+ghost use Rattle.ng_parse.specs.ProgramOf.{program};
 ghost use Rattle.ng_parse.specs.TreeOf.{tree};
+ghost use Rattle.ng_view.specs.Calls.{calls_nothing, filters_nothing};
 ghost use Rattle.ng_view.specs.Members.{or_undefined};
 ghost use Rattle.ng_view.specs.Evaluation.{evaluated, evaluated_program};
 
@@ -14,7 +17,7 @@ use ng_base::locals::Locals;
 use ng_base::name::Oid;
 use ng_base::txt::Txt;
 use ng_base::value::Value;
-use ng_parse::Expr;
+use ng_parse::{Expr, Program};
 use ng_store::Store;
 
 /// A local hides what the scope has under its name.
@@ -48,4 +51,17 @@ pub fn nothing_called(
 /// The empty program is undefined.
 pub fn empty_program(store: &Store, scope: Oid, locals: &Locals)
     ensures { evaluated_program store.now scope.0 locals.now no_trees ≡ Ok (prim Undefined) }
+{}
+
+/// A program without a call and without an assignment meets no fault of calls.
+pub fn faults_of_calls(store: &Store, scope: Oid, locals: &Locals, p: &Program)
+    requires { calls_nothing (program p.now) ≡ true }
+    ensures function { ¬ (evaluated_program store.now scope.0 locals.now (program p.now) ≡ Err NotAFunction) }
+    ensures impure { ¬ (evaluated_program store.now scope.0 locals.now (program p.now) ≡ Err ImpureCall) }
+{}
+
+/// A program without a filter never answers Syntax, which is the fault of a predicate of `orderBy` that is no path.
+pub fn faults_of_filters(store: &Store, scope: Oid, locals: &Locals, p: &Program)
+    requires { filters_nothing (program p.now) ≡ true }
+    ensures { ¬ (evaluated_program store.now scope.0 locals.now (program p.now) ≡ Err Syntax) }
 {}

@@ -37,6 +37,12 @@ mod program;
 mod purity;
 #[cfg(test)]
 mod tests;
+#[cfg(test)]
+mod tests_of_filters;
+#[cfg(test)]
+mod tests_of_members;
+#[cfg(test)]
+mod tests_of_operators;
 mod texts;
 
 pub use filters::filters_known;

@@ -2,7 +2,7 @@
 //!
 //! The expected values were written by hand from the rules of the language, which are those of AngularJS's guide,
 //! "Expressions", and JavaScript's where docs/DIFFERENCES.md doesn't say otherwise.
-ghost use Rattle.std.specs.Prelude.{◌<◌, length, IfOk};
+ghost use Rattle.std.specs.Prelude.{◌≡◌, ◌<◌, length, IfOk, OnOk};
 ghost use Rattle.ng_base.specs.ViewOf.{view_of};
 ghost use Rattle.ng_language.specs.Views.{ViewStands};
 ghost use Rattle.ng_view.specs.Evaluation.{LocalsStand};
@@ -10,7 +10,7 @@ ghost use Rattle.ng_view.specs.Evaluation.{LocalsStand};
 use crate::filters::filters_known;
 use crate::program::view;
 use crate::purity::is_pure;
-use ng_base::fault::Fault;
+use ng_base::fault::{Fault, Memory};
 use ng_base::heap::ObjKind;
 use ng_base::locals::Locals;
 use ng_base::name::Oid;
@@ -27,10 +27,21 @@ use std::test::Fail;
 
 /// What the prototype of the scope has.
 const DATA: &str =
-    "{\"a\":{\"b\":{\"c\":5}},\"e\":\"\",\"f\":false,\"n\":7,\"nul\":null,\"o\":{\"length\":3,\"slice\":\"own\"},\"s\":\"  Pear \",\"t\":\"Äpfel und Birnen\",\"u\":3,\"xs\":[3,1,2,null,\"4\"],\"ys\":[[1,2],[3]],\"z\":0}";
+    "{\"a\":{\"b\":{\"c\":5}},\"e\":\"\",\"f\":false,\"n\":7,\"nul\":null,\"o\":{\"length\":3,\"slice\":\"own\"},\"ps\":[{\"k\":\"Pear\",\"v\":3},{\"k\":\"fig\",\"v\":30},{\"k\":\"apple\",\"v\":null,\"w\":{\"k\":\"Pie\"}}],\"s\":\"  Pear \",\"t\":\"Äpfel und Birnen\",\"u\":3,\"w\":\"lent\",\"xs\":[3,1,2,null,\"4\"],\"ys\":[[1,2],[3]],\"z\":0}";
 
-/// A store with a scope whose prototype has the data.
-fn made(alloc: Global) -> Result<(Store, Oid), Fail>
+/// A `w` of the object's own.
+#[tactic(auto, using(crate::proofs::Kept::as_many))]
+fn put_own(alloc: Global, store: &mut Store, o: Oid) -> Result<(), Memory>
+    requires { o.0 < length store.old }
+    ensures { OnOk result (length store.new ≡ length store.old) }
+{
+    let name = Txt::from_str(alloc, "w")?;
+    let own = Txt::from_str(alloc, "own")?;
+    store.set(o, &name, Value::Text(own))
+}
+
+/// A store with a scope whose prototype has the data. The scope has a `w` of its own.
+pub(crate) fn made(alloc: Global) -> Result<(Store, Oid), Fail>
     ensures { IfOk result (λ r. r.1.0 < length r.0) }
 {
     let mut store = Store::new(alloc);
@@ -41,11 +52,12 @@ fn made(alloc: Global) -> Result<(Store, Oid), Fail>
         _ => None,
     };
     let scope = store.make(ObjKind::Scope, proto)?;
+    put_own(alloc, &mut store, scope)?;
     Ok((store, scope))
 }
 
 /// Locals that hide names of the scope.
-fn with_locals(alloc: Global, store: &Store) -> Result<Locals, AllocError>
+pub(crate) fn with_locals(alloc: Global, store: &Store) -> Result<Locals, AllocError>
     ensures { IfOk result (λ l. LocalsStand (length store.now) l) }
 {
     let mut locals = Locals::new(alloc);
@@ -70,7 +82,7 @@ fn told(alloc: Global, store: &Store, v: &View) -> Result<String, Fail>
 }
 
 /// What a program gives.
-fn shown(
+pub(crate) fn shown(
     alloc: Global,
     store: &Store,
     scope: Oid,
