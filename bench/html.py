@@ -2,7 +2,8 @@
 """Times the program on pages of the whole HTML profile, beside html5ever.
 
 usage: bench/html.py [--cmd PROGRAM] [--mib N]
-Each row is one run over one page: the seconds of processor time, MiB a second, and the peak memory in MiB. `ngrun` does
+Each row is one run over one page: the seconds of processor time, MiB a second, and the peak memory in MiB; a
+run that takes more than two minutes is ended. `ngrun` does
 the whole run: it reads, compiles, links, digests and prints. html5ever reads the tokens alone, or reads the tree and
 serialises it. It is built from Debian's librust-html5ever-dev and librust-markup5ever-rcdom-dev with cargo, without a
 network; where that fails its rows are left out.
@@ -12,7 +13,9 @@ at a fifth of the size. The pages of one kind of byte show that time grows in pr
 import argparse
 import multiprocessing
 import os
+import resource
 import shutil
+import signal
 import subprocess
 import tempfile
 
@@ -38,7 +41,7 @@ HEAD = '''<!DOCTYPE html>
 '''
 
 FOOT = '''</main>
-<footer><p>&copy; {{site}} &mdash; all times are local</footer>
+<footer><p>&copy; {{site}} &mdash; all times are local</p></footer>
 </body>
 </html>
 '''
@@ -93,6 +96,9 @@ PAGES = {
 
 MIB = 2**20
 
+# The seconds of processor time that a run may take.
+LIMIT = 120
+
 
 def rows(mib):
     yield 'long texts', mib * MIB
@@ -127,13 +133,16 @@ def html5ever():
 def timed(words):
     """The seconds of processor time, the peak memory in MiB and the status of a command."""
     with open(os.devnull, 'wb') as out:
-        process = subprocess.Popen(words, stdout=out)
+        process = subprocess.Popen(words, stdout=out, preexec_fn=lambda: resource.setrlimit(resource.RLIMIT_CPU, (LIMIT, LIMIT)))
         _, status, usage = os.wait4(process.pid, 0)
         return usage.ru_utime + usage.ru_stime, usage.ru_maxrss / 1024, os.waitstatus_to_exitcode(status)
 
 
 def report(name, size, words):
     seconds, memory, status = timed(words)
+    if status in (-signal.SIGXCPU, -signal.SIGKILL):
+        print(f'  {name}: not done within {LIMIT} s', flush=True)
+        return
     ended = '' if status == 0 else f', status {status}'
     print(f'  {name}: {seconds:.2f} s, {size / MIB / seconds:.1f} MiB/s, {memory:.0f} MiB{ended}', flush=True)
 
