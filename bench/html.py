@@ -9,7 +9,7 @@ serialises it. It is built from Debian's librust-html5ever-dev and librust-marku
 network; where that fails its rows are left out.
 
 A page has at most 200,000 nodes, so the large page has long texts; the page of short texts has nearly all of its nodes
-at a fifth of the size. The pages of one kind of byte show that time grows in proportion to the input."""
+at an eighth of the size. The pages of one kind of byte show that time grows in proportion to the input."""
 import argparse
 import multiprocessing
 import os
@@ -102,7 +102,7 @@ LIMIT = 120
 
 def rows(mib):
     yield 'long texts', mib * MIB
-    yield 'short texts', mib * MIB // 5
+    yield 'short texts', mib * MIB // 8
     for kind in ('<', '&', 'attributes of one tag', 'comments', 'li without end tags'):
         yield kind, mib * MIB // 10
         yield kind, mib * MIB
