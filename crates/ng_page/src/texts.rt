@@ -48,6 +48,9 @@ fn begins_escape(text: &Plain<'_>) -> bool
     let Some((a, after_a)) = text.first() else {
         return false;
     };
+    if a != '\\' {
+        return false;
+    }
     let Some((b, after_b)) = after_a.first() else {
         return false;
     };
@@ -57,7 +60,7 @@ fn begins_escape(text: &Plain<'_>) -> bool
     let Some((d, _)) = after_c.first() else {
         return false;
     };
-    a == '\\' && c == '\\' && ((b == '{' && d == '{') || (b == '}' && d == '}'))
+    c == '\\' && ((b == '{' && d == '{') || (b == '}' && d == '}'))
 }
 
 /// Whether braces behind backslashes stand in a text.
