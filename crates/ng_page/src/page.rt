@@ -103,16 +103,17 @@ fn count_faults(first: &Option<Fault>) -> u32
     }
 }
 
-/// A digest whose answer isn't want of memory.
+/// A digest whose answer isn't want of memory. It makes no object, so what is wanted is refused memory alone.
 fn digested(engine: &mut Engine) -> Result<Result<Report, DigestFault>, Memory>
     ensures plain { IfOk result (λ d. Answered (engine_state engine.old) d (engine_state engine.new)) }
     ensures short { IfOk result (λ d. Counted (engine_state engine.old) d (engine_state engine.new)) }
     ensures settled { IfOk result (λ d. IfOk d (λ _. IsSettled (engine_state engine.new))) }
     ensures unchanged { OnOk result (HasSameData (engine_state engine.old) (engine_state engine.new)) }
+    ensures refused { IfErr result (λ e. e ≡ Refused) }
 {
     match engine.digest() {
         Ok(report) => Ok(Ok(report)),
-        Err(DigestFault::Memory(memory)) => Err(memory),
+        Err(DigestFault::Memory(_)) => Err(Memory::Refused),
         Err(fault) => Ok(Err(fault)),
     }
 }
@@ -131,6 +132,7 @@ impl Page {
         ensures settled { IfOk result (λ r. WhenOk r.1.digest (Settles (state_of r.0))) }
         ensures rendering { IfOk result (λ r. WhenOk r.1.digest (rendering (facts app) (template_of t) ≡ Ok (document_of r.0))) }
         ensures faults { IfOk result (λ r. (r.1.faults ≡ fault_count r.1.first) × (r.1.first ≡ link_fault (template_of t).parts) × (r.1.probed ≡ [])) }
+        ensures refused { IfErr result (λ e. e ≡ Refused) }
     {
         let App { store, root } = app;
         let (parts, sites, first) = link(alloc, t);
