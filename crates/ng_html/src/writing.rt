@@ -42,6 +42,10 @@ fn push_word(into: &mut Vec<u8>, word: &str) -> Result<(), AllocError>
 fn push_char(into: &mut Vec<u8>, c: char) -> Result<(), AllocError>
     ensures { OnOk result (into.new.items ≡ into.old.items ++ encode_utf8_all (c ∷ [])) }
 {
+    if c.is_ascii() {
+        into.push(c as u8)?;
+        return Ok(());
+    }
     let mut buffer = [0; 4];
     let encoded = c.encode_utf8(&mut buffer);
     into.extend_from_slice(encoded.as_bytes())

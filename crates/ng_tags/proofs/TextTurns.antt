@@ -1,12 +1,13 @@
 -- One character of a text more.
-use Rattle.std.proofs.Common.{◌≡◌, ◌<◌, ℕ, zero, suc, Bool, true, false, List, [], ◌∷◌, length, refl, ◌∙◌, arith}
-use Rattle.std.specs.Prelude.{if◌then◌else◌}
+use Rattle.std.proofs.Common.{◌≡◌, ◌<◌, ℕ, zero, suc, Bool, true, false, List, [], ◌∷◌, length, refl, ap, ◌∙◌, arith}
+use Rattle.std.specs.Prelude.{◌&&◌, ◌==◌, ◌++◌, not, Some, is_some, if◌then◌else◌}
 use Rattle.ng_base.specs.Cells.{Cell}
 use Rattle.ng_base.proofs.Binds.{if_true, if_false}
-use Rattle.ng_tags.specs.References.{character}
-use Rattle.ng_tags.specs.Texts.{ends, with_character, text_within, text_from}
+use Rattle.ng_tags.specs.References.{character, Read, or_itself, reference}
+use Rattle.ng_tags.specs.Texts.{ends, may_end, goes_on, tag_follows, past_end_tag, decoded, with_character, text_within, text_from}
 use Rattle.ng_tags.specs.declared.texts.Decoded.{Decoded}
 use Rattle.ng_tags.specs.declared.until.Until.{Until}
+use Rattle.ng_tags.specs.declared.until.Until.TheVariants as until
 use Rattle.ng_tags.proofs.Shorter.{character_less}
 
 pub same_if : {A : Type 0} (b : Bool) (x y z : A) → (b ≡ false → y ≡ z) → (if b then x else y) ≡ (if b then x else z)
@@ -36,4 +37,23 @@ text_stops u d c cs h =
     let r = character c.0 cs in
     if_true (ends u c.0 cs) (d, c ∷ cs) (text_within (suc (length cs)) u (with_character d c.1 r.0) r.1) h
 
-pub ruleset text_turns = (text_on, text_stops, character_less)
+not_ended : (u : Until) (c : ℕ) (cs : List Cell) → may_end u c ≡ false → ends u c cs ≡ false
+not_ended until.Tag c cs h = ap (λ b. b && tag_follows cs) h
+not_ended until.Double c cs h = h
+not_ended until.Single c cs h = h
+not_ended until.Space c cs h = h
+not_ended (until.EndTag n) c cs h = ap (λ b. b && is_some (past_end_tag n cs)) h
+
+neither : (a b : Bool) → (not a && not b) ≡ true → (a ≡ false) × (b ≡ false)
+neither true b h = absurd (cc)
+neither false true h = absurd (cc)
+neither false false h = (refl, refl)
+
+-- a character that stands for itself
+pub text_goes_on : (u : Until) (d : Decoded) (c : Cell) (cs : List Cell) → goes_on u c.0 ≡ true → text_from u d (c ∷ cs) ≡ text_from u (decoded (d.text ++ c.0 ∷ []) d.fault) cs
+text_goes_on u d c cs h =
+    let apart = neither (c.0 == 38) (may_end u c.0) h in
+    text_on u d c cs (not_ended u c.0 cs apart.1)
+    ∙ ap (λ (r : Read). text_from u (with_character d c.1 r.0) r.1) (if_false (c.0 == 38) (or_itself cs (reference cs)) (Some c.0, cs) apart.0)
+
+pub ruleset text_turns = (text_on, text_stops, text_goes_on, character_less)

@@ -33,6 +33,18 @@ ends until.Single c cs = c == 39
 ends until.Space c cs = not (is_bare c)
 ends (until.EndTag n) c cs = c == 60 && is_some (past_end_tag n cs)
 
+-- whether a text may end before this character
+abbrev pub may_end : Until → ℕ → Bool
+may_end until.Tag c = c == 60
+may_end until.Double c = c == 34
+may_end until.Single c = c == 39
+may_end until.Space c = not (is_bare c)
+may_end (until.EndTag n) c = c == 60
+
+-- whether it goes on with this character as it is, whatever stands behind it
+abbrev pub goes_on : Until → ℕ → Bool
+goes_on u c = not (c == 38) && not (may_end u c)
+
 abbrev pub decoded : List ℕ → Option HtmlFault → Decoded
 decoded t f = record { text = t; fault = f }
 

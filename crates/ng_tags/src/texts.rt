@@ -62,6 +62,26 @@ fn ends(alloc: Global, until: &Until, c: char, rest: &Reader<'_>) -> Result<bool
     }
 }
 
+/// Whether a text may end before this character.
+fn may_end(until: &Until, c: char) -> bool
+    ensures { result ≡ texts.may_end until.now c }
+{
+    match until {
+        Until::Tag => c == '<',
+        Until::Double => c == '"',
+        Until::Single => c == '\'',
+        Until::Space => !bare(c),
+        Until::EndTag(_) => c == '<',
+    }
+}
+
+/// Whether it goes on with this character as it is, whatever stands behind it.
+fn goes_on(until: &Until, c: char) -> bool
+    ensures { result ≡ texts.goes_on until.now c }
+{
+    c != '&' && !may_end(until, c)
+}
+
 /// A character more, or a reference that is refused at its place.
 pub fn with_character(d: Decoded, place: usize, read: Option<char>) -> Result<Decoded, AllocError>
     ensures { IfOk result (λ r. r ≡ texts.with_character d place read) }
@@ -96,12 +116,17 @@ pub fn read_text<'a>(
     ensures { IfOk result (λ r. r ≡ texts.text_from until.now d reader.entry) }
 {
     while let Some((c, place, rest)) = reader.first() {
-        if ends(alloc, until, c, &rest)? {
-            return Ok((d, reader));
+        if goes_on(until, c) {
+            d.text.push(c)?;
+            reader = rest;
+        } else {
+            if ends(alloc, until, c, &rest)? {
+                return Ok((d, reader));
+            }
+            let (read, rest) = read_character(alloc, c, rest)?;
+            d = with_character(d, place, read)?;
+            reader = rest;
         }
-        let (read, rest) = read_character(alloc, c, rest)?;
-        d = with_character(d, place, read)?;
-        reader = rest;
     }
     Ok((d, reader))
 }
