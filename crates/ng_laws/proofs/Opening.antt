@@ -18,8 +18,8 @@ use Rattle.ng_page.specs.State.{State, linked_state}
 use Rattle.ng_page.specs.declared.fault.AppFault.{AppFault}
 use Rattle.ng_page.specs.declared.fault.TplFault.{TplFault}
 use Rattle.ng_run.specs.Session.{Reply, opened, template_line, application_line, tpl_name, html_name, OpensPage, CompiledThen, FactsThen, SourceThen}
-use Rattle.ng_sessions.specs.Sessions.{DigestEnds, SessionIsThere}
-use Rattle.ng_sessions.proofs.Ends.{digest_ends}
+use Rattle.ng_laws.specs.Sessions.{DigestEnds, SessionIsThere}
+use Rattle.ng_laws.proofs.Ends.{digest_ends}
 
 -- a test and a fire leave the keys
 tested_keys : (s : sites.State) (k : ℕ) → page_machine.keys (page_machine.tested s k) ≡ page_machine.keys s

@@ -1,5 +1,5 @@
-use Rattle.ng_sessions.proofs.Sessions.{page_ends, session_some}
-use Rattle.ng_sessions.proofs.laws.each_pair_of_files_has_a_session.Goals as goal
+use Rattle.ng_laws.proofs.Opening.{page_ends, session_some}
+use Rattle.ng_laws.proofs.sessions.each_pair_of_files_has_a_session.Goals as goal
 
 pub returns-clause-ends : goal.returns-clause-ends
 returns-clause-ends c = page_ends

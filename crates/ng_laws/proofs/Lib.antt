@@ -1,0 +1,4 @@
+pub mod Ends
+pub mod Opening
+pub mod Cloaks
+pub mod Cutting

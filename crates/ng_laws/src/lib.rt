@@ -1,0 +1,19 @@
+//! Laws above the definitions of a run and a page, in the words of their subjects.
+//!
+//! - `sessions`: each pair of files has a session. `run` of `ng_run` says that what a run writes is the session of its two
+//!   files, a relation over the plain digest, and `session_is_one` of that crate that there is at most one. The law here
+//!   says that there is one: whatever the bytes of the two files are, the session refuses one of them, or the page opens
+//!   and its plain digest comes to an end. `proofs/Ends` shows that of any world at which no task waits: a fire and a
+//!   test leave the live keys, so that each step of a walk has one key less ahead, and the eleventh dirty round is the
+//!   last.
+//! - `cloak`: `ng-cloak` leaves no trace in a class. However a class is cut into words, each behind its white space, what
+//!   stays is the same cut without the words `ng-cloak`; so a class without that word stays as it is.
+//! - `holes`: a text of words and holes in turn is cut into them. Words go up to the first `{{`, a hole up to the first `}}`
+//!   behind it, and at the end stand words in which there is no `{{`, or no `}}` behind the first one.
+//!
+//! There is no code here, and nothing is built from this crate.
+#![tactic(auto)]
+
+pub mod cloak;
+pub mod holes;
+pub mod sessions;
