@@ -2,3 +2,4 @@ pub mod Ends
 pub mod Opening
 pub mod Cloaks
 pub mod Cutting
+pub mod Cases

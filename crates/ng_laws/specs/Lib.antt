@@ -1,3 +1,4 @@
 pub mod Sessions
 pub mod Cloaks
 pub mod Turns
+pub mod Camel

@@ -10,10 +10,13 @@
 //!   stays is the same cut without the words `ng-cloak`; so a class without that word stays as it is.
 //! - `holes`: a text of words and holes in turn is cut into them. Words go up to the first `{{`, a hole up to the first `}}`
 //!   behind it, and at the end stand words in which there is no `{{`, or no `}}` behind the first one.
+//! - `names`: which directive a name picks. One `x` or `data` with its joiner goes, then the joiners at the front; each
+//!   word behind the first begins with a capital, and of joiners at the end the last one stays.
 //!
 //! There is no code here, and nothing is built from this crate.
 #![tactic(auto)]
 
 pub mod cloak;
 pub mod holes;
+pub mod names;
 pub mod sessions;
