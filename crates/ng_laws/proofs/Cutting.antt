@@ -11,7 +11,7 @@ use Rattle.ng_interp.specs.declared.cutting.Opened.{Opened}
 use Rattle.ng_interp.proofs.CutSteps.{one_more, pair_more}
 use Rattle.ng_laws.specs.Turns.{HasNoPair, Turn, IsTurn, IsEnd, turn_text, seen, turn_cuts, TurnsAreCut}
 
-abbrev mark : Bool → ℕ
+abbrev pub mark : Bool → ℕ
 mark true = 125
 mark false = 123
 
@@ -51,7 +51,7 @@ at_end total done t (inr (a, b, e, h, i)) =
     ∙ ap (λ x. done ++ Words x ∷ []) (sym e)))
 
 -- a text with a turn in front
-front : (p : Turn) (us t : List ℕ) → (turn_text p ++ us) ++ t ≡ p.0 ++ 123 ∷ 123 ∷ (p.1 ++ 125 ∷ 125 ∷ (us ++ t))
+pub front : (p : Turn) (us t : List ℕ) → (turn_text p ++ us) ++ t ≡ p.0 ++ 123 ∷ 123 ∷ (p.1 ++ 125 ∷ 125 ∷ (us ++ t))
 front p us t =
     append_assoc (turn_text p) us t
     ∙ (append_assoc p.0 (123 ∷ 123 ∷ (p.1 ++ 125 ∷ 125 ∷ [])) (us ++ t)

@@ -3,3 +3,4 @@ pub mod Opening
 pub mod Cloaks
 pub mod Cutting
 pub mod Cases
+pub mod Found

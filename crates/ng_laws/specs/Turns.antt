@@ -36,3 +36,7 @@ turn_cuts p = (false, p.0) ∷ (true, p.1) ∷ []
 -- a text that is spelled so is cut so
 abbrev pub TurnsAreCut : Type 0
 TurnsAreCut = (ps : List Turn) (t : List ℕ) → AllByRecursion IsTurn ps → IsEnd t → map seen (cuts_of (flat_map turn_text ps ++ t)) ≡ flat_map turn_cuts ps ++ (false, t) ∷ []
+
+-- and each text is spelled so
+abbrev pub EachTextHasTurns : Type 0
+EachTextHasTurns = (x : List ℕ) → (ps : List Turn) × (t : List ℕ) × AllByRecursion IsTurn ps × IsEnd t × (x ≡ flat_map turn_text ps ++ t)

@@ -1,7 +1,8 @@
 //! Where the holes of a text stand (guide: Interpolation): a contract without a body.
-ghost use Rattle.ng_laws.specs.Turns.{TurnsAreCut};
+ghost use Rattle.ng_laws.specs.Turns.{TurnsAreCut, EachTextHasTurns};
 
-/// A text of words and holes in turn is cut into them: words up to the first `{{`, a hole up to the first `}}`.
+/// Each text is words and holes in turn, and is cut into them: words up to the first `{{`, a hole up to the first `}}`.
 pub fn turns_are_cut()
-    ensures { TurnsAreCut }
+    ensures cut { TurnsAreCut }
+    ensures each { EachTextHasTurns }
 {}

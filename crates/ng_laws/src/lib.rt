@@ -8,8 +8,8 @@
 //!   last.
 //! - `cloak`: `ng-cloak` leaves no trace in a class. However a class is cut into words, each behind its white space, what
 //!   stays is the same cut without the words `ng-cloak`; so a class without that word stays as it is.
-//! - `holes`: a text of words and holes in turn is cut into them. Words go up to the first `{{`, a hole up to the first `}}`
-//!   behind it, and at the end stand words in which there is no `{{`, or no `}}` behind the first one.
+//! - `holes`: each text is words and holes in turn, and is cut into them. Words go up to the first `{{`, a hole up to the
+//!   first `}}` behind it, and at the end stand words in which there is no `{{`, or no `}}` behind the first one.
 //! - `names`: which directive a name picks. One `x` or `data` with its joiner goes, then the joiners at the front; each
 //!   word behind the first begins with a capital, and of joiners at the end the last one stays.
 //!
