@@ -4,3 +4,4 @@ pub mod Cloaks
 pub mod Cutting
 pub mod Cases
 pub mod Found
+pub mod Soon

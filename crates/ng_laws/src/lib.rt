@@ -5,7 +5,8 @@
 //!   says that there is one: whatever the bytes of the two files are, the session refuses one of them, or the page opens
 //!   and its plain digest comes to an end. `proofs/Ends` shows that of any world at which no task waits: a fire and a
 //!   test leave the live keys, so that each step of a walk has one key less ahead, and the eleventh dirty round is the
-//!   last.
+//!   last. And it comes soon: a fire of a page of today keeps a text and changes no data, so the second round finds
+//!   nothing to fire. Its digest answers Ok after two rounds at most, Faulted, or FireLimit.
 //! - `cloak`: `ng-cloak` leaves no trace in a class. However a class is cut into words, each behind its white space, what
 //!   stays is the same cut without the words `ng-cloak`; so a class without that word stays as it is.
 //! - `holes`: each text is words and holes in turn, and is cut into them. Words go up to the first `{{`, a hole up to the
