@@ -5,3 +5,5 @@ pub mod Cutting
 pub mod Cases
 pub mod Found
 pub mod Soon
+pub mod Spans
+pub mod Cuts

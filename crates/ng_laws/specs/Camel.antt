@@ -1,5 +1,5 @@
 -- A name as words between joiners (guide: Directives, "Normalization").
-use Rattle.std.specs.Prelude.{ℕ, ◌≡◌, true, false, List, [], ◌∷◌, ◌++◌, codes, None}
+use Rattle.std.specs.Prelude.{ℕ, ◌⊎◌, ◌≡◌, true, false, List, [], ◌∷◌, ◌++◌, codes, None}
 use Rattle.std.specs.Char.{to_ascii_uppercase}
 use Rattle.std.specs.List.{AllByRecursion, flat_map}
 use Rattle.ng_page.specs.Cloak.{is_nil}
@@ -46,3 +46,7 @@ FrontGoes = (j : ℕ) (n : List ℕ) → is_joiner j ≡ true → (directive_nam
 -- and another front stays
 abbrev pub FrontStays : Type 0
 FrontStays = (n : List ℕ) → behind_x n ≡ None → behind_data n ≡ None → directive_name n ≡ camel (past_joiners n)
+
+-- each name is joiners alone, which name no directive, or is spelled so
+abbrev pub EachNameHasWords : Type 0
+EachNameHasWords = (x : List ℕ) → (AreJoiners x × (camel (past_joiners x) ≡ [])) ⊎ ((front : List ℕ) × (word : List ℕ) × (tail : List ℕ) × (ps : List Part) × AreJoiners front × IsWord word × AreParts ps × AreJoiners tail × (x ≡ front ++ (word ++ (flat_map part_text ps ++ tail))))

@@ -38,3 +38,7 @@ WordsStay = (ps : List Piece) (tail : List ℕ) → IsCut ps → IsSpace tail �
 -- a class without that word stays as it is
 abbrev pub ClassStays : Type 0
 ClassStays = (ps : List Piece) (tail : List ℕ) → IsCut ps → IsSpace tail → AllByRecursion (λ (p : Piece). bytes_eq p.1 (codes "ng-cloak") ≡ false) ps → uncloaked (flat_map written ps ++ tail) ≡ flat_map written ps ++ tail
+
+-- and each class can be cut so
+abbrev pub EachClassIsCut : Type 0
+EachClassIsCut = (x : List ℕ) → (ps : List Piece) × (tail : List ℕ) × IsCut ps × IsSpace tail × (x ≡ flat_map written ps ++ tail)
