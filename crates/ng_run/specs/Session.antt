@@ -20,9 +20,9 @@ use Rattle.ng_page.specs.declared.fault.AppFault.{AppFault}
 use Rattle.ng_page.specs.declared.fault.TplKind.{TplKind}
 use Rattle.ng_page.specs.declared.fault.TplKind.TheVariants as tpl
 use Rattle.ng_page.specs.declared.fault.TplFault.{TplFault}
+use Rattle.ng_base.specs.Faults.{fault_name}
 use Rattle.ng_base.specs.Outside.{longest}
 use Rattle.ng_base.specs.declared.fault.Fault.{Fault}
-use Rattle.ng_base.specs.declared.fault.Fault.TheVariants as fault
 
 -- a status, the bytes that are written, and the page as the last step left it
 pub record Reply : Type 0 where
@@ -87,24 +87,6 @@ template_line place name = line 3 (codes "template: " ++ decimal place ++ codes 
 
 abbrev pub application_line : AppFault → Reply
 application_line f = line 4 (codes "application: " ++ member_name f.member ++ codes " " ++ decimal f.item ++ codes " " ++ app_name f.kind)
-
-abbrev pub fault_name : Fault → List ℕ
-fault_name fault.NotWhole = codes "NotWhole"
-fault_name fault.Range = codes "Range"
-fault_name fault.NotAFunction = codes "NotAFunction"
-fault_name fault.NotAssignable = codes "NotAssignable"
-fault_name fault.Dupes = codes "Dupes"
-fault_name fault.TooBig = codes "TooBig"
-fault_name fault.Depth = codes "Depth"
-fault_name fault.CallLimit = codes "CallLimit"
-fault_name fault.StoreFull = codes "StoreFull"
-fault_name fault.NodeLimit = codes "NodeLimit"
-fault_name fault.NoTemplate = codes "NoTemplate"
-fault_name fault.InProgress = codes "InProgress"
-fault_name fault.Syntax = codes "Syntax"
-fault_name fault.OutOfProfile = codes "OutOfProfile"
-fault_name fault.ImpureCall = codes "ImpureCall"
-fault_name (fault.Memory m) = codes "Memory"
 
 -- so many faults, of which this is the first
 abbrev pub faults : ℕ → Fault → List ℕ

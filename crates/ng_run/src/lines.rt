@@ -2,7 +2,7 @@
 ghost use Rattle.std.specs.Prelude.{◌≡◌, ◌++◌, codes, Err, IfOk, OnOk};
 ghost use Rattle.std.specs.Fmt.{decimal};
 ghost use Rattle.ng_run.specs.ReplyOf.{reply_of, digest_lines, IsDrawn};
-ghost use Rattle.ng_run.specs.Session.{line as line_of, fault_name, faults, action_line, digest_line, html_name, tpl_name, member_name, app_name, template_line as template_line_of, application_line as application_line_of};
+ghost use Rattle.ng_run.specs.Session.{line as line_of, faults, action_line, digest_line, html_name, tpl_name, member_name, app_name, template_line as template_line_of, application_line as application_line_of};
 
 use crate::reply::Reply;
 use ng_base::fault::Fault;
@@ -128,30 +128,6 @@ fn app_word(kind: &AppKind) -> &'static str
     }
 }
 
-/// The name of a fault.
-fn fault_word(fault: &Fault) -> &'static str
-    ensures { result.now ≡ fault_name fault.now }
-{
-    match fault {
-        Fault::NotWhole => "NotWhole",
-        Fault::Range => "Range",
-        Fault::NotAFunction => "NotAFunction",
-        Fault::NotAssignable => "NotAssignable",
-        Fault::Dupes => "Dupes",
-        Fault::TooBig => "TooBig",
-        Fault::Depth => "Depth",
-        Fault::CallLimit => "CallLimit",
-        Fault::StoreFull => "StoreFull",
-        Fault::NodeLimit => "NodeLimit",
-        Fault::NoTemplate => "NoTemplate",
-        Fault::InProgress => "InProgress",
-        Fault::Syntax => "Syntax",
-        Fault::OutOfProfile => "OutOfProfile",
-        Fault::ImpureCall => "ImpureCall",
-        Fault::Memory(_) => "Memory",
-    }
-}
-
 /// So many faults, of which this is the first.
 fn fault_words(alloc: Global, count: u32, first: &Fault) -> Result<Vec<u8>, AllocError>
     ensures { IfOk result (λ v. v.items ≡ faults count first.now) }
@@ -159,7 +135,7 @@ fn fault_words(alloc: Global, count: u32, first: &Fault) -> Result<Vec<u8>, Allo
     let mut bytes = Vec::new(alloc);
     push_number(&mut bytes, u64::from(count))?;
     bytes.extend_from_slice(" ".as_bytes())?;
-    bytes.extend_from_slice(fault_word(first).as_bytes())?;
+    bytes.extend_from_slice(first.name().as_bytes())?;
     bytes.extend_from_slice("\n".as_bytes())?;
     Ok(bytes)
 }

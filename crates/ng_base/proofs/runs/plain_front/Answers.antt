@@ -1,0 +1,18 @@
+use Rattle.std.proofs.Common.{◌≡◌, ◌++◌, rules, ap, sym, ◌∙◌, true}
+use Rattle.std.proofs.lemmas.List.{take-append-drop}
+use Rattle.std.proofs.lemmas.Str.{chars-append}
+use Rattle.std.specs.Str.{chars}
+use Rattle.std.specs.List.{list_all}
+use Rattle.ng_base.specs.Runs.{is_plain}
+use Rattle.ng_base.proofs.PlainChars.{plain_chars}
+use Rattle.ng_base.proofs.runs.plain_front.Goals as goal
+
+pub returns-clause-parts : goal.returns-clause-parts
+returns-clause-parts c =
+    let e : c.args.text.now ≡ c.range.result.now ++ c.range_from.result.now = sym (take-append-drop c.plain_length-count.result c.args.text.now) ∙ search rules in
+    ap chars e ∙ chars-append c.range.result.now c.range_from.result.now c.range.utf8
+
+pub returns-clause-plain : goal.returns-clause-plain
+returns-clause-plain c =
+    let e : list_all is_plain c.range.result.now ≡ true = search rules in
+    plain_chars c.range.result.now c.range.utf8 e

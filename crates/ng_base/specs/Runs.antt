@@ -1,0 +1,23 @@
+-- Characters that stand for themselves wherever a document is read or printed.
+use Rattle.std.specs.Prelude.{◌≡◌, ◌==◌, ◌||◌, not, ℕ, Bool, false, List, [], ◌∷◌, ◌++◌, map, IsTrue}
+use Rattle.std.specs.List.{list_all}
+use Rattle.ng_base.specs.Cells.{Cell}
+
+-- a line feed, a return, or one of `"` `&` `'` `<` `>` `\` `{` `}`
+abbrev pub is_mark : ℕ → Bool
+is_mark c = c == 10 || c == 13 || c == 34 || c == 38 || c == 39 || c == 60 || c == 62 || c == 92 || c == 123 || c == 125
+
+abbrev pub is_plain : ℕ → Bool
+is_plain c = not (is_mark c)
+
+abbrev pub IsPlain : List ℕ → Type 0
+IsPlain cs = IsTrue (list_all is_plain cs)
+
+-- these characters stand at the front of the cells, and those cells are left
+abbrev pub Fronts : List ℕ → List Cell → List Cell → Type 0
+Fronts cs cells rest = (front : List Cell) × (cells ≡ front ++ rest) × (map (λ (k : Cell). k.0) front ≡ cs)
+
+-- whether a return stands before what follows these characters, where it stood before them or not
+abbrev pub after_plain : Bool → List ℕ → Bool
+after_plain b [] = b
+after_plain b (c ∷ cs) = false
