@@ -1,11 +1,11 @@
 -- Bytes that stand for themselves, and the characters that they spell.
-use Rattle.std.proofs.Common.{arith, ◌≡◌, ◌<◌, ◌&&◌, ℕ, Bool, true, false, nat_lt, List, [], ◌∷◌, encode_utf8, encode_utf8_all, sym, ap, ◌∙◌, refl}
+use Rattle.std.proofs.Common.{arith, length, get_or, ◌≡◌, ◌<◌, ◌&&◌, ℕ, Bool, true, false, nat_lt, List, [], ◌∷◌, encode_utf8, encode_utf8_all, sym, ap, ◌∙◌, refl}
 use Rattle.std.proofs.lemmas.Grind.{common_steps}
 use Rattle.std.proofs.lemmas.List.Folds.{list_all-append}
-use Rattle.std.proofs.lemmas.Str.{encodes-chars, encode_ascii}
+use Rattle.std.proofs.lemmas.Str.{encodes-chars, encode_ascii, char_from_byte, length-encode, len_utf8_bounds}
 use Rattle.std.specs.Str.{chars, IsUtf8}
 use Rattle.std.specs.List.{list_all}
-use Rattle.ng_base.specs.Runs.{is_plain}
+use Rattle.ng_base.specs.Runs.{is_plain, begins_plain}
 
 pub both_parts : (a b : Bool) → (a && b) ≡ true → (a ≡ true) × (b ≡ true)
 both_parts true b e = (refl, e)
@@ -32,3 +32,25 @@ plain_spelled (c ∷ cs) e =
 -- a text whose bytes stand for themselves has such characters
 pub plain_chars : (bs : List ℕ) → IsUtf8 bs → list_all is_plain bs ≡ true → list_all is_plain (chars bs) ≡ true
 plain_chars bs u e = plain_spelled (chars bs) (ap (list_all is_plain) (encodes-chars bs u) ∙ e)
+
+mark_is_ascii : (b : ℕ) → is_plain b ≡ false → b < 128
+mark_is_ascii b e = grind (arith, common_steps)
+
+filled_by : (c : ℕ) (cs bs : List ℕ) → encode_utf8_all (c ∷ cs) ≡ bs → 0 < length bs
+filled_by c cs bs e =
+    let one = (len_utf8_bounds c).0 in
+    let len = length-encode c in
+    let all = ap length e in
+    grind (arith, common_steps)
+
+first_of : (cs bs : List ℕ) → encode_utf8_all cs ≡ bs → (0 < length bs → is_plain (get_or bs 0 0) ≡ false) → begins_plain cs ≡ false
+first_of [] bs e f = refl
+first_of (c ∷ cs) bs e f =
+    let filled : 0 < length bs = filled_by c cs bs e in
+    let mark = f filled in
+    let same = char_from_byte bs (encode_utf8_all cs) c (sym e) (mark_is_ascii (get_or bs 0 0) mark) filled in
+    ap is_plain same ∙ mark
+
+-- a text begins with the character that its first byte spells, where that is ASCII
+pub first_is_mark : (bs : List ℕ) → IsUtf8 bs → (0 < length bs → is_plain (get_or bs 0 0) ≡ false) → begins_plain (chars bs) ≡ false
+first_is_mark bs u f = first_of (chars bs) bs (encodes-chars bs u) f

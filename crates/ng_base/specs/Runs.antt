@@ -13,6 +13,10 @@ is_plain c = not (is_mark c)
 abbrev pub IsPlain : List ℕ → Type 0
 IsPlain cs = IsTrue (list_all is_plain cs)
 
+abbrev pub begins_plain : List ℕ → Bool
+begins_plain [] = false
+begins_plain (c ∷ cs) = is_plain c
+
 -- these characters stand at the front of the cells, and those cells are left
 abbrev pub Fronts : List ℕ → List Cell → List Cell → Type 0
 Fronts cs cells rest = (front : List Cell) × (cells ≡ front ++ rest) × (map (λ (k : Cell). k.0) front ≡ cs)

@@ -2,7 +2,7 @@
 ghost use Rattle.std.specs.Prelude.{◌≡◌, ◌≤◌, ◌<◌, ◌++◌, length, take, get_or, false, IsTrue};
 ghost use Rattle.std.specs.List.{list_all};
 ghost use Rattle.std.specs.Str.{chars};
-ghost use Rattle.ng_base.specs.Runs.{is_plain, IsPlain};
+ghost use Rattle.ng_base.specs.Runs.{is_plain, IsPlain, begins_plain};
 
 /// Whether a byte stands for itself, or is one of a character that does.
 fn is_plain(b: u8) -> bool
@@ -34,6 +34,7 @@ fn plain_length(bytes: &[u8]) -> usize
 pub fn plain_front(text: &str) -> (&str, &str)
     ensures parts { chars text.now ≡ chars result.0.now ++ chars result.1.now }
     ensures plain { IsPlain (chars result.0.now) }
+    ensures longest { begins_plain (chars result.1.now) ≡ false }
 {
     let count = plain_length(text.as_bytes());
     (&text[..count], &text[count..])
