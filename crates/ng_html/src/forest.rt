@@ -1,5 +1,5 @@
 //! Forests.
-ghost use Rattle.std.specs.Prelude.{◌≡◌, OnOk, map};
+ghost use Rattle.std.specs.Prelude.{◌≡◌, OnOk, OnErr, map};
 ghost use Rattle.ng_markup.specs.Forest.{no_nodes, with_node, element, text, comment, forest_from};
 ghost use Rattle.ng_html.specs.Seen.{node_of, forest_of};
 
@@ -40,7 +40,8 @@ impl Forest {
 
     /// Adds a node at the end.
     pub fn push(&mut self, n: Node) -> Result<(), AllocError>
-        ensures { OnOk result (forest_of self.new ≡ with_node (forest_of self.old) (node_of n)) }
+        ensures ok { OnOk result (forest_of self.new ≡ with_node (forest_of self.old) (node_of n)) }
+        ensures err { OnErr result (forest_of self.new ≡ forest_of self.old) }
     {
         self.items.push(n)?;
         Ok(())

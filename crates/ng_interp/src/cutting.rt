@@ -1,5 +1,5 @@
 //! Texts, cut at their holes.
-ghost use Rattle.std.specs.Prelude.{◌≡◌, ◌++◌, ◌∷◌, [], IfOk, OnOk, MatchOption};
+ghost use Rattle.std.specs.Prelude.{◌≡◌, ◌++◌, ◌∷◌, [], IfOk, OnOk, OnErr, MatchOption};
 ghost use Rattle.ng_interp.specs.Cutting.{last_cut, cuts_behind, opened_at, cuts_of};
 ghost use Rattle.ng_interp.specs.Pairs.{NoPair, Pair};
 
@@ -49,7 +49,8 @@ impl Cuts {
 
     /// Adds a cut at the end.
     pub fn push(&mut self, cut: Cut) -> Result<(), AllocError>
-        ensures { OnOk result (self.new ≡ self.old ++ cut ∷ []) }
+        ensures ok { OnOk result (self.new ≡ self.old ++ cut ∷ []) }
+        ensures err { OnErr result (self.new ≡ self.old) }
     {
         self.items.push(cut)?;
         Ok(())

@@ -1,5 +1,5 @@
 //! The parts of a page in the code. `specs/Seen.antt` says which parts of the definitions they stand for.
-ghost use Rattle.std.specs.Prelude.{◌≡◌, ◌++◌, ◌∷◌, [], map, OnOk};
+ghost use Rattle.std.specs.Prelude.{◌≡◌, ◌++◌, ◌∷◌, [], map, OnOk, OnErr};
 ghost use Rattle.ng_pages.specs.Parts.{text_part, comment_part, element_part, no_parts, with_part};
 ghost use Rattle.ng_page.specs.PieceOf.{piece_of};
 ghost use Rattle.ng_page.specs.Seen.{part_of, parts_of};
@@ -44,7 +44,8 @@ impl Pieces {
 
     /// Adds a piece at the end.
     pub fn push(&mut self, piece: Piece) -> Result<(), AllocError>
-        ensures { OnOk result (self.new ≡ self.old ++ piece_of piece ∷ []) }
+        ensures ok { OnOk result (self.new ≡ self.old ++ piece_of piece ∷ []) }
+        ensures err { OnErr result (self.new ≡ self.old) }
     {
         self.items.push(piece)?;
         Ok(())
@@ -91,7 +92,8 @@ impl Parts {
 
     /// Adds a part at the end.
     pub fn push(&mut self, part: Part) -> Result<(), AllocError>
-        ensures { OnOk result (parts_of self.new ≡ with_part (parts_of self.old) (part_of part)) }
+        ensures ok { OnOk result (parts_of self.new ≡ with_part (parts_of self.old) (part_of part)) }
+        ensures err { OnErr result (parts_of self.new ≡ parts_of self.old) }
     {
         self.items.push(part)?;
         Ok(())

@@ -1,5 +1,5 @@
 //! Attributes of an element.
-ghost use Rattle.std.specs.Prelude.{◌≡◌, ◌++◌, ◌∷◌, [], map, OnOk, length};
+ghost use Rattle.std.specs.Prelude.{◌≡◌, ◌++◌, ◌∷◌, [], map, OnOk, OnErr, length};
 ghost use Rattle.ng_tags.specs.Attrs.{attr_of};
 
 use ng_base::txt::Txt;
@@ -40,7 +40,8 @@ impl Attrs {
 
     /// Adds an attribute at the end.
     pub fn push(&mut self, name: Txt, value: Txt) -> Result<(), AllocError>
-        ensures { OnOk result (self.new ≡ self.old ++ (name, value) ∷ []) }
+        ensures ok { OnOk result (self.new ≡ self.old ++ (name, value) ∷ []) }
+        ensures err { OnErr result (self.new ≡ self.old) }
     {
         self.items.push(Attr { name, value })?;
         Ok(())

@@ -10,7 +10,7 @@ use Rattle.ng_page.proofs.compile.+build.Goals as goal
 
 pub parts_at-loop-node-preserved : goal.parts_at-loop-node-preserved
 parts_at-loop-node-preserved t c =
-    ap (λ ps. behind ps (compiled_list (map node_of (drop (c.loop-node.node-index + 1) c.deref-node-items.result.now)) (made_of c.in_ok-part.behind))) c.in_ok-push.ensures
+    ap (λ ps. behind ps (compiled_list (map node_of (drop (c.loop-node.node-index + 1) c.deref-node-items.result.now)) (made_of c.in_ok-part.behind))) c.in_ok-push.ensures.ok
     ∙ (compiled-turn c.deref-node-items.result.now c.loop-node.node-index c.node-item.result (parts_of c.loop-node.parts) (made_of c.loop-node.now) (made_of c.in_ok-part.behind) (part_of c.in_ok-part.part) (omega arith) c.node-item.is c.in_ok-part.ensures
     ∙ c.loop-node.invariant)
 

@@ -13,7 +13,7 @@ use Rattle.ng_page.proofs.draw.+draw.Goals as goal
 pub drawn-loop-part-preserved : goal.drawn-loop-part-preserved
 drawn-loop-part-preserved t c =
     built-turn part_of (drawn_list (kept_texts (state_of c.args.engine.now))) with_node (draw_part (kept_texts (state_of c.args.engine.now))) (drawn-more (kept_texts (state_of c.args.engine.now)))
-    c.deref-part-items.result.now c.loop-part.part-index c.part-item.result _ _ _ (omega arith) c.part-item.is c.loop-part.invariant c.in_ok-drawn_part.ensures c.in_ok-push.ensures
+    c.deref-part-items.result.now c.loop-part.part-index c.part-item.result _ _ _ (omega arith) c.part-item.is c.loop-part.invariant c.in_ok-drawn_part.ensures c.in_ok-push.ensures.ok
 
 pub drawn-returns : goal.drawn-returns
 drawn-returns t c =
