@@ -1,5 +1,6 @@
 pub mod Shorter
 pub mod TextTurns
+pub mod TextRuns
 pub mod Maps
 pub mod AttributeShorter
 pub mod AttributeTurns

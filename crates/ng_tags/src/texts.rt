@@ -1,6 +1,6 @@
 //! Texts with references, up to what ends them.
 ghost use Rattle.ng_tags.specs.Texts as texts;
-ghost use Rattle.std.specs.Prelude.{◌≡◌, IfOk};
+ghost use Rattle.std.specs.Prelude.{◌≡◌, ◌≤◌, length, IfOk};
 
 use crate::fault::{HtmlFault, HtmlKind, met_or};
 use crate::letters::{bare, begins_tag};
@@ -105,6 +105,26 @@ pub fn with_character(d: Decoded, place: usize, read: Option<char>) -> Result<De
     }
 }
 
+/// A text with the characters at the front that stand for themselves. A value without quotes may end among them, so
+/// it takes none of them at once.
+fn with_run<'a>(
+    until: &Until,
+    mut d: Decoded,
+    reader: Reader<'a>,
+) -> Result<(Decoded, Reader<'a>), AllocError>
+    ensures same { IfOk result (λ r. texts.text_from until.now r.0 r.1 ≡ texts.text_from until.now d reader.entry) }
+    ensures shorter { IfOk result (λ r. length r.1 ≤ length reader.entry) }
+{
+    match until {
+        Until::Space => Ok((d, reader)),
+        _ => {
+            let (front, rest) = reader.run();
+            d.text.push_str(front)?;
+            Ok((d, rest))
+        }
+    }
+}
+
 /// A text of which this stands before, up to what ends it.
 #[tactic(auto, using(crate::proofs::TextTurns::text_turns))]
 pub fn read_text<'a>(
@@ -118,7 +138,9 @@ pub fn read_text<'a>(
     while let Some((c, place, rest)) = reader.first() {
         if goes_on(until, c) {
             d.text.push(c)?;
-            reader = rest;
+            let (longer, behind) = with_run(until, d, rest)?;
+            d = longer;
+            reader = behind;
         } else {
             if ends(alloc, until, c, &rest)? {
                 return Ok((d, reader));
