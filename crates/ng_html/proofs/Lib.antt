@@ -1,5 +1,6 @@
 pub mod Forests
 pub mod Prints
+pub mod PlainPrint
 pub mod Lexed
 pub mod Turns
 pub mod Omitted

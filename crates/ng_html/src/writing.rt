@@ -76,26 +76,30 @@ fn push_value_char(into: &mut Vec<u8>, c: char) -> Result<(), AllocError>
     }
 }
 
-#[tactic(auto, using(crate::proofs::Prints::print_steps))]
+#[tactic(auto, using(crate::proofs::Prints::print_steps, crate::proofs::PlainPrint::plain_text))]
 fn push_text(into: &mut Vec<u8>, t: &Txt) -> Result<(), AllocError>
     ensures { OnOk result (into.new.items ≡ into.old.items ++ encode_utf8_all (flat_map text_char t.now)) }
 {
     let mut reader = Plain::new(t.as_str());
     while let Some((c, rest)) = reader.first() {
         push_text_char(into, c)?;
-        reader = rest;
+        let (front, behind) = rest.run();
+        push_str(into, front)?;
+        reader = behind;
     }
     Ok(())
 }
 
-#[tactic(auto, using(crate::proofs::Prints::print_steps))]
+#[tactic(auto, using(crate::proofs::Prints::print_steps, crate::proofs::PlainPrint::plain_value))]
 fn push_value(into: &mut Vec<u8>, t: &Txt) -> Result<(), AllocError>
     ensures { OnOk result (into.new.items ≡ into.old.items ++ encode_utf8_all (flat_map value_char t.now)) }
 {
     let mut reader = Plain::new(t.as_str());
     while let Some((c, rest)) = reader.first() {
         push_value_char(into, c)?;
-        reader = rest;
+        let (front, behind) = rest.run();
+        push_str(into, front)?;
+        reader = behind;
     }
     Ok(())
 }
