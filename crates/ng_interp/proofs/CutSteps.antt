@@ -2,9 +2,11 @@
 use Rattle.std.proofs.Common.{◌≡◌, ◌++◌, ℕ, Bool, true, false, refl, sym, ap, arith, ◌∙◌, cond, List, [], ◌∷◌, Option, None, Some, is_some, length}
 use Rattle.std.proofs.lemmas.List.{append_assoc, append-nil}
 use Rattle.std.proofs.lemmas.Grind.{flat_map-append}
-use Rattle.std.specs.List.{flat_map}
+use Rattle.std.specs.List.{flat_map, list_all}
 use Rattle.std.specs.Prelude.{encode_utf8_all}
 use Rattle.ng_base.specs.Cells.{place}
+use Rattle.ng_base.specs.Runs.{is_plain}
+use Rattle.ng_base.proofs.PlainChars.{both_parts}
 use Rattle.ng_interp.specs.Cutting.{is_pair, last_cut, cuts_behind, opened_at, cut_from, written}
 use Rattle.ng_interp.specs.Pairs.{NoPair, Pair}
 use Rattle.ng_interp.specs.Laws.{CutsSpellText}
@@ -16,6 +18,23 @@ use Rattle.ng_interp.specs.declared.cutting.Opened.{Opened}
 pub one_more : (total : ℕ) (done : List Cut) (o : Option Opened) (t : List ℕ) (c : ℕ) (cs : List ℕ) (b : Bool) → b ≡ is_some o → NoPair b c cs → cut_from total done o t (c ∷ cs) ≡ cut_from total done o (t ++ c ∷ []) cs
 one_more total done o t c [] b i n = refl
 one_more total done o t c (d ∷ cs) b i n = ap (λ x. cond (is_pair x c d) (cut_from total (cuts_behind done o t) (opened_at (place total cs) o t) [] cs) (cut_from total done o (t ++ c ∷ []) (d ∷ cs))) (sym i) ∙ ap (λ b. cond b (cut_from total (cuts_behind done o t) (opened_at (place total cs) o t) [] cs) (cut_from total done o (t ++ c ∷ []) (d ∷ cs))) n
+
+no_mark : (inside : Bool) (c d : ℕ) → is_plain c ≡ true → is_pair inside c d ≡ false
+no_mark true c d p = grind arith
+no_mark false c d p = grind arith
+
+no_pair : (inside : Bool) (c : ℕ) (cs : List ℕ) → is_plain c ≡ true → NoPair inside c cs
+no_pair inside c [] p = tt
+no_pair inside c (d ∷ cs) p = no_mark inside c d p
+
+-- characters that stand for themselves
+pub run_more : (total : ℕ) (done : List Cut) (o : Option Opened) (t us cs : List ℕ) → list_all is_plain us ≡ true → cut_from total done o t (us ++ cs) ≡ cut_from total done o (t ++ us) cs
+run_more total done o t [] cs p = ap (λ x. cut_from total done o x cs) (sym (append-nil t))
+run_more total done o t (u ∷ us) cs p =
+    let both = both_parts (is_plain u) (list_all is_plain us) p in
+    one_more total done o t u (us ++ cs) (is_some o) refl (no_pair (is_some o) u (us ++ cs) both.0)
+    ∙ run_more total done o (t ++ u ∷ []) us cs both.1
+    ∙ ap (λ x. cut_from total done o x cs) (append_assoc t (u ∷ []) us)
 
 -- a pair of marks
 pub pair_more : (total : ℕ) (done : List Cut) (o : Option Opened) (t : List ℕ) (c : ℕ) (cs rest : List ℕ) (b : Bool) → b ≡ is_some o → Pair b c cs rest → cut_from total done o t (c ∷ cs) ≡ cut_from total (cuts_behind done o t) (opened_at (place total rest) o t) [] rest

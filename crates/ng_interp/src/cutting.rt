@@ -131,8 +131,10 @@ pub fn cut_text(alloc: Global, text: &Txt) -> Result<Cuts, AllocError>
     while let Some((c, rest)) = reader.first() {
         match behind_pair(opened.is_some(), c, &rest) {
             None => {
+                let (run, others) = rest.run();
                 words.push(c)?;
-                reader = rest;
+                words.push_str(run)?;
+                reader = others;
             }
             Some(behind) => {
                 let place = total.saturating_sub(behind.left());
