@@ -5,3 +5,4 @@ pub mod Linking
 pub mod Json
 pub mod Builds
 pub mod CoreNames
+pub mod TextRuns

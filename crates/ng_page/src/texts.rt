@@ -36,7 +36,7 @@ pub fn has_mark(text: &Txt) -> bool
             return true;
         }
         after = c == '{';
-        reader = rest;
+        reader = if after { rest } else { rest.run().1 };
     }
     false
 }
@@ -72,7 +72,7 @@ fn has_escape(text: &Txt) -> bool
         if begins_escape(&reader) {
             return true;
         }
-        reader = rest;
+        reader = rest.run().1;
     }
     false
 }
