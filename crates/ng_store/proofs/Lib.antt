@@ -8,3 +8,4 @@ pub mod PlacedSound
 pub mod ArraySound
 pub mod Kept
 pub mod Indices
+pub mod SharedNames

@@ -1,5 +1,6 @@
 //! JSON made into objects, which stand behind those that were there.
 ghost use Rattle.std.specs.Prelude.{◌≡◌, ◌+◌, ◌≤◌, ◌<◌, [], length, vec_len, nat_lt, IfOk, OnOk, OnErr, IfErr};
+ghost use Rattle.std.specs.Str.{chars};
 ghost use Rattle.serde_json.specs.View.{view, items_view, members_view};
 ghost use Rattle.ng_base.specs.declared.fault.Memory.TheVariants.{Refused};
 ghost use Rattle.ng_store.specs.Json.{objects_in, objects_in_items, objects_in_members, placed, placed_items, placed_members, last_made, array_of, plain_of, int_of, whole, with_json};
@@ -7,7 +8,7 @@ ghost use Rattle.ng_store.specs.ObjectOf.{objects_of};
 
 use crate::json::whole;
 use crate::stored::{Stored, put_property};
-use indexmap::IndexMap;
+use indexmap::{IndexMap, IndexSet};
 use ng_base::fault::Memory;
 use ng_base::heap::ObjKind;
 use ng_base::name::Oid;
@@ -15,6 +16,9 @@ use ng_base::txt::Txt;
 use ng_base::value::Value;
 use serde_json::{Map, Number, Value as Json};
 use std::alloc::Global;
+
+/// How many names are kept to be shared.
+const SHARED_NAMES: usize = 1_000;
 
 /// A number that is whole.
 fn number(n: &Number) -> Value
@@ -24,6 +28,21 @@ fn number(n: &Number) -> Value
         Some(n) => Value::Int(n),
         None => Value::Undefined,
     }
+}
+
+/// The text of a name, which objects share, so that records with the same names take no memory for them.
+fn shared_name(alloc: Global, names: &mut IndexSet<Txt>, name: &str) -> Result<Txt, Memory>
+    ensures name { IfOk result (λ t. t ≡ chars name.now) }
+    ensures refused { IfErr result (λ e. e ≡ Refused) }
+{
+    let name = Txt::from_str(alloc, name)?;
+    if let Some(known) = names.get(&name) {
+        return Ok(known.copied()?);
+    }
+    if names.len() < SHARED_NAMES {
+        names.insert(name.copied()?)?;
+    }
+    Ok(name)
 }
 
 /// An array behind the objects that were made.
@@ -76,6 +95,7 @@ pub(crate) fn place(
     alloc: Global,
     base: usize,
     made: &mut Vec<Stored>,
+    names: &mut IndexSet<Txt>,
     v: &Json,
 ) -> Result<Value, Memory>
     requires { base + vec_len made.old + objects_in (view v.now) ≤ 1000000 }
@@ -89,11 +109,11 @@ pub(crate) fn place(
         Json::Number(n) => Ok(number(n)),
         Json::String(s) => Ok(Value::Text(Txt::from_str(alloc, s.as_str())?)),
         Json::Array(items) => {
-            let items = place_items(alloc, base, made, items.as_slice())?;
+            let items = place_items(alloc, base, made, names, items.as_slice())?;
             put_array(alloc, base, made, items)
         }
         Json::Object(members) => {
-            let properties = place_members(alloc, base, made, members)?;
+            let properties = place_members(alloc, base, made, names, members)?;
             put_object(alloc, base, made, properties)
         }
     }
@@ -104,6 +124,7 @@ fn place_items(
     alloc: Global,
     base: usize,
     made: &mut Vec<Stored>,
+    names: &mut IndexSet<Txt>,
     items: &[Json],
 ) -> Result<Vec<Value>, Memory>
     requires { base + vec_len made.old + objects_in_items (items_view items.now) ≤ 1000000 }
@@ -111,9 +132,9 @@ fn place_items(
     ensures count { OnOk result (vec_len made.new ≡ vec_len made.old + objects_in_items (items_view items.now)) }
     ensures refused { IfErr result (λ e. e ≡ Refused) }
 {
-    let mut done = Vec::new(alloc);
+    let mut done = Vec::with_capacity(alloc, items.len())?;
     for item in items {
-        done.push(place(alloc, base, made, item)?)?;
+        done.push(place(alloc, base, made, names, item)?)?;
     }
     Ok(done)
 }
@@ -123,6 +144,7 @@ fn place_members(
     alloc: Global,
     base: usize,
     made: &mut Vec<Stored>,
+    names: &mut IndexSet<Txt>,
     members: &Map<String, Json>,
 ) -> Result<IndexMap<Txt, Value>, Memory>
     requires { base + vec_len made.old + objects_in_members (members_view members.now.entries) ≤ 1000000 }
@@ -132,10 +154,11 @@ fn place_members(
 {
     let mut done = IndexMap::new(alloc);
     for (key, v) in members {
-        let value = place(alloc, base, made, v)?;
-        let name = Txt::from_str(alloc, key.as_str())?;
+        let value = place(alloc, base, made, names, v)?;
+        let name = shared_name(alloc, names, key.as_str())?;
         done.insert(name, value)?;
     }
+    done.shrink_to_fit();
     Ok(done)
 }
 
@@ -155,8 +178,9 @@ pub(crate) fn add(alloc: Global, objects: &mut Vec<Stored>, v: &Json) -> Result<
     ensures unchanged { OnErr result (objects.new.items ≡ objects.old.items) }
     ensures refused { IfErr result (λ e. e ≡ Refused) }
 {
-    let mut made = Vec::new(alloc);
-    let value = place(alloc, objects.len(), &mut made, v)?;
+    let mut made = Vec::with_capacity(alloc, crate::json::count(v) as usize)?;
+    let mut names = IndexSet::new(alloc);
+    let value = place(alloc, objects.len(), &mut made, &mut names, v)?;
     objects.append(&mut made)?;
     Ok(value)
 }
