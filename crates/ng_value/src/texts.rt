@@ -75,8 +75,8 @@ fn push_more(out: &mut Txt, views: &[View]) -> Result<(), Memory>
     Ok(())
 }
 
-/// A value as a text: items are joined by `,`.
-pub fn to_text<H: Heap>(alloc: Global, h: &H, v: &View) -> Result<Txt, Fault>
+/// The text of what is unfolded of a value.
+fn unfolded_text<H: Heap>(alloc: Global, h: &H, v: &View) -> Result<Txt, Fault>
     requires { ViewStands (length (H.objects h.now)) (view_of v.now) }
     ensures { Meets is_memory (to_text (H.objects h.now) (view_of v.now)) result }
 {
@@ -84,6 +84,18 @@ pub fn to_text<H: Heap>(alloc: Global, h: &H, v: &View) -> Result<Txt, Fault>
     let mut out = Txt::new(alloc);
     push_text(&mut out, &view)?;
     Ok(out)
+}
+
+/// A value as a text: items are joined by `,`. A text is shared and not built again.
+#[tactic(auto, unfolding(ng_language::specs::Unfolding::level_limit, ng_language::specs::Unfolding::node_limit))]
+pub fn to_text<H: Heap>(alloc: Global, h: &H, v: &View) -> Result<Txt, Fault>
+    requires { ViewStands (length (H.objects h.now)) (view_of v.now) }
+    ensures { Meets is_memory (to_text (H.objects h.now) (view_of v.now)) result }
+{
+    match v {
+        View::Prim(Value::Text(t)) => Ok(t.copied()?),
+        _ => unfolded_text(alloc, h, v),
+    }
 }
 
 /// A value as JSON, each item on a line of its own where there is an indent.
