@@ -1,19 +1,16 @@
 -- Changed items keep a store sound.
-use Rattle.std.proofs.Common.{◌≡◌, ◌<◌, ◌≤◌, ◌+◌, ◌-◌, ◌^◌, ℕ, zero, suc, Bool, true, false, List, [], ◌∷◌, ◌++◌, length, take, drop, get_or, reverse, slice_range, refl, sym, ap, subst, ◌∙◌, arith, nat_lt, if◌then◌else◌, length-append, length-take, length-drop}
+use Rattle.std.proofs.Common.{◌≡◌, ◌<◌, ◌≤◌, ◌+◌, ◌-◌, ◌^◌, ℕ, zero, suc, Bool, true, false, List, [], ◌∷◌, ◌++◌, length, take, drop, get_or, reverse, slice_range, refl, arith, nat_lt, if◌then◌else◌, length-append, length-take, length-drop}
 use Rattle.std.specs.Prelude.{Result, Ok, Err}
 use Rattle.std.proofs.Math.ListN.{set}
 use Rattle.std.proofs.lemmas.List.{length-set, length-reverse}
 use mathlib.Core.List.{reverse_aux}
 use Rattle.std.proofs.lemmas.Bool.Decides.{nat_tests}
 use Rattle.std.specs.List.{AllByRecursion, splice}
-use Rattle.ng_base.specs.Objects.{Object, object_at, StandsAmong}
+use Rattle.ng_base.specs.Objects.{Object, StandsAmong}
 use Rattle.ng_base.specs.declared.fault.Memory.{Memory}
 use Rattle.ng_base.specs.declared.value.Value.{Value}
-use Rattle.ng_base.specs.declared.value.Value.TheVariants as value
-use Rattle.ng_language.specs.Objects.{IsObjectAt, AreObjects, set_items, items_at, with_items, first_item, last_item}
+use Rattle.ng_language.specs.Objects.{AreObjects, set_items, items_at, with_items}
 use Rattle.ng_store.specs.Answers.{where_short}
-use Rattle.ng_store.specs.ObjectOf.{objects_of}
-use Rattle.ng_store.specs.declared.stored.Stored.{Stored}
 use Rattle.ng_store.proofs.ObjectReads.{object_is}
 use Rattle.ng_store.proofs.Sound.{sound_updated, is_with_items, all_append, all_take, all_drop, length-update_at}
 

@@ -1,5 +1,5 @@
 -- A name that is an index is the decimal of its number; the names of an object are its properties' names in another order.
-use Rattle.std.proofs.Common.{◌≡◌, ◌∙◌, ◌<◌, ◌≤◌, ◌+◌, ◌-◌, ◌*◌, ◌/◌, ◌%◌, ◌&&◌, ◌==◌, ℕ, zero, suc, Bool, true, false, List, [], ◌∷◌, ◌++◌, map, refl, sym, ap, subst, arith, bytes_eq, nat_le, nat_lt, if◌then◌else◌, is_some, Option, Some, None, true≢false, append-nil, append_assoc, Ordering, Less, Equal, Greater, nat_cmp, decimal}
+use Rattle.std.proofs.Common.{◌≡◌, ◌∙◌, ◌<◌, ◌≤◌, ◌+◌, ◌-◌, ◌*◌, ◌/◌, ◌%◌, ◌&&◌, ◌==◌, ℕ, Bool, true, false, List, [], ◌∷◌, ◌++◌, map, refl, sym, ap, subst, arith, bytes_eq, nat_le, nat_lt, if◌then◌else◌, is_some, Option, Some, None, true≢false, append-nil, append_assoc, Ordering, Less, Equal, Greater, nat_cmp, decimal}
 use Rattle.std.proofs.lemmas.Fmt.{decimal_step, decimal_digit}
 use Rattle.std.proofs.lemmas.Bool.{eqb-true}
 use Rattle.std.proofs.lemmas.Bool.Decides.{nat_tests}

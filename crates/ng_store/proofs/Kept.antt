@@ -1,12 +1,12 @@
 -- What a change of one object leaves as it is.
-use Rattle.std.proofs.Common.{◌≡◌, ◌∙◌, ◌<◌, ℕ, zero, suc, Bool, true, false, cond, List, [], ◌∷◌, length, refl, sym, ap, arith, bytes_eq, if◌then◌else◌, Option, Some, None, true≢false, subst, slice_get}
+use Rattle.std.proofs.Common.{◌≡◌, ◌∙◌, ◌<◌, ℕ, zero, suc, Bool, true, false, cond, List, [], ◌∷◌, length, refl, sym, ap, arith, bytes_eq, if◌then◌else◌, Option, Some, None, subst, slice_get}
 use Rattle.std.specs.Prelude.{option_and_then, IsSome}
 use Rattle.std.proofs.lemmas.Slice.Eq.{bytes_eq-Decides}
 use Rattle.std.specs.Map.{lookup}
 use Rattle.indexmap.specs.IndexMap.{insert_entry}
 use Rattle.ng_base.specs.Objects.{Object, object_at, own, own_of, is_array, index_of}
 use Rattle.ng_base.specs.declared.value.Value.{Value}
-use Rattle.ng_language.specs.Objects.{look, proto_of, or_else_at, look_within, update_at, with_property, set_name}
+use Rattle.ng_language.specs.Objects.{look, update_at, with_property, set_name}
 use Rattle.ng_store.proofs.Looks.{looks_found}
 use Rattle.ng_store.proofs.Sound.{Property, unequal}
 

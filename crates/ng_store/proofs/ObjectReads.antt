@@ -1,8 +1,8 @@
 -- What the object at a place has.
-use Rattle.std.proofs.Common.{◌≡◌, ◌<◌, ◌+◌, ℕ, zero, suc, List, [], ◌∷◌, ◌++◌, length, get_or, map, sym, ap, ◌∙◌, arith, refl, subst, Option, Some, None, add-zero, add-suc}
-use Rattle.ng_base.specs.Objects.{Object, object_at, own_of, own}
+use Rattle.std.proofs.Common.{◌≡◌, ◌<◌, ◌+◌, ℕ, zero, suc, List, [], ◌∷◌, ◌++◌, length, get_or, sym, ap, ◌∙◌, arith, refl, subst, add-zero}
+use Rattle.ng_base.specs.Objects.{Object, object_at}
 use Rattle.ng_base.specs.declared.value.Value.{Value}
-use Rattle.ng_language.specs.Objects.{proto_of, IsObjectAt, AreObjectsFrom, AreObjects, with_items, set_items, items_at}
+use Rattle.ng_language.specs.Objects.{IsObjectAt, AreObjectsFrom, AreObjects, with_items, set_items, items_at}
 use Rattle.std.proofs.Math.ListN.{set}
 use Rattle.ng_store.proofs.Changes.{objects_of-set}
 use Rattle.ng_store.specs.ObjectOf.{object_of, objects_of}

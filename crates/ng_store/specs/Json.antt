@@ -8,7 +8,6 @@ use Rattle.indexmap.specs.IndexMap.{insert_entry}
 use Rattle.ng_base.specs.Objects.{Object}
 use Rattle.ng_base.specs.declared.heap.ObjKind.TheVariants as kinds
 use Rattle.ng_base.specs.declared.fault.Memory.TheVariants.{Worn}
-use Rattle.ng_base.specs.declared.name.Oid.{Oid}
 use Rattle.ng_base.specs.declared.value.Value.{Value}
 use Rattle.ng_base.specs.declared.value.Value.TheVariants as value
 use Rattle.ng_language.specs.Numbers.{is_in_range}

@@ -1,10 +1,8 @@
-use Rattle.std.proofs.Common.{◌≡◌, ◌-◌, ◌++◌, ◌∷◌, [], sym, ap, arith, option_map, length, take, drop, reverse, set, List}
+use Rattle.std.proofs.Common.{◌-◌, ap, arith, option_map, length, take, List}
 use Rattle.ng_base.specs.Objects.{Object}
 use Rattle.ng_base.specs.declared.name.Oid.{Oid}
 use Rattle.ng_base.specs.declared.value.Value.{Value}
-use Rattle.ng_store.specs.ObjectOf.{object_of}
 use Rattle.ng_store.proofs.ObjectReads.{items_changed}
-use Rattle.ng_store.proofs.Changes.{objects_of-set_same, at_error}
 use Rattle.ng_store.proofs.arrays.pop.Goals as goal
 
 pub returns-clause-popped : goal.returns-clause-popped

@@ -1,4 +1,4 @@
-use Rattle.std.proofs.Common.{◌≡◌, ◌∙◌, ◌-◌, ◌++◌, ◌∷◌, [], sym, ap, arith, option_map, length, take, drop, reverse, set, List}
+use Rattle.std.proofs.Common.{◌∙◌, ◌++◌, ◌∷◌, [], ap, arith, option_map, List}
 use Rattle.ng_base.specs.Objects.{Object}
 use Rattle.ng_base.specs.declared.name.Oid.{Oid}
 use Rattle.ng_base.specs.declared.value.Value.{Value}

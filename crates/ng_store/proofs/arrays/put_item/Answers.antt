@@ -1,11 +1,8 @@
-use Rattle.std.proofs.Common.{◌≡◌, ◌∙◌, ◌+◌, refl, ap, arith, option_map, reverse, slice_set, List}
-use Rattle.std.specs.List.{splice}
+use Rattle.std.proofs.Common.{refl, ap, arith, option_map, slice_set, List}
 use Rattle.ng_base.specs.Objects.{Object}
 use Rattle.ng_base.specs.declared.name.Oid.{Oid}
 use Rattle.ng_base.specs.declared.value.Value.{Value}
-use Rattle.ng_store.specs.ObjectOf.{object_of}
 use Rattle.ng_store.proofs.ObjectReads.{items_changed}
-use Rattle.ng_store.proofs.Changes.{objects_of-set_same, at_error}
 use Rattle.ng_store.proofs.arrays.put_item.Goals as goal
 
 pub returns : goal.returns

@@ -1,4 +1,4 @@
-use Rattle.std.proofs.Common.{◌≡◌, ◌∙◌, ◌+◌, refl, ap, arith, option_map, reverse, slice_set, List}
+use Rattle.std.proofs.Common.{◌∙◌, ◌+◌, ap, arith, option_map, List}
 use Rattle.std.specs.List.{splice}
 use Rattle.ng_base.specs.Objects.{Object}
 use Rattle.ng_base.specs.declared.name.Oid.{Oid}

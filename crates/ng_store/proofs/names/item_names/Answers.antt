@@ -1,4 +1,4 @@
-use Rattle.std.proofs.Common.{◌≡◌, sym, decimal, zero-add}
+use Rattle.std.proofs.Common.{sym, decimal, zero-add}
 use Rattle.std.proofs.lemmas.List.FromFn.{map-range_with_len_more}
 use Rattle.ng_store.proofs.names.item_names.Goals as goal
 

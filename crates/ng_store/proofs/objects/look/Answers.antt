@@ -1,5 +1,5 @@
-use Rattle.std.proofs.Common.{◌≡◌, ◌<◌, ◌∙◌, sym, ap, arith, rules, refl, None, Some, option_map, length}
-use Rattle.ng_base.specs.Objects.{own, own_of, object_at}
+use Rattle.std.proofs.Common.{◌≡◌, ◌<◌, ◌∙◌, sym, ap, arith, rules, None, Some, option_map, length}
+use Rattle.ng_base.specs.Objects.{own, own_of}
 use Rattle.ng_base.specs.declared.name.Oid.{Oid}
 use Rattle.ng_language.specs.Objects.{proto_of}
 use Rattle.ng_store.specs.ObjectOf.{object_of, objects_of}

@@ -1,4 +1,4 @@
-use Rattle.std.proofs.Common.{◌≡◌, ◌∙◌, sym, ap, arith, rules, refl, option_map}
+use Rattle.std.proofs.Common.{◌∙◌, ap, arith, option_map}
 use Rattle.ng_base.specs.Objects.{Object}
 use Rattle.ng_base.specs.declared.name.Oid.{Oid}
 use Rattle.ng_language.specs.Objects.{with_property}

@@ -1,4 +1,4 @@
-use Rattle.std.proofs.Common.{◌≡◌, ◌+◌, ◌≤◌, drop, [], vec_len}
+use Rattle.std.proofs.Common.{◌≡◌, ◌+◌, drop, [], vec_len}
 use Rattle.serde_json.specs.View.{items_view, members_view}
 use Rattle.ng_store.specs.Json.{placed_items, placed_members, objects_in_items, objects_in_members}
 use Rattle.ng_store.specs.ObjectOf.{objects_of}

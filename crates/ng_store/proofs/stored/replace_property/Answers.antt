@@ -1,4 +1,4 @@
-use Rattle.std.proofs.Common.{◌≡◌, ◌∙◌, sym, bytes_eq}
+use Rattle.std.proofs.Common.{◌∙◌, sym, bytes_eq}
 use Rattle.ng_store.proofs.Properties.{insert_entry_there}
 use Rattle.ng_store.proofs.stored.replace_property.Goals as goal
 

@@ -1,6 +1,3 @@
-use Rattle.std.proofs.Common.{◌≡◌, ◌<◌, ◌∙◌, sym, ap, subst, List, length}
-use Rattle.ng_base.specs.Objects.{Object, StandsAmong}
-use Rattle.ng_store.specs.ObjectOf.{objects_of}
 use Rattle.ng_store.proofs.Looks.{look_stands}
 use Rattle.ng_store.proofs.store.Store.look.Goals as goal
 

@@ -1,8 +1,8 @@
-use Rattle.std.proofs.Common.{◌≡◌, ◌<◌, ◌∙◌, sym, ap, subst, List, length, option_map, Option, ℕ}
+use Rattle.std.proofs.Common.{◌≡◌, ◌<◌, sym, ap, subst, List, length, option_map, Option, ℕ}
 use Rattle.std.specs.Option.{IfSome}
 use Rattle.ng_base.specs.Objects.{Object}
 use Rattle.ng_base.specs.declared.name.Oid.{Oid}
-use Rattle.ng_language.specs.Objects.{AreObjects, new_object}
+use Rattle.ng_language.specs.Objects.{new_object}
 use Rattle.ng_store.specs.ObjectOf.{objects_of}
 use Rattle.ng_store.proofs.ObjectReads.{objects_of-push}
 use Rattle.ng_store.proofs.Sound.{sound_behind, is_new_object, proto_stands}

@@ -1,6 +1,5 @@
-use Rattle.std.proofs.Common.{◌≡◌, ◌∙◌, sym, ap, subst, List, length, false}
+use Rattle.std.proofs.Common.{◌≡◌, ◌∙◌, sym, subst, false}
 use Rattle.serde_json.specs.View.{view}
-use Rattle.ng_base.specs.Objects.{Object}
 use Rattle.ng_language.specs.Objects.{AreObjects}
 use Rattle.ng_store.specs.Json.{is_long}
 use Rattle.ng_store.specs.ObjectOf.{objects_of}

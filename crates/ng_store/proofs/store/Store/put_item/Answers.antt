@@ -1,7 +1,6 @@
-use Rattle.std.proofs.Common.{◌≡◌, ◌<◌, ◌+◌, ◌-◌, ◌∙◌, ◌^◌, sym, ap, subst, List, length, take, drop, reverse, set}
+use Rattle.std.proofs.Common.{◌≡◌, ◌<◌, sym, ap, subst, List, length}
 use Rattle.ng_base.specs.Objects.{Object, StandsAmong}
-use Rattle.ng_base.specs.declared.value.Value.TheVariants as value
-use Rattle.ng_language.specs.Objects.{AreObjects, items_at, set_items}
+use Rattle.ng_language.specs.Objects.{AreObjects, items_at}
 use Rattle.ng_store.specs.ObjectOf.{objects_of}
 use Rattle.ng_store.proofs.ArraySound.{are_items, sound_items, items_set}
 use Rattle.ng_store.proofs.store.Store.put_item.Goals as goal

@@ -1,4 +1,4 @@
-use Rattle.std.proofs.Common.{◌≡◌, sym, ap, subst, List, length}
+use Rattle.std.proofs.Common.{sym, ap, subst, List, length}
 use Rattle.ng_base.specs.Objects.{Object, StandsAmong}
 use Rattle.ng_language.specs.Objects.{AreObjects, with_property}
 use Rattle.ng_store.specs.ObjectOf.{objects_of}

@@ -1,7 +1,6 @@
-use Rattle.std.proofs.Common.{◌≡◌, ◌<◌, ◌≤◌, ◌+◌, ◌-◌, ◌∙◌, ◌^◌, sym, ap, subst, List, length, take, drop, reverse, set}
-use Rattle.ng_base.specs.Objects.{Object, StandsAmong}
-use Rattle.ng_base.specs.declared.value.Value.TheVariants as value
-use Rattle.ng_language.specs.Objects.{AreObjects, items_at, set_items}
+use Rattle.std.proofs.Common.{◌≡◌, ◌<◌, ◌≤◌, ◌+◌, sym, ap, subst, List, length}
+use Rattle.ng_base.specs.Objects.{Object}
+use Rattle.ng_language.specs.Objects.{AreObjects, items_at}
 use Rattle.ng_store.specs.ObjectOf.{objects_of}
 use Rattle.ng_store.proofs.ArraySound.{AllStand, are_items, sound_items, kept_short, kept_value, items_spliced, range_stands, length-set_items}
 use Rattle.ng_store.proofs.store.Store.splice.Goals as goal
