@@ -1,5 +1,5 @@
 -- Characters that stand for themselves begin neither a hole nor braces behind backslashes.
-use Rattle.std.proofs.Common.{◌≡◌, ◌++◌, ◌==◌, ◌∙◌, ap, ℕ, Bool, true, false, cond, refl, arith, List, [], ◌∷◌}
+use Rattle.std.proofs.Common.{◌≡◌, ◌++◌, ◌==◌, ◌∙◌, ap, ℕ, true, false, cond, refl, arith, List, [], ◌∷◌}
 use Rattle.std.specs.List.{list_all}
 use Rattle.ng_base.specs.Runs.{is_plain}
 use Rattle.ng_base.proofs.PlainChars.{both_parts}

@@ -1,4 +1,4 @@
-use Rattle.std.proofs.Common.{rules, ap, sym, ◌∙◌}
+use Rattle.std.proofs.Common.{rules, ap, sym, ◌∙◌, false}
 use Rattle.std.specs.Str.{chars}
 use Rattle.ng_page.specs.Texts.{has_mark_from}
 use Rattle.ng_page.proofs.TextRuns.{mark_behind}
