@@ -42,7 +42,7 @@ fn keys_at(
     ensures keys { IfOk result (λ keys. keys.items ≡ keys_at store.now predicates.now (seen v.entry)) }
     ensures refused { IfErr result (λ e. e ≡ Refused) }
 {
-    let mut done = Vec::new(alloc);
+    let mut done = Vec::with_capacity(alloc, predicates.len())?;
     for p in predicates {
         done.push(key_of(alloc, member_at(store, v, &p.path))?)?;
     }
@@ -60,8 +60,9 @@ fn rows(
     ensures rows { IfOk result (λ rows. map row_seen rows.items ≡ map (with_keys store.now predicates.now) (items store.now (seen v.entry))) }
     ensures refused { IfErr result (λ e. e ≡ Refused) }
 {
-    let mut done = Vec::new(alloc);
-    for i in 0..count(store, v) {
+    let count = count(store, v);
+    let mut done = Vec::with_capacity(alloc, count)?;
+    for i in 0..count {
         let keys = keys_at(alloc, store, item(store, v, i), predicates)?;
         done.push(Row {
             item: copied_item(alloc, store, v, i)?,
