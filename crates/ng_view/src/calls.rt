@@ -93,19 +93,15 @@ pub(crate) fn method_value(
     ensures stands { IfOk result (λ w. ViewStands (length store.now) (view_of w)) }
 {
     let empty = Txt::new(alloc);
+    let missing = undefined();
+    let first = argument(args, 0, &missing);
     match method {
-        Method::IndexOf => {
-            let x = argument(alloc, args, 0)?;
-            Ok(place_or_none(place_of(store, v, &x))?)
-        }
+        Method::IndexOf => Ok(place_or_none(place_of(store, v, first))?),
         Method::Slice => Ok(list_view(slice(alloc, store, v, args)?)),
         Method::Concat => Ok(list_view(concat(alloc, store, v, args)?)),
-        Method::Join => {
-            let between = argument(alloc, args, 0)?;
-            Ok(text_view(join(alloc, store, v, &between)?))
-        }
+        Method::Join => Ok(text_view(join(alloc, store, v, first)?)),
         Method::Find => {
-            let wanted = to_text(alloc, store, &argument(alloc, args, 0)?)?;
+            let wanted = to_text(alloc, store, first)?;
             Ok(place_or_none(find(text_in(v, &empty), &wanted)?)?)
         }
         Method::Trim => Ok(text_view(trim(alloc, text_in(v, &empty))?)),

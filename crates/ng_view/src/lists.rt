@@ -6,10 +6,11 @@ ghost use Rattle.ng_base.specs.Meets.{Meets, Gives};
 ghost use Rattle.ng_base.specs.Views.{list, views_from, views_list};
 ghost use Rattle.ng_base.specs.ViewOf.{view_of, views_of};
 ghost use Rattle.ng_language.specs.Views.{ViewStands};
+ghost use Rattle.ng_view.specs.Members.{undefined};
 ghost use Rattle.ng_view.specs.Methods.{items_of, place_of, place_or_none, argument, from_end, place_at, sliced, parts_of, concatenated, separator, part_text, joined_behind, joined_items, joined};
 
 use crate::items::{append_items, is_item, is_list, item_at, items_count};
-use crate::members::{count, view_at};
+use crate::members::{count, undefined};
 use ng_base::fault::{Fault, Memory};
 use ng_base::txt::Txt;
 use ng_base::value::Value;
@@ -29,12 +30,25 @@ pub(crate) fn list_view(views: Views) -> View
     View::of_list(views)
 }
 
-/// An argument; one that is missing is undefined.
-pub(crate) fn argument(alloc: Global, args: &Views, i: usize) -> Result<View, Memory>
-    ensures stands { (n : ℕ) → AllByRecursion (ViewStands n) (views_list (views_of args.now)) → IfOk result (λ v. ViewStands n (view_of v)) }
-    ensures value { IfOk result (λ v. view_of v ≡ argument (views_list (views_of args.now)) i) }
+/// The view at a place of some views; one that is missing is undefined.
+fn view_or<'a>(views: &'a [View], i: usize, missing: &'a View) -> &'a View
+    requires { view_of missing.now ≡ undefined }
+    ensures { view_of result.now ≡ argument (map view_of views.now) i }
 {
-    view_at(alloc, args.as_slice(), i)
+    match views.get(i) {
+        Some(v) => v,
+        None => missing,
+    }
+}
+
+/// An argument; one that is missing is undefined.
+#[tactic(auto, using(crate::proofs::Stand::one_stands))]
+pub(crate) fn argument<'a>(args: &'a Views, i: usize, missing: &'a View) -> &'a View
+    requires { view_of missing.now ≡ undefined }
+    ensures stands { (n : ℕ) → AllByRecursion (ViewStands n) (views_list (views_of args.now)) → ViewStands n (view_of result.now) }
+    ensures value { view_of result.now ≡ argument (views_list (views_of args.now)) i }
+{
+    view_or(args.as_slice(), i, missing)
 }
 
 /// The first item that is the same by `===`.
@@ -92,9 +106,10 @@ pub(crate) fn slice(alloc: Global, store: &Store, v: &View, args: &Views) -> Res
     ensures stands { IfOk result (λ all. AllByRecursion (ViewStands (length store.now)) (views_list (views_of all))) }
     ensures items { IfOk result (λ all. views_list (views_of all) ≡ sliced (views_list (views_of args.now)) (items_of store.now (view_of v.now))) }
 {
+    let missing = undefined();
     let n = items_count(store, v);
-    let from = place_at(0, n, &argument(alloc, args, 0)?);
-    let to = place_at(n, n, &argument(alloc, args, 1)?);
+    let from = place_at(0, n, argument(args, 0, &missing));
+    let to = place_at(n, n, argument(args, 1, &missing));
     let done = Views::new(alloc);
     if from >= to {
         return Ok(done);

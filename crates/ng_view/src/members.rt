@@ -112,7 +112,7 @@ fn text_member(alloc: Global, t: &Txt, name: &Txt) -> Result<View, Memory>
 }
 
 /// The view at a place of a fresh list.
-pub(crate) fn view_at(alloc: Global, views: &[View], i: usize) -> Result<View, Memory>
+fn view_at(alloc: Global, views: &[View], i: usize) -> Result<View, Memory>
     ensures value { IfOk result (λ v. view_of v ≡ view_or_undefined (slice_get (map view_of views.now) i)) }
 {
     match views.get(i) {
