@@ -29,8 +29,33 @@ fn push_piece(into: &mut Txt, engine: &Engine, piece: &Piece) -> Result<(), Allo
     Ok(())
 }
 
+/// What a piece shows, shared with what holds it.
+fn piece_text(alloc: Global, engine: &Engine, piece: &Piece) -> Result<Txt, AllocError>
+    ensures { IfOk result (λ t. t ≡ draw_piece (kept_texts (state_of engine.now)) (piece_of piece.now)) }
+{
+    match piece {
+        Piece::Word(word) => word.copied(),
+        Piece::Hole(number) => match engine.kept(*number) {
+            Some(kept) => kept.copied(),
+            None => Ok(Txt::new(alloc)),
+        },
+    }
+}
+
 /// The text that the pieces show.
+#[tactic(auto, using(crate::proofs::Draws::one_shown))]
 fn draw_text(alloc: Global, engine: &Engine, pieces: &Pieces) -> Result<Txt, AllocError>
+    ensures { IfOk result (λ t. t ≡ flat_map (draw_piece (kept_texts (state_of engine.now))) pieces.now) }
+{
+    let all = pieces.as_slice();
+    if all.len() == 1 {
+        return piece_text(alloc, engine, &all[0]);
+    }
+    joined_text(alloc, engine, pieces)
+}
+
+/// What pieces show, one behind the other.
+fn joined_text(alloc: Global, engine: &Engine, pieces: &Pieces) -> Result<Txt, AllocError>
     ensures { IfOk result (λ t. t ≡ flat_map (draw_piece (kept_texts (state_of engine.now))) pieces.now) }
 {
     let mut text = Txt::new(alloc);
