@@ -17,11 +17,10 @@ abbrev pub begins_plain : List ℕ → Bool
 begins_plain [] = false
 begins_plain (c ∷ cs) = is_plain c
 
+-- cells as they read
+abbrev pub characters : List Cell → List ℕ
+characters cells = map (λ (k : Cell). k.0) cells
+
 -- these characters stand at the front of the cells, and those cells are left
 abbrev pub Fronts : List ℕ → List Cell → List Cell → Type 0
-Fronts cs cells rest = (front : List Cell) × (cells ≡ front ++ rest) × (map (λ (k : Cell). k.0) front ≡ cs)
-
--- whether a return stands before what follows these characters, where it stood before them or not
-abbrev pub after_plain : Bool → List ℕ → Bool
-after_plain b [] = b
-after_plain b (c ∷ cs) = false
+Fronts cs cells rest = (front : List Cell) × (cells ≡ front ++ rest) × (characters front ≡ cs)
