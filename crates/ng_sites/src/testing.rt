@@ -1,10 +1,11 @@
 //! What a test and a fire of a watcher do.
-ghost use Rattle.std.specs.Prelude.{◌≡◌, ◌<◌, None, Some, map, length, find, slice_set, slice_index_or, true, Err, IfOk, OnOk, option_map};
+ghost use Rattle.std.specs.Prelude.{◌≡◌, ◌<◌, [], None, Some, map, length, find, slice_set, slice_index_or, true, Err, IfOk, OnOk, option_map};
 ghost use Rattle.std.specs.List.{range_with_len};
 ghost use Rattle.std.specs.List.Sorted.{IsStrictlySortedBy};
 ghost use Rattle.std.specs.Ordering.{nat_cmp};
 ghost use Rattle.ng_base.specs.Faults.{is_memory};
-ghost use Rattle.ng_base.specs.Meets.{Meets};
+ghost use Rattle.ng_base.specs.Meets.{Meets, Gives};
+ghost use Rattle.ng_base.specs.ViewOf.{view_of};
 ghost use Rattle.ng_digest.specs.Log.{zero_log};
 ghost use Rattle.ng_digest.specs.Causes.{Unless};
 ghost use Rattle.ng_digest.specs.Early.{plain_of, plain_answer};
@@ -12,12 +13,15 @@ ghost use Rattle.ng_digest.specs.Machine.{above};
 ghost use Rattle.ng_digest.specs.Place.{Answers, OnTested};
 ghost use Rattle.ng_digest.specs.Plain.{PlainDigests};
 ghost use Rattle.ng_digest.specs.declared.world.Stage.TheVariants.{Between};
+ghost use Rattle.ng_language.specs.Texts.{show_text};
+ghost use Rattle.ng_language.specs.Views.{ViewStands};
 ghost use Rattle.ng_sites.specs.Now.{now};
-ghost use Rattle.ng_sites.specs.Sites.{no_site, marked, keeping, one_more_fault, page_machine, verdict, tested, fired, tell, unset, readied, is_kept, still, linked};
+ghost use Rattle.ng_sites.specs.Sites.{no_site, marked, keeping, one_more_fault, page_machine, verdict, tested, fired, tell, unset, readied, still, linked};
 ghost use Rattle.ng_sites.specs.Settled.{IsSettled, HasSameData, kept_at, key_below};
 ghost use Rattle.ng_sites.specs.SiteOf.{site_of};
 ghost use Rattle.ng_sites.specs.WatchedOf.{watched_of};
 ghost use Rattle.ng_sites.specs.PlaceOf.{state_of, place_of, with_state};
+ghost use Rattle.ng_view.specs.Evaluation.{evaluated_program};
 
 use crate::engine::Engine;
 use crate::site::Site;
@@ -26,6 +30,8 @@ use ng_base::fault::{Fault, Memory};
 use ng_base::locals::Locals;
 use ng_base::name::Oid;
 use ng_base::txt::Txt;
+use ng_base::value::Value;
+use ng_base::view::View;
 use ng_digest::log::{Log, Report};
 use ng_digest::rounds::{DigestFault, digest};
 use ng_digest::world::{Stage, Tested};
@@ -34,24 +40,66 @@ use ng_value::texts::show_text;
 use ng_view::view;
 use std::alloc::{AllocError, Global};
 
+/// The value of a hole's program over the root scope.
+#[tactic(auto, using(ng_view::proofs::Pure::pure_are, ng_view::proofs::Pure::known_are))]
+fn value_now(alloc: Global, store: &Store, root: Oid, watched: &Watched) -> Result<View, Fault>
+    requires { root.0 < length store.now }
+    ensures exact { Gives is_memory view_of (evaluated_program store.now root.0 [] (watched_of watched.now)) result }
+    ensures stands { IfOk result (λ v. ViewStands (length store.now) (view_of v)) }
+{
+    let locals = Locals::new(alloc);
+    view(alloc, store, root, &locals, &watched.program)
+}
+
 /// The text of a hole's program over the root scope.
-#[tactic(auto, using(ng_view::proofs::Pure::pure_are, ng_view::proofs::Pure::known_are), unfolding(crate::specs::Now::now))]
+#[tactic(auto, unfolding(crate::specs::Now::now))]
 fn shown_now(alloc: Global, store: &Store, root: Oid, watched: &Watched) -> Result<Txt, Fault>
     requires { root.0 < length store.now }
     ensures { Meets is_memory (now store.now root.0 (watched_of watched.now)) result }
 {
-    let locals = Locals::new(alloc);
-    let value = view(alloc, store, root, &locals, &watched.program)?;
+    let value = value_now(alloc, store, root, watched)?;
     show_text(alloc, store, &value)
 }
 
-/// Whether a watcher has kept this text.
-fn has_kept(kept: &Option<Txt>, text: &Txt) -> bool
-    ensures { result ≡ is_kept kept.now text.now }
+/// Whether the text that is spelled of a value is this one.
+fn spells(alloc: Global, store: &Store, value: &View, text: &Txt) -> Result<bool, Fault>
+    requires { ViewStands (length store.now) (view_of value.now) }
+    ensures { Meets is_memory (still (Some text.now) (show_text store.now (view_of value.now))) result }
+{
+    let shown = show_text(alloc, store, value)?;
+    Ok(text.same(&shown))
+}
+
+/// Whether a value shows as this text. Only an object, an array, a list or a record is spelled for it.
+#[tactic(auto, unfolding(ng_language::specs::Unfolding::level_limit, ng_language::specs::Unfolding::node_limit))]
+fn shows(alloc: Global, store: &Store, value: &View, text: &Txt) -> Result<bool, Fault>
+    requires { ViewStands (length store.now) (view_of value.now) }
+    ensures { Meets is_memory (still (Some text.now) (show_text store.now (view_of value.now))) result }
+{
+    match value {
+        View::Prim(Value::Undefined) => Ok(text.is_word("")),
+        View::Prim(Value::Null) => Ok(text.is_word("")),
+        View::Prim(Value::Bool(true)) => Ok(text.is_word("true")),
+        View::Prim(Value::Bool(false)) => Ok(text.is_word("false")),
+        View::Prim(Value::Int(n)) => Ok(text.is_number(*n)),
+        View::Prim(Value::Nan) => Ok(text.is_word("NaN")),
+        View::Prim(Value::Text(shown)) => Ok(text.same(shown)),
+        View::Prim(Value::Fun(_)) => Ok(text.is_word("")),
+        _ => spells(alloc, store, value, text),
+    }
+}
+
+/// Whether a value shows what a watcher has kept. Where nothing was kept its text may still meet a fault.
+fn has_kept(alloc: Global, store: &Store, value: &View, kept: &Option<Txt>) -> Result<bool, Fault>
+    requires { ViewStands (length store.now) (view_of value.now) }
+    ensures { Meets is_memory (still kept.now (show_text store.now (view_of value.now))) result }
 {
     match kept {
-        None => false,
-        Some(kept) => kept.same(text),
+        Some(text) => shows(alloc, store, value, text),
+        None => {
+            show_text(alloc, store, value)?;
+            Ok(false)
+        }
     }
 }
 
@@ -87,12 +135,13 @@ fn tell(engine: &mut Engine, key: usize, fault: Fault)
 }
 
 /// Whether a watcher has kept what its hole shows now.
+#[tactic(auto, unfolding(crate::specs::Now::now))]
 fn is_still(alloc: Global, store: &Store, root: Oid, site: &Site) -> Result<bool, Fault>
     requires { root.0 < length store.now }
     ensures { Meets is_memory (still (site_of site.now).kept (now store.now root.0 (site_of site.now).program)) result }
 {
-    let text = shown_now(alloc, store, root, &site.watched)?;
-    Ok(has_kept(&site.kept, &text))
+    let value = value_now(alloc, store, root, &site.watched)?;
+    has_kept(alloc, store, &value, &site.kept)
 }
 
 /// Tests the watcher of a key.
