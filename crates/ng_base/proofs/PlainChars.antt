@@ -1,5 +1,7 @@
 -- Bytes that stand for themselves, and the characters that they spell.
-use Rattle.std.proofs.Common.{arith, length, get_or, ◌≡◌, ◌<◌, ◌&&◌, ℕ, Bool, true, false, nat_lt, List, [], ◌∷◌, encode_utf8, encode_utf8_all, sym, ap, ◌∙◌, refl}
+use Rattle.std.proofs.Common.{arith, length, get_or, ◌≡◌, ◌<◌, ℕ, Bool, true, false, nat_lt, List, [], ◌∷◌, encode_utf8, encode_utf8_all, sym, ap, ◌∙◌, refl}
+use Rattle.std.proofs.lemmas.Bool.{and_parts}
+pub use Rattle.std.proofs.lemmas.Bool.{and_parts as both_parts}
 use Rattle.std.proofs.lemmas.Grind.{common_steps}
 use Rattle.std.proofs.lemmas.List.Folds.{list_all-append}
 use Rattle.std.proofs.lemmas.Str.{encodes-chars, encode_ascii, char_from_byte, length-encode, len_utf8_bounds}
@@ -7,15 +9,11 @@ use Rattle.std.specs.Str.{chars, IsUtf8}
 use Rattle.std.specs.List.{list_all}
 use Rattle.ng_base.specs.Runs.{is_plain, begins_plain}
 
-pub both_parts : (a b : Bool) → (a && b) ≡ true → (a ≡ true) × (b ≡ true)
-both_parts true b e = (refl, e)
-both_parts false b e = let f : false ≡ true = e in absurd (cc (f))
-
 plain_char_at : (c : ℕ) (ascii : Bool) → nat_lt c 128 ≡ ascii → list_all is_plain (encode_utf8 c) ≡ true → is_plain c ≡ true
 plain_char_at c true l e =
     let below : c < 128 = grind (arith, common_steps) in
     let one = sym (ap (list_all is_plain) (encode_ascii c below)) ∙ e in
-    (both_parts (is_plain c) true one).0
+    (and_parts (is_plain c) true one).0
 plain_char_at c false l e = grind (arith, common_steps)
 
 plain_char : (c : ℕ) → list_all is_plain (encode_utf8 c) ≡ true → is_plain c ≡ true
@@ -24,7 +22,7 @@ plain_char c e = plain_char_at c (nat_lt c 128) refl e
 plain_spelled : (cs : List ℕ) → list_all is_plain (encode_utf8_all cs) ≡ true → list_all is_plain cs ≡ true
 plain_spelled [] e = refl
 plain_spelled (c ∷ cs) e =
-    let both = both_parts _ _ (sym (list_all-append is_plain (encode_utf8 c) (encode_utf8_all cs)) ∙ e) in
+    let both = and_parts _ _ (sym (list_all-append is_plain (encode_utf8 c) (encode_utf8_all cs)) ∙ e) in
     let first = plain_char c both.0 in
     let others = plain_spelled cs both.1 in
     grind (arith, common_steps)

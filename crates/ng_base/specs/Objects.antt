@@ -4,6 +4,7 @@ use Rattle.std.specs.List.{range_with_len}
 use Rattle.std.specs.Map.{lookup}
 use Rattle.std.specs.BTreeSet.{insert_key}
 use Rattle.std.specs.Ordering.{nat_cmp}
+use Rattle.ng_base.specs.Codes.{digit_zero, digit_nine}
 use Rattle.ng_base.specs.declared.value.Value.{Value}
 use Rattle.ng_base.specs.declared.value.Value.TheVariants as value
 use Rattle.ng_base.specs.declared.heap.ObjKind.{ObjKind}
@@ -35,12 +36,12 @@ StandsAmong count (value.Obj o) = o.0 < count
 StandsAmong count v = Unit {0}
 
 abbrev pub is_digit : ℕ → Bool
-is_digit c = nat_le 48 c && nat_le c 57
+is_digit c = nat_le digit_zero c && nat_le c digit_nine
 
 -- the number that digits spell behind those that were read, below 2^32 - 1
 abbrev pub spelled : ℕ → List ℕ → Option ℕ
 spelled n [] = Some n
-spelled n (c ∷ cs) = if is_digit c && nat_lt (10 * n + (c - 48)) 4294967295 then spelled (10 * n + (c - 48)) cs else None
+spelled n (c ∷ cs) = if is_digit c && nat_lt (10 * n + (c - digit_zero)) 4294967295 then spelled (10 * n + (c - digit_zero)) cs else None
 
 abbrev pub only_zero : List ℕ → Option ℕ
 only_zero [] = Some 0
@@ -49,7 +50,7 @@ only_zero (c ∷ cs) = None
 -- the array index that a name spells: digits without a leading zero
 abbrev pub index_of : List ℕ → Option ℕ
 index_of [] = None
-index_of (c ∷ cs) = if c == 48 then only_zero cs else spelled 0 (c ∷ cs)
+index_of (c ∷ cs) = if c == digit_zero then only_zero cs else spelled 0 (c ∷ cs)
 
 -- the value that an object itself has under a name
 abbrev pub own_of : Object → List ℕ → Option Value

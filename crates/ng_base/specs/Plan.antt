@@ -14,13 +14,17 @@ called p = record p { calls = min (p.calls + 1) (2 ^ 64 - 1) }
 abbrev pub fails_next : Plan → Bool
 fails_next p = list_any (λ n. n == (called p).calls) p.to_fail.items
 
--- what a fetch answers, of the file under its name
-abbrev pub fetch_answer : Plan → Option (List ℕ) → Result (Unit {0}) ShelfFault
-fetch_answer p None = Err Failed
-fetch_answer p (Some file) =
-    if fails_next p then Err Failed
+-- what a fetch that is to fail or not answers, of the file under its name
+abbrev pub planned_answer : Bool → Option (List ℕ) → Result (Unit {0}) ShelfFault
+planned_answer planned None = Err Failed
+planned_answer planned (Some file) =
+    if planned then Err Failed
     else if nat_lt longest (length file) then Err (TooLong (length file))
     else Ok tt
+
+-- what the next fetch answers, of the file under its name
+abbrev pub fetch_answer : Plan → Option (List ℕ) → Result (Unit {0}) ShelfFault
+fetch_answer p file = planned_answer (fails_next p) file
 
 -- the fault is want of memory, which is free
 abbrev pub wants_memory : ShelfFault → Bool

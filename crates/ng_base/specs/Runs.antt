@@ -2,10 +2,11 @@
 use Rattle.std.specs.Prelude.{◌≡◌, ◌==◌, ◌||◌, not, ℕ, Bool, false, List, [], ◌∷◌, ◌++◌, map, IsTrue}
 use Rattle.std.specs.List.{list_all}
 use Rattle.ng_base.specs.Cells.{Cell}
+use Rattle.ng_base.specs.Codes.{line_feed, carriage_return, quotation_mark, ampersand, apostrophe, less_than_sign, greater_than_sign, backslash, open_brace, close_brace}
 
 -- a line feed, a return, or one of `"` `&` `'` `<` `>` `\` `{` `}`
 abbrev pub is_mark : ℕ → Bool
-is_mark c = c == 10 || c == 13 || c == 34 || c == 38 || c == 39 || c == 60 || c == 62 || c == 92 || c == 123 || c == 125
+is_mark c = c == line_feed || c == carriage_return || c == quotation_mark || c == ampersand || c == apostrophe || c == less_than_sign || c == greater_than_sign || c == backslash || c == open_brace || c == close_brace
 
 abbrev pub is_plain : ℕ → Bool
 is_plain c = not (is_mark c)

@@ -1,6 +1,6 @@
 //! Names that are array indices.
 ghost use Rattle.std.specs.Prelude.{◌≡◌};
-ghost use Rattle.ng_base.specs.Objects.{is_digit, spelled, only_zero, index_of};
+ghost use Rattle.ng_base.specs.Objects.{spelled, only_zero, index_of};
 
 use crate::reader::Plain;
 use crate::txt::Txt;
@@ -8,19 +8,13 @@ use crate::txt::Txt;
 /// Array indices are below this.
 const INDEX_LIMIT: u64 = 4_294_967_295;
 
-fn is_digit(c: char) -> bool
-    ensures { result ≡ is_digit c }
-{
-    '0' <= c && c <= '9'
-}
-
 /// The number that digits spell.
 fn spelled(mut reader: Plain<'_>) -> Option<u32>
     ensures { result ≡ spelled 0 reader.entry }
 {
     let mut n: u64 = 0;
     while let Some(c) = reader.next() {
-        if !is_digit(c) {
+        if !c.is_ascii_digit() {
             return None;
         }
         let more = 10 * n + (c as u64 - 48);

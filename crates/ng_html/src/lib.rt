@@ -29,8 +29,6 @@ pub mod forest;
 pub mod reading;
 pub mod source;
 pub mod tables;
-#[cfg(test)]
-mod tests;
 pub mod writing;
 
 pub use attrs::{Attr, Attrs};

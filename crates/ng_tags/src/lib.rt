@@ -36,8 +36,6 @@ pub mod references;
 pub mod skips;
 pub mod tables;
 pub mod tags;
-#[cfg(test)]
-mod tests;
 pub mod texts;
 pub mod until;
 

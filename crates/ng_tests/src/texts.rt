@@ -1,9 +1,9 @@
-//! Values as texts, as what a hole shows, and as JSON.
+//! Functions and scopes as texts, as what a hole shows, and as JSON, and in what holds them.
 ghost use Rattle.std.specs.Prelude.{length};
 ghost use Rattle.ng_base.specs.ViewOf.{view_of};
 ghost use Rattle.ng_language.specs.Views.{ViewStands};
 
-use crate::values::{Of, of_json, push, put, view};
+use crate::values::{Of, push, put, view};
 use ng_base::fault::Fault;
 use ng_base::heap::ObjKind;
 use ng_base::txt::Txt;
@@ -31,69 +31,6 @@ fn texts(alloc: Global, store: &Store, v: &View) -> Result<String, AllocError>
     out.push(';')?;
     write(&mut out, json_text(alloc, store, v, 2))?;
     Ok(out)
-}
-
-fn json_texts(alloc: Global, text: &str) -> Result<String, AllocError> {
-    let mut store = Store::new(alloc);
-    let Some(v) = of_json(alloc, &mut store, text) else {
-        return Err(AllocError);
-    };
-    texts(alloc, &store, &v)
-}
-
-/// JSON, and its value as a text, in a hole, and as JSON again.
-const ROWS: [(&str, &str); 16] = [
-    ("null", "null;;null"),
-    ("true", "true;true;true"),
-    ("-7", "-7;-7;-7"),
-    (
-        "-9007199254740991",
-        "-9007199254740991;-9007199254740991;-9007199254740991",
-    ),
-    ("\"\"", ";;\"\""),
-    (r#""q\"b\\s\/""#, r#"q"b\s/;q"b\s/;"q\"b\\s/""#),
-    (
-        r#""\u0000\b\f\n\r\t\u001f\u007f""#,
-        "\u{0}\u{8}\u{c}\n\r\t\u{1f}\u{7f};\u{0}\u{8}\u{c}\n\r\t\u{1f}\u{7f};\"\\u0000\\b\\f\\n\\r\\t\\u001f\u{7f}\"",
-    ),
-    (
-        r#""\ud83d\ude00\u00e9""#,
-        "\u{1f600}\u{e9};\u{1f600}\u{e9};\"\u{1f600}\u{e9}\"",
-    ),
-    ("[]", ";[];[]"),
-    ("{}", "[object Object];{};{}"),
-    (
-        r#"[1,null,"x",[2,[]],true]"#,
-        "1,,x,2,,true;[1,null,\"x\",[2,[]],true];[\n  1,\n  null,\n  \"x\",\n  [\n    2,\n    []\n  ],\n  true\n]",
-    ),
-    (
-        r#"{"a":[1,{}],"b":{"c":[]}}"#,
-        "[object Object];{\"a\":[1,{}],\"b\":{\"c\":[]}};{\n  \"a\": [\n    1,\n    {}\n  ],\n  \"b\": {\n    \"c\": []\n  }\n}",
-    ),
-    // Names that are indices stand first, in the order of numbers.
-    (
-        r#"{"b":1,"10":2,"a":3,"9":4,"01":5}"#,
-        "[object Object];{\"9\":4,\"10\":2,\"01\":5,\"a\":3,\"b\":1};{\n  \"9\": 4,\n  \"10\": 2,\n  \"01\": 5,\n  \"a\": 3,\n  \"b\": 1\n}",
-    ),
-    // Names that begin with two dollars are left out.
-    (
-        r#"{"$$x":1,"$y":2}"#,
-        "[object Object];{\"$y\":2};{\n  \"$y\": 2\n}",
-    ),
-    (r#"{"$$x":1}"#, "[object Object];{};{}"),
-    (
-        r#"{"q\"":"\\"}"#,
-        "[object Object];{\"q\\\"\":\"\\\\\"};{\n  \"q\\\"\": \"\\\\\"\n}",
-    ),
-];
-
-#[test]
-fn json_is_shown_as_it_was_written(rt: HostRuntime) {
-    let alloc = rt.alloc();
-    for (text, want) in ROWS {
-        let got = json_texts(alloc, text).expect(&rt, "memory");
-        assert_eq!(rt; got.as_str(), want, "{text}");
-    }
 }
 
 /// A plain object with what JSON has no word for, an array of the same, and a scope.

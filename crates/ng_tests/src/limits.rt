@@ -65,36 +65,23 @@ const REFERENCE: Asks = Asks::Snap(SnapKind::Reference);
 
 /// What stands 100 levels below the value is taken, what stands 101 below is not: how many times JSON begins and
 /// ends, what stands in its middle, what is asked, and the answer.
-const LEVELS: [(u32, &str, &str, &str, Asks, &str); 18] = [
+const LEVELS: [(u32, &str, &str, &str, Asks, &str); 9] = [
     (100, "[", "1", "]", DEEP, "ok"),
     (101, "[", "1", "]", DEEP, "TooBig"),
     (101, "[", "", "]", DEEP, "ok"),
     (102, "[", "", "]", DEEP, "TooBig"),
-    (100, "[", "1", "]", Asks::Json, "ok"),
-    (101, "[", "1", "]", Asks::Json, "TooBig"),
-    (100, "[", "1", "]", Asks::Text, "ok"),
-    (101, "[", "1", "]", Asks::Text, "TooBig"),
     (101, "[", "1", "]", COLLECTION, "ok"),
     (101, "[", "1", "]", REFERENCE, "ok"),
     (100, "{\"a\":", "{}", "}", DEEP, "ok"),
     (101, "{\"a\":", "{}", "}", DEEP, "TooBig"),
-    (100, "{\"a\":", "{}", "}", Asks::Json, "ok"),
-    (101, "{\"a\":", "{}", "}", Asks::Json, "TooBig"),
-    (101, "{\"a\":", "{}", "}", Asks::Text, "ok"),
     // What is left out has no levels.
     (101, "{\"$a\":", "{}", "}", DEEP, "ok"),
-    (101, "{\"$$a\":", "{}", "}", Asks::Json, "ok"),
-    (101, "{\"$a\":", "{}", "}", Asks::Json, "TooBig"),
 ];
 
 /// 100,000 nodes are taken, the value counted: how many numbers stand in an array, what is asked, and the answer.
-const NODES: [(u32, Asks, &str); 9] = [
+const NODES: [(u32, Asks, &str); 5] = [
     (99_999, DEEP, "ok"),
     (100_000, DEEP, "TooBig"),
-    (99_999, Asks::Json, "ok"),
-    (100_000, Asks::Json, "TooBig"),
-    (99_999, Asks::Text, "ok"),
-    (100_000, Asks::Text, "TooBig"),
     (99_999, COLLECTION, "ok"),
     (100_000, COLLECTION, "ok"),
     (100_000, REFERENCE, "ok"),
@@ -160,14 +147,10 @@ fn what_holds_itself_is_too_big_where_it_is_unfolded(rt: HostRuntime) {
         panic!(rt; "memory");
     };
     for (o, asks, want) in [
-        (0, Asks::Text, "ok"),
-        (0, Asks::Json, "TooBig"),
-        (0, DEEP, "TooBig"),
+                (0, DEEP, "TooBig"),
         (0, COLLECTION, "ok"),
         (0, REFERENCE, "ok"),
-        (1, Asks::Text, "TooBig"),
-        (1, Asks::Json, "TooBig"),
-        (1, DEEP, "TooBig"),
+                (1, DEEP, "TooBig"),
         (1, COLLECTION, "ok"),
         (1, REFERENCE, "ok"),
     ] {
