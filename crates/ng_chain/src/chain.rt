@@ -212,6 +212,3 @@ impl<T: Drop> Chain<T> {
 pub fn walks_meet_what_stands<T>(_chain: &Chain<T>)
     ensures { WalkLaw T }
 {}
-
-#[cfg(test)]
-mod tests;

@@ -22,7 +22,5 @@ pub mod board;
 pub mod log;
 pub mod rounds;
 pub mod sheet;
-#[cfg(test)]
-mod tests;
 pub mod watches;
 pub mod world;

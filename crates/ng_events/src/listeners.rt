@@ -162,6 +162,3 @@ impl Listeners {
         }
     }
 }
-
-#[cfg(test)]
-mod tests;

@@ -30,8 +30,6 @@ mod predicates;
 mod primitives;
 mod properties;
 mod table;
-#[cfg(test)]
-mod tests;
 mod view_ref;
 
 pub use dispatch::apply;

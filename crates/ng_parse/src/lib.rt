@@ -30,8 +30,6 @@ pub mod parsing;
 pub mod programs;
 pub mod read;
 pub mod statements;
-#[cfg(test)]
-mod tests;
 pub mod tree;
 
 pub use ng_language::syntax::{Binary, Constant, Label, ParseFault, ParseKind, Unary};

@@ -269,6 +269,3 @@ impl Scopes {
         }
     }
 }
-
-#[cfg(test)]
-mod tests;

@@ -35,14 +35,6 @@ pub mod methods;
 mod operators;
 mod program;
 mod purity;
-#[cfg(test)]
-mod tests;
-#[cfg(test)]
-mod tests_of_filters;
-#[cfg(test)]
-mod tests_of_members;
-#[cfg(test)]
-mod tests_of_operators;
 mod texts;
 
 pub use filters::filters_known;

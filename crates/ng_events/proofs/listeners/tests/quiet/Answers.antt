@@ -1,5 +1,0 @@
-use Rattle.ng_events.proofs.Apart.{open-left}
-use Rattle.ng_events.proofs.listeners.tests.quiet.Goals as goal
-
-pub returns : goal.returns
-returns c = open-left c.args.listeners.now c.drop_scope.new.self c.drop_scope.ensures.walks c.drop_scope.ensures.bare
