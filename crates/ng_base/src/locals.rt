@@ -1,5 +1,6 @@
 //! The locals of a program: names that stand before the scope's.
-ghost use Rattle.std.specs.Prelude.{◌≡◌, ◌++◌, ◌∷◌, [], OnOk, OnErr};
+ghost use Rattle.std.specs.Prelude.{◌≡◌, ◌<◌, ◌++◌, ◌∷◌, [], length, slice_set, slice_index_or, OnOk, OnErr};
+ghost use Rattle.ng_base.specs.declared.value.Value.TheVariants.{Undefined};
 
 use crate::txt::Txt;
 use crate::value::Value;
@@ -38,6 +39,14 @@ impl Locals {
     {
         self.items.push((name, value))?;
         Ok(())
+    }
+
+    /// Gives the local at a place another value.
+    pub fn put(&mut self, place: usize, value: Value)
+        requires { place < length self.old }
+        ensures { self.new ≡ slice_set self.old place ((slice_index_or self.old place ([], Undefined)).0, value) }
+    {
+        self.items[place].1 = value;
     }
 
     /// All of them, in order.
