@@ -15,7 +15,7 @@ use std::alloc::Global;
 
 /// Whether a filter is in the table and takes so many arguments.
 #[tactic(auto, unfolding(crate::specs::Applied::known))]
-pub(crate) fn known(name: &Txt, args: u32) -> bool
+pub fn known(name: &Txt, args: u32) -> bool
     ensures { result ≡ known_filter name.now args }
 {
     ng_filters::known(name, args)
@@ -23,7 +23,7 @@ pub(crate) fn known(name: &Txt, args: u32) -> bool
 
 /// What a filter makes of an input with its arguments.
 #[tactic(auto, using(ng_value::proofs::ViewParts::view_parts), unfolding(crate::specs::Applied::known, crate::specs::Applied::applied))]
-pub(crate) fn apply(
+pub fn apply(
     alloc: Global,
     name: &Txt,
     store: &Store,

@@ -63,12 +63,7 @@ fn member_callee(v: &View) -> Callee
 
 /// What a name calls on a value: a method comes before a member of the same name.
 #[tactic(auto, unfolding(crate::specs::Evaluation::callee))]
-pub(crate) fn find_callee(
-    alloc: Global,
-    store: &Store,
-    v: &View,
-    name: &Txt,
-) -> Result<Callee, Memory>
+pub fn find_callee(alloc: Global, store: &Store, v: &View, name: &Txt) -> Result<Callee, Memory>
     requires { ViewStands (length store.now) (view_of v.now) }
     ensures { IfOk result (λ c. c ≡ callee store.now (view_of v.now) name.now) }
 {
@@ -80,7 +75,7 @@ pub(crate) fn find_callee(
 
 /// What a method gives.
 #[tactic(auto, unfolding(crate::specs::Methods::method_value))]
-pub(crate) fn method_value(
+pub fn method_value(
     alloc: Global,
     store: &Store,
     method: Method,
@@ -111,7 +106,7 @@ pub(crate) fn method_value(
 }
 
 /// Whether nothing is called.
-pub(crate) fn is_nothing(callee: Callee) -> bool
+pub fn is_nothing(callee: Callee) -> bool
     ensures { result ≡ is_nothing callee }
 {
     match callee {
@@ -124,7 +119,7 @@ pub(crate) fn is_nothing(callee: Callee) -> bool
 
 /// The value of a call whose arguments were evaluated.
 #[tactic(auto, unfolding(crate::specs::Evaluation::called_on))]
-pub(crate) fn called_on(
+pub fn called_on(
     alloc: Global,
     store: &Store,
     callee: Callee,

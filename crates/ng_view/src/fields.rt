@@ -14,11 +14,7 @@ use ng_base::view::{Fields, View};
 use std::alloc::Global;
 
 /// Sets the view of a name: in its place, or at the end.
-pub(crate) fn put_field(
-    fields: &mut IndexMap<Txt, View>,
-    name: Txt,
-    view: View,
-) -> Result<(), Memory>
+pub fn put_field(fields: &mut IndexMap<Txt, View>, name: Txt, view: View) -> Result<(), Memory>
     ensures { OnOk result (map field_of fields.new.entries ≡ insert_entry bytes_eq (map field_of fields.old.entries) name (view_of view)) }
 {
     fields.insert(name, view)?;
@@ -26,7 +22,7 @@ pub(crate) fn put_field(
 }
 
 /// The record of fields.
-pub(crate) fn record_of(alloc: Global, fields: IndexMap<Txt, View>) -> Result<Fields, Memory>
+pub fn record_of(alloc: Global, fields: IndexMap<Txt, View>) -> Result<Fields, Memory>
     ensures { IfOk result (λ r. fields_list (fields_of r) ≡ map field_of fields.entries) }
 {
     let mut done = Fields::new(alloc);
@@ -39,7 +35,7 @@ pub(crate) fn record_of(alloc: Global, fields: IndexMap<Txt, View>) -> Result<Fi
 
 /// The view of a fresh record.
 #[tactic(auto, using(ng_value::proofs::ViewParts::view_parts))]
-pub(crate) fn record_view(fields: Fields) -> View
+pub fn record_view(fields: Fields) -> View
     ensures exact { view_of result ≡ rec (fields_from (fields_list (fields_of fields))) }
     ensures stands { (n : ℕ) → FieldsAllStand n (fields_list (fields_of fields)) → ViewStands n (view_of result) }
 {

@@ -23,7 +23,7 @@ use ng_value::operators::{same, strict_eq};
 use std::alloc::Global;
 
 /// Whether it is an array or a fresh list.
-pub(crate) fn is_list(store: &Store, v: &View) -> bool
+pub fn is_list(store: &Store, v: &View) -> bool
     requires { ViewStands (length store.now) (view_of v.now) }
     ensures { result ≡ is_list store.now (view_of v.now) }
 {
@@ -36,7 +36,7 @@ pub(crate) fn is_list(store: &Store, v: &View) -> bool
 }
 
 /// How many views a fresh list has.
-pub(crate) fn views_count(views: &Views) -> usize
+pub fn views_count(views: &Views) -> usize
     ensures { result ≡ length (views_list (views_of views.now)) }
 {
     views.as_slice().len()
@@ -52,7 +52,7 @@ fn stored_count(store: &Store, o: Oid) -> usize
 }
 
 /// How many items there are.
-pub(crate) fn items_count(store: &Store, v: &View) -> usize
+pub fn items_count(store: &Store, v: &View) -> usize
     requires { ViewStands (length store.now) (view_of v.now) }
     ensures { result ≡ length (items_of store.now (view_of v.now)) }
 {
@@ -85,7 +85,7 @@ fn listed_view(views: &Views, i: usize) -> &View
 }
 
 /// A copy of the item at a place.
-pub(crate) fn item_at(alloc: Global, store: &Store, v: &View, i: usize) -> Result<View, Memory>
+pub fn item_at(alloc: Global, store: &Store, v: &View, i: usize) -> Result<View, Memory>
     requires stands { ViewStands (length store.now) (view_of v.now) }
     requires below { i < length (items_of store.now (view_of v.now)) }
     ensures item { IfOk result (λ w. slice_get (items_of store.now (view_of v.now)) i ≡ Some (view_of w)) }
@@ -111,7 +111,7 @@ fn is_value(a: &Value, b: &View) -> bool
 }
 
 /// Whether the item at a place is the same by `===`.
-pub(crate) fn is_item(store: &Store, v: &View, i: usize, x: &View) -> bool
+pub fn is_item(store: &Store, v: &View, i: usize, x: &View) -> bool
     requires stands { ViewStands (length store.now) (view_of v.now) }
     requires below { i < length (items_of store.now (view_of v.now)) }
     ensures { result ≡ strict_eq (view_or_undefined (slice_get (items_of store.now (view_of v.now)) i)) (view_of x.now) }
@@ -125,7 +125,7 @@ pub(crate) fn is_item(store: &Store, v: &View, i: usize, x: &View) -> bool
 }
 
 /// Copies of the items from one place to another, behind those that are there.
-pub(crate) fn append_items(
+pub fn append_items(
     alloc: Global,
     store: &Store,
     v: &View,

@@ -21,21 +21,21 @@
 //! ng_filters and ng_value.
 #![tactic(auto)]
 
-mod applied;
+pub mod applied;
 pub mod calls;
 mod evaluation;
-mod fields;
+pub mod fields;
 mod filters;
-mod items;
+pub mod items;
 pub mod laws;
-mod lists;
-mod literals;
-mod members;
+pub mod lists;
+pub mod literals;
+pub mod members;
 pub mod methods;
-mod operators;
+pub mod operators;
 mod program;
 mod purity;
-mod texts;
+pub mod texts;
 
 pub use filters::filters_known;
 pub use program::view;

@@ -23,7 +23,7 @@ use std::alloc::Global;
 
 /// The view of a fresh list.
 #[tactic(auto, using(ng_value::proofs::ViewParts::view_parts))]
-pub(crate) fn list_view(views: Views) -> View
+pub fn list_view(views: Views) -> View
     ensures exact { view_of result ≡ list (views_from (views_list (views_of views))) }
     ensures stands { (n : ℕ) → AllByRecursion (ViewStands n) (views_list (views_of views)) → ViewStands n (view_of result) }
 {
@@ -43,7 +43,7 @@ fn view_or<'a>(views: &'a [View], i: usize, missing: &'a View) -> &'a View
 
 /// An argument; one that is missing is undefined.
 #[tactic(auto, using(crate::proofs::Stand::one_stands))]
-pub(crate) fn argument<'a>(args: &'a Views, i: usize, missing: &'a View) -> &'a View
+pub fn argument<'a>(args: &'a Views, i: usize, missing: &'a View) -> &'a View
     requires { view_of missing.now ≡ undefined }
     ensures stands { (n : ℕ) → AllByRecursion (ViewStands n) (views_list (views_of args.now)) → ViewStands n (view_of result.now) }
     ensures value { view_of result.now ≡ argument (views_list (views_of args.now)) i }
@@ -52,7 +52,7 @@ pub(crate) fn argument<'a>(args: &'a Views, i: usize, missing: &'a View) -> &'a 
 }
 
 /// The first item that is the same by `===`.
-pub(crate) fn place_of(store: &Store, v: &View, x: &View) -> Option<usize>
+pub fn place_of(store: &Store, v: &View, x: &View) -> Option<usize>
     requires { ViewStands (length store.now) (view_of v.now) }
     ensures { result ≡ place_of (view_of x.now) 0 (items_of store.now (view_of v.now)) }
 {
@@ -65,7 +65,7 @@ pub(crate) fn place_of(store: &Store, v: &View, x: &View) -> Option<usize>
 }
 
 /// A place in a list or a text, or -1.
-pub(crate) fn place_or_none(place: Option<usize>) -> Result<View, Memory>
+pub fn place_or_none(place: Option<usize>) -> Result<View, Memory>
     ensures { IfOk result (λ v. view_of v ≡ place_or_none place) }
 {
     match place {
@@ -75,7 +75,7 @@ pub(crate) fn place_or_none(place: Option<usize>) -> Result<View, Memory>
 }
 
 /// A number below 0 counts from the end, NaN is 0.
-fn from_end(n: usize, place: Option<i64>) -> usize
+pub fn from_end(n: usize, place: Option<i64>) -> usize
     ensures { result ≡ from_end n place }
 {
     match place {
@@ -91,7 +91,7 @@ fn from_end(n: usize, place: Option<i64>) -> usize
 }
 
 /// An index among so many items; one that is undefined stands for another.
-fn place_at(missing: usize, n: usize, v: &View) -> usize
+pub fn place_at(missing: usize, n: usize, v: &View) -> usize
     ensures { result ≡ place_at missing n (view_of v.now) }
 {
     match v {
@@ -101,7 +101,7 @@ fn place_at(missing: usize, n: usize, v: &View) -> usize
 }
 
 /// `slice`: the items from one place to another.
-pub(crate) fn slice(alloc: Global, store: &Store, v: &View, args: &Views) -> Result<Views, Memory>
+pub fn slice(alloc: Global, store: &Store, v: &View, args: &Views) -> Result<Views, Memory>
     requires { ViewStands (length store.now) (view_of v.now) }
     ensures stands { IfOk result (λ all. AllByRecursion (ViewStands (length store.now)) (views_list (views_of all))) }
     ensures items { IfOk result (λ all. views_list (views_of all) ≡ sliced (views_list (views_of args.now)) (items_of store.now (view_of v.now))) }
@@ -146,7 +146,7 @@ fn append_all(alloc: Global, store: &Store, args: &[View], done: Views) -> Resul
 }
 
 /// `concat`: the items, and those of the arguments behind them.
-pub(crate) fn concat(alloc: Global, store: &Store, v: &View, args: &Views) -> Result<Views, Memory>
+pub fn concat(alloc: Global, store: &Store, v: &View, args: &Views) -> Result<Views, Memory>
     requires value { ViewStands (length store.now) (view_of v.now) }
     requires args { AllByRecursion (ViewStands (length store.now)) (views_list (views_of args.now)) }
     ensures stands { IfOk result (λ all. AllByRecursion (ViewStands (length store.now)) (views_list (views_of all))) }
@@ -236,7 +236,7 @@ fn join_items(alloc: Global, store: &Store, v: &View, between: &Txt) -> Result<T
 }
 
 /// `join`.
-pub(crate) fn join(alloc: Global, store: &Store, v: &View, between: &View) -> Result<Txt, Fault>
+pub fn join(alloc: Global, store: &Store, v: &View, between: &View) -> Result<Txt, Fault>
     requires value { ViewStands (length store.now) (view_of v.now) }
     requires between { ViewStands (length store.now) (view_of between.now) }
     ensures { Meets is_memory (joined store.now (view_of between.now) (items_of store.now (view_of v.now))) result }

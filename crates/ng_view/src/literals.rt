@@ -26,7 +26,7 @@ use std::alloc::Global;
 const LARGEST: u64 = 9_007_199_254_740_991;
 
 /// A number as it is written.
-pub(crate) fn number(n: u64) -> Result<View, Fault>
+pub fn number(n: u64) -> Result<View, Fault>
     ensures { Gives is_memory view_of (as_view (in_range (pos n))) result }
 {
     if n <= LARGEST {
@@ -37,7 +37,7 @@ pub(crate) fn number(n: u64) -> Result<View, Fault>
 }
 
 /// A word that always means the same.
-pub(crate) fn constant(c: Constant) -> View
+pub fn constant(c: Constant) -> View
     ensures { view_of result ≡ prim (constant_value c) }
 {
     View::of_value(match c {
@@ -49,7 +49,7 @@ pub(crate) fn constant(c: Constant) -> View
 }
 
 /// The written name of a pair.
-pub(crate) fn label_name(alloc: Global, label: &Label) -> Result<Txt, Memory>
+pub fn label_name(alloc: Global, label: &Label) -> Result<Txt, Memory>
     ensures { IfOk result (λ t. t ≡ label_name label.now) }
 {
     match label {
@@ -64,7 +64,7 @@ pub(crate) fn label_name(alloc: Global, label: &Label) -> Result<Txt, Memory>
 }
 
 /// The local of a name.
-fn local<'a>(locals: &'a Locals, name: &Txt) -> Option<&'a Value>
+pub fn local<'a>(locals: &'a Locals, name: &Txt) -> Option<&'a Value>
     ensures { option_copied result ≡ lookup (bytes_eq name.now) locals.now }
 {
     for local in locals.as_slice() {
@@ -77,7 +77,7 @@ fn local<'a>(locals: &'a Locals, name: &Txt) -> Option<&'a Value>
 
 /// A bare name: a local, else what the scope or its prototypes have.
 #[tactic(auto, unfolding(crate::specs::Evaluation::named))]
-pub(crate) fn named(store: &Store, scope: Oid, locals: &Locals, name: &Txt) -> Result<View, Memory>
+pub fn named(store: &Store, scope: Oid, locals: &Locals, name: &Txt) -> Result<View, Memory>
     requires scope { scope.0 < length store.now }
     requires locals { LocalsStand (length store.now) locals.now }
     ensures value { IfOk result (λ v. view_of v ≡ named store.now scope.0 locals.now name.now) }

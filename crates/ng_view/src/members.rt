@@ -25,14 +25,14 @@ use ng_value::texts::to_text;
 use std::alloc::Global;
 
 /// What isn't there.
-pub(crate) fn undefined() -> View
+pub fn undefined() -> View
     ensures { view_of result ≡ undefined }
 {
     View::of_value(Value::Undefined)
 }
 
 /// A number of items or characters.
-pub(crate) fn count(n: usize) -> Result<View, Memory>
+pub fn count(n: usize) -> Result<View, Memory>
     ensures { IfOk result (λ v. view_of v ≡ count n) }
 {
     match i64::try_from(n) {
@@ -41,7 +41,7 @@ pub(crate) fn count(n: usize) -> Result<View, Memory>
     }
 }
 
-pub(crate) fn is_array(kind: ObjKind) -> bool
+pub fn is_array(kind: ObjKind) -> bool
     ensures { result ≡ is_array kind }
 {
     match kind {
@@ -155,7 +155,7 @@ fn record_member(alloc: Global, fields: &Fields, name: &Txt) -> Result<View, Mem
 
 /// What stands under a name of a value.
 #[tactic(auto, unfolding(crate::specs::Members::member))]
-pub(crate) fn member(alloc: Global, store: &Store, v: &View, name: &Txt) -> Result<View, Memory>
+pub fn member(alloc: Global, store: &Store, v: &View, name: &Txt) -> Result<View, Memory>
     requires { ViewStands (length store.now) (view_of v.now) }
     ensures value { IfOk result (λ w. view_of w ≡ member store.now (view_of v.now) name.now) }
     ensures stands { IfOk result (λ w. ViewStands (length store.now) (view_of w)) }
@@ -183,7 +183,7 @@ fn has_members(v: &View) -> bool
 
 /// A member by index: the name is the text of the index.
 #[tactic(auto, unfolding(crate::specs::Members::item))]
-pub(crate) fn item(alloc: Global, store: &Store, v: &View, index: &View) -> Result<View, Fault>
+pub fn item(alloc: Global, store: &Store, v: &View, index: &View) -> Result<View, Fault>
     requires value { ViewStands (length store.now) (view_of v.now) }
     requires index { ViewStands (length store.now) (view_of index.now) }
     ensures exact { Gives is_memory view_of (item store.now (view_of v.now) (view_of index.now)) result }

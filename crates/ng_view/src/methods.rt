@@ -18,7 +18,7 @@ pub enum Method {
 }
 
 /// The method of arrays and fresh lists of a name.
-pub(crate) fn list_method(name: &Txt) -> Option<Method>
+pub fn list_method(name: &Txt) -> Option<Method>
     ensures { result ≡ list_method name.now }
 {
     if name.is_word("indexOf") {
@@ -35,7 +35,7 @@ pub(crate) fn list_method(name: &Txt) -> Option<Method>
 }
 
 /// The method of texts of a name.
-pub(crate) fn text_method(name: &Txt) -> Option<Method>
+pub fn text_method(name: &Txt) -> Option<Method>
     ensures { result ≡ text_method name.now }
 {
     if name.is_word("indexOf") {
@@ -52,7 +52,7 @@ pub(crate) fn text_method(name: &Txt) -> Option<Method>
 }
 
 /// Whether a method changes nothing.
-pub(crate) fn is_pure_method(name: &Txt) -> bool
+pub fn is_pure_method(name: &Txt) -> bool
     ensures { result ≡ is_pure_method name.now }
 {
     list_method(name).is_some() || text_method(name).is_some()

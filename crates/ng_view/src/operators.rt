@@ -25,7 +25,7 @@ fn truth(b: bool) -> View
 
 /// The value of a signed operand.
 #[tactic(auto, unfolding(crate::specs::Evaluation::sign_value))]
-pub(crate) fn sign_value(op: Unary, v: &View) -> Result<View, Fault>
+pub fn sign_value(op: Unary, v: &View) -> Result<View, Fault>
     ensures exact { Gives is_memory view_of (sign_value op (view_of v.now)) result }
     ensures stands { (n : ℕ) → IfOk result (λ w. ViewStands n (view_of w)) }
 {
@@ -39,7 +39,7 @@ pub(crate) fn sign_value(op: Unary, v: &View) -> Result<View, Fault>
 
 /// The value of an operator between two operands.
 #[tactic(auto, unfolding(crate::specs::Evaluation::operator_value))]
-pub(crate) fn operator_value(
+pub fn operator_value(
     alloc: Global,
     store: &Store,
     op: Binary,

@@ -13,7 +13,7 @@ use ng_base::view::View;
 use std::alloc::Global;
 
 /// A text, or the empty text.
-pub(crate) fn text_in<'a>(v: &'a View, empty: &'a Txt) -> &'a Txt
+pub fn text_in<'a>(v: &'a View, empty: &'a Txt) -> &'a Txt
     requires { empty.now ≡ [] }
     ensures { result.now ≡ text_in (view_of v.now) }
 {
@@ -50,7 +50,7 @@ fn begins_with(text: &Plain<'_>, start: &Txt) -> bool
 }
 
 /// The first place where a text stands in another.
-pub(crate) fn find(text: &Txt, wanted: &Txt) -> Result<Option<usize>, Memory>
+pub fn find(text: &Txt, wanted: &Txt) -> Result<Option<usize>, Memory>
     ensures { IfOk result (λ place. place ≡ found_from wanted.now 0 text.now) }
 {
     let mut rest = Plain::new(text.as_str());
@@ -91,7 +91,7 @@ fn without_end(alloc: Global, mut text: Plain<'_>) -> Result<Txt, Memory>
 }
 
 /// A text without outer white space.
-pub(crate) fn trim(alloc: Global, text: &Txt) -> Result<Txt, Memory>
+pub fn trim(alloc: Global, text: &Txt) -> Result<Txt, Memory>
     ensures { IfOk result (λ t. t ≡ trimmed text.now) }
 {
     let mut rest = Plain::new(text.as_str());
@@ -105,7 +105,7 @@ pub(crate) fn trim(alloc: Global, text: &Txt) -> Result<Txt, Memory>
 }
 
 /// A text with its ASCII letters in upper case.
-pub(crate) fn upper(alloc: Global, text: &Txt) -> Result<Txt, Memory>
+pub fn upper(alloc: Global, text: &Txt) -> Result<Txt, Memory>
     ensures { IfOk result (λ t. t ≡ map to_ascii_uppercase text.now) }
 {
     let mut rest = Plain::new(text.as_str());
@@ -117,7 +117,7 @@ pub(crate) fn upper(alloc: Global, text: &Txt) -> Result<Txt, Memory>
 }
 
 /// A text with its ASCII letters in lower case.
-pub(crate) fn lower(alloc: Global, text: &Txt) -> Result<Txt, Memory>
+pub fn lower(alloc: Global, text: &Txt) -> Result<Txt, Memory>
     ensures { IfOk result (λ t. t ≡ map to_ascii_lowercase text.now) }
 {
     let mut rest = Plain::new(text.as_str());
