@@ -1,0 +1,8 @@
+use Rattle.std.proofs.Common.{◌≡◌, ◌∙◌, sym, ap, refl, option_map, is_some, map}
+use Rattle.ng_watch.specs.Table.{watchers_of, entry_of, found}
+use Rattle.ng_watch.specs.Seen.{watcher_of}
+use Rattle.ng_watch.proofs.Tables.{added}
+use Rattle.ng_watch.proofs.watchers.Watchers.add.Goals as goal
+
+pub returns-clause-added : goal.returns-clause-added
+returns-clause-added c = added c.args.key c.args.w c.self.inside.table.entries c.insert.new.self.entries (watchers_of c.args.self.now) c.in_ok-insert.ensures.entries (ap (map entry_of) c.self.view_is)

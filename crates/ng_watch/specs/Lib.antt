@@ -1,0 +1,6 @@
+pub mod Keys
+pub mod Seen
+pub mod Table
+pub mod Now
+pub mod Verdicts
+pub mod Laws

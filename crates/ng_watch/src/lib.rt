@@ -1,0 +1,31 @@
+//! The watchers of a page (guide: Scopes, "Scope `$watch` Depths"; API: `$watch`, `$watchCollection`).
+//!
+//! A watcher is a program over a scope, with what it last kept of the program's value. In a digest each is tested: it
+//! is dirty where it has kept nothing yet, or where what it would keep now differs from what it kept. What it keeps
+//! goes by its kind: the value itself, a collection's items, the whole of a value, the text that a hole shows, class
+//! words, or the side of a two-way binding that was changed.
+//!
+//! [`watchers::Watchers`] is seen by contracts as a list of keys and watchers in key order: by the path of the scope,
+//! parents first, and then by number of registration. The digest finds its way by `first` and `next_after`, which need
+//! no watcher at the key where it stands, so that watchers may come and go while it walks.
+//!
+//! What the crate above uses:
+//!
+//! - `test` is the verdict of one watcher by the definition in specs/Verdicts.antt, and changes nothing. Where text,
+//!   number, truth value or nothing is compared with its like, no text is copied and nothing is allocated. A verdict
+//!   of dirty hands on the snapshot that it was found by, so that no program is evaluated twice;
+//! - `keep` writes that snapshot, and hands the former one back; `unset` forgets it;
+//! - each other call is the one change of the list that its name says.
+//!
+//! In reading order: `watch` has the types, `watchers` the list, `testing` and `bindings` the verdict, and `laws` what a
+//! reader may take from the definitions.
+//!
+//! Not here: what a listener does (`ng_link`), the rounds of a digest (`ng_digest`), and which watcher a page needs.
+#![tactic(auto)]
+
+mod bindings;
+pub mod laws;
+mod testing;
+pub mod watch;
+mod watched;
+pub mod watchers;

@@ -1,0 +1,183 @@
+//! The watchers of a page, by their keys.
+ghost use Rattle.std.specs.Prelude.{◌≡◌, [], Some, None, IsSome, is_some, option_map, length, OnOk, OnErr, IfErr, IfSome, option_copied};
+ghost use Rattle.std.specs.List.Sorted.{IsStrictlySortedBy};
+ghost use Rattle.std.specs.Map.{keys_of};
+ghost use Rattle.std.specs.Option.{ForSome};
+ghost use Rattle.ng_base.specs.Faults.{is_memory};
+ghost use Rattle.ng_base.specs.Meets.{Gives};
+ghost use Rattle.ng_value.specs.Snaps.{snap_of};
+ghost use Rattle.ng_watch.specs.Keys.{key_cmp, begins};
+ghost use Rattle.ng_watch.specs.Seen.{watching_of, WatchStands};
+ghost use Rattle.ng_watch.specs.Table.{watchers_of, found, with_watch, without_watch, without_under, first_key, key_after, with_kept};
+ghost use Rattle.ng_watch.specs.Verdicts.{judged_of, verdict};
+
+use crate::testing::verdict;
+use crate::watch::{Verdict, Watch};
+use crate::watched::{Watched, forget};
+use ng_base::fault::{Fault, Memory};
+use ng_base::path::{Key, Path};
+use ng_store::store::Store;
+use ng_value::snapshot::Snap;
+use std::alloc::Global;
+use std::collections::BTreeMap;
+use std::marker::Model;
+use std::ops::Bound;
+
+/// The watchers of a page. Contracts see a list of keys with their watchers, in key order.
+#[derive(Drop)]
+pub struct Watchers {
+    table: BTreeMap<Key, Watched>,
+}
+
+impl Model for Watchers {
+    ghost use Rattle.std.specs.Prelude.{List};
+    ghost use Rattle.std.specs.Coded.{codes};
+    ghost use Rattle.ng_base.specs.declared.path.Key.{Key as Name};
+    ghost use Rattle.ng_base.specs.contracts.path.Key as key;
+    ghost use Rattle.ng_watch.specs.contracts.watched.Watched as watched;
+    ghost use Rattle.ng_watch.specs.declared.watched.Watched.{Watched as Row};
+
+    ghost Value = { List (Name × Row) };
+
+    ghost coded = { Prim.hlevel (codes, key.the_row.coded, watched.the_row.coded) };
+
+    ghost view = { λ w. w.table.entries };
+}
+
+/// Whether a path begins with another.
+fn begins(u: &[u32], p: &[u32]) -> bool
+    ensures { result ≡ begins u.now p.now }
+{
+    match u.split_first() {
+        None => true,
+        Some((x, xs)) => match p.split_first() {
+            None => false,
+            Some((y, ys)) => *x == *y && begins(xs, ys),
+        },
+    }
+}
+
+impl Watchers {
+    /// No watch.
+    pub fn new(alloc: Global) -> Watchers
+        ensures { result ≡ [] }
+    {
+        Watchers {
+            table: BTreeMap::new(alloc),
+        }
+    }
+
+    /// Adds a watch that has kept nothing.
+    pub fn add(&mut self, key: Key, w: Watch) -> Result<(), Memory>
+        requires { found key (watchers_of self.old) ≡ None }
+        ensures added { OnOk result (watchers_of self.new ≡ with_watch key (watching_of w) (watchers_of self.old)) }
+        ensures unchanged { OnErr result (watchers_of self.new ≡ watchers_of self.old) }
+        ensures refused { IfErr result (λ e. e ≡ Memory.Refused) }
+    {
+        self.table.insert(
+            key,
+            Watched {
+                watch: w,
+                kept: None,
+            },
+        )?;
+        Ok(())
+    }
+
+    /// Takes a watch out; whether it was there.
+    pub fn remove(&mut self, key: &Key) -> bool
+        ensures there { result ≡ is_some (found key.now (watchers_of self.old)) }
+        ensures removed { watchers_of self.new ≡ without_watch key.now (watchers_of self.old) }
+    {
+        self.table.remove(key).is_some()
+    }
+
+    /// Takes the watches of a scope, and of those below it, out.
+    pub fn remove_under(&mut self, p: &Path)
+        ensures { watchers_of self.new ≡ without_under p.now (watchers_of self.old) }
+    {
+        self.table
+            .retain(|key, _| !begins(p.as_slice(), key.path.as_slice()));
+    }
+
+    /// The least key.
+    pub fn first(&self) -> Option<&Key>
+        ensures { option_copied result ≡ first_key (watchers_of self.now) }
+    {
+        let (key, _) = self.table.iter().next()?;
+        Some(key)
+    }
+
+    /// The least key above one, which need not be there.
+    pub fn next_after(&self, key: &Key) -> Option<&Key>
+        ensures { option_copied result ≡ key_after key.now (watchers_of self.now) }
+    {
+        let start = Bound::Excluded(key);
+        let (next, _) = self.table.range((start, Bound::Unbounded)).next()?;
+        Some(next)
+    }
+
+    /// The number of watches.
+    pub fn count(&self) -> u64
+        ensures count { result ≡ length (watchers_of self.now) }
+        ensures ordered { IsStrictlySortedBy key_cmp (keys_of (watchers_of self.now)) }
+    {
+        self.table.len() as u64
+    }
+
+    /// The watch of a key.
+    pub fn watch(&self, key: &Key) -> &Watch
+        requires { IsSome (found key.now (watchers_of self.now)) }
+        ensures { option_map (λ w. w.watch) (found key.now (watchers_of self.now)) ≡ Some (watching_of result.now) }
+    {
+        match self.table.get(key) {
+            Some(watched) => &watched.watch,
+            None => unreachable!(),
+        }
+    }
+
+    /// What the watch of a key has kept.
+    pub fn kept(&self, key: &Key) -> Option<&Snap>
+        requires { IsSome (found key.now (watchers_of self.now)) }
+        ensures { option_map (λ w. w.kept) (found key.now (watchers_of self.now)) ≡ Some (option_map (λ s. snap_of s.now) result) }
+    {
+        match self.table.get(key) {
+            Some(watched) => watched.kept.as_ref(),
+            None => unreachable!(),
+        }
+    }
+
+    /// The watch of a key keeps a snapshot, and what it had kept is handed back.
+    pub fn keep(&mut self, key: &Key, s: Snap) -> Option<Snap>
+        requires { IsSome (found key.now (watchers_of self.old)) }
+        ensures former { option_map (λ w. w.kept) (found key.now (watchers_of self.old)) ≡ Some (option_map snap_of result) }
+        ensures kept { watchers_of self.new ≡ with_kept key.now (Some (snap_of s)) (watchers_of self.old) }
+    {
+        match self.table.get_mut(key) {
+            Some(watched) => watched.kept.replace(s),
+            None => unreachable!(),
+        }
+    }
+
+    /// The watch of a key keeps nothing, where there is one.
+    pub fn unset(&mut self, key: &Key)
+        ensures { watchers_of self.new ≡ with_kept key.now None (watchers_of self.old) }
+    {
+        let Some(watched) = self.table.get_mut(key) else {
+            return;
+        };
+        forget(&mut watched.kept);
+    }
+
+    /// The verdict of the watcher of a key, with the snapshot that is to be kept where it is dirty.
+    pub fn test(&self, alloc: Global, store: &Store, key: &Key) -> Result<Verdict, Fault>
+        requires there { IsSome (found key.now (watchers_of self.now)) }
+        requires stands { ForSome (found key.now (watchers_of self.now)) (λ w. WatchStands (length store.now) w.watch) }
+        ensures { IfSome (found key.now (watchers_of self.now)) (λ w. Gives is_memory judged_of (verdict store.now w) result) }
+    {
+        match self.table.get(key) {
+            Some(watched) => verdict(alloc, store, watched),
+            None => unreachable!(),
+        }
+    }
+}
