@@ -1,6 +1,6 @@
 -- A table of watches and what contracts see of it change alike.
 use Rattle.std.proofs.Common.{◌≡◌, ℕ, Bool, true, false, cond, Bor, List, [], ◌∷◌, ◌++◌, Option, Some, None, refl, ap, sym, ◌∙◌, map, length, rules, arith}
-use Rattle.std.specs.Prelude.{IsSome, is_some, not, ◌&&◌, option_copied, find, option_map, slice_get}
+use Rattle.std.specs.Prelude.{IsSome, is_some, IfSome, not, ◌&&◌, option_copied, find, option_map, slice_get}
 use Rattle.std.specs.List.{filter}
 use Rattle.std.specs.Map.{lookup, remove_entry, set_value, keys_of}
 use Rattle.std.specs.BTreeMap.{insert_entry}
@@ -12,7 +12,8 @@ use Rattle.std.specs.declared.cmp.Ordering.{Ordering}
 use Rattle.std.specs.declared.cmp.Ordering.TheVariants.{Less, Equal, Greater}
 use Rattle.ng_base.specs.declared.path.Key.{Key}
 use Rattle.ng_base.specs.contracts.path.KeyOrd.TheImpl as ordered
-use Rattle.ng_watch.specs.Keys.{key_cmp, is_key, is_above, begins}
+use Rattle.std.proofs.lemmas.Cmp.{tied_itself}
+use Rattle.ng_watch.specs.Keys.{key_cmp, key_cmp_total, is_key, is_above, begins}
 use Rattle.ng_watch.specs.Seen.{Watching, Watcher, watcher_of, watching_of}
 use Rattle.ng_watch.specs.Table.{Table, entry_of, found, keeping, with_kept, with_watch, without_watch, without_under, first_key, key_after}
 use Rattle.ng_watch.specs.declared.watched.Watched.{Watched}
@@ -144,3 +145,36 @@ unset_apart k s es new t o n l e h = ap (map entry_of) n ∙ sym (unset-none k s
 pub kept-seen : (r : Option (Bor Snap)) (o : Option Snap) → option_copied r ≡ o → option_map snap_of o ≡ option_map (λ s. snap_of s.now) r
 kept-seen None o e = ap (option_map snap_of) (sym e)
 kept-seen (Some s) o e = ap (option_map snap_of) (sym e)
+
+-- A key that is met is one of a watcher.
+
+met_there : (k : Key) (t : Table) (p : Key → Bool) → option_map {T = Key × Watcher} {U = Key} (λ e. e.0) (find (λ e. p e.0) t) ≡ Some k → is_some (found k t) ≡ true
+met_there k [] p h = absurd (cc)
+met_there k (e ∷ t) p h = by_test (p e.0) h (met_there k t p)
+  where
+    -- an earlier watcher of the key is there too
+    or_later : (b : Bool) → is_some (found k t) ≡ true → is_some (cond b (Some e.1) (found k t)) ≡ true
+    or_later true g = refl
+    or_later false g = g
+
+    by_test : (b : Bool) → option_map {T = Key × Watcher} {U = Key} (λ x. x.0) (cond b (Some e) (find (λ x. p x.0) t)) ≡ Some k → (option_map {T = Key × Watcher} {U = Key} (λ x. x.0) (find (λ x. p x.0) t) ≡ Some k → is_some (found k t) ≡ true) → is_some (cond (is_key k e.0) (Some e.1) (found k t)) ≡ true
+    by_test true g more = let same : e.0 ≡ k = cc in rw (ap (is_key k) same ∙ ap is_eq (tied_itself key_cmp_total k)) refl
+    by_test false g more = or_later (is_key k e.0) (more g)
+
+pub after_there : (k q : Key) (t : Table) → Some q ≡ key_after k t → IsSome (found q t)
+after_there k q t h = met_there q t (is_above k) (sym h)
+
+first_found : (t : Table) → first_key t ≡ option_map {T = Key × Watcher} {U = Key} (λ e. e.0) (find (λ e. true) t)
+first_found [] = refl
+first_found (e ∷ t) = refl
+
+pub first_there : (q : Key) (t : Table) → Some q ≡ first_key t → IsSome (found q t)
+first_there q t h = met_there q t (λ k. true) (sym (h ∙ first_found t))
+
+pub first_all : (r : Option (Bor Key)) (t : Table) → option_copied r ≡ first_key t → IfSome r (λ k. IsSome (found k.now t))
+first_all None t h = tt
+first_all (Some k) t h = first_there k.now t h
+
+pub after_all : (k : Key) (r : Option (Bor Key)) (t : Table) → option_copied r ≡ key_after k t → IfSome r (λ q. IsSome (found q.now t))
+after_all k None t h = tt
+after_all k (Some q) t h = after_there k q.now t h

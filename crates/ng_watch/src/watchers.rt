@@ -57,6 +57,23 @@ fn begins(u: &[u32], p: &[u32]) -> bool
     }
 }
 
+/// The least key.
+fn least(table: &BTreeMap<Key, Watched>) -> Option<&Key>
+    ensures { option_copied result ≡ first_key (watchers_of table.now.entries) }
+{
+    let (key, _) = table.iter().next()?;
+    Some(key)
+}
+
+/// The least key above one.
+fn least_above<'a>(table: &'a BTreeMap<Key, Watched>, key: &Key) -> Option<&'a Key>
+    ensures { option_copied result ≡ key_after key.now (watchers_of table.now.entries) }
+{
+    let start = Bound::Excluded(key);
+    let (next, _) = table.range((start, Bound::Unbounded)).next()?;
+    Some(next)
+}
+
 impl Watchers {
     /// No watch.
     pub fn new(alloc: Global) -> Watchers
@@ -67,9 +84,8 @@ impl Watchers {
         }
     }
 
-    /// Adds a watch that has kept nothing.
+    /// Adds a watch that has kept nothing. It takes the place of one that had its key.
     pub fn add(&mut self, key: Key, w: Watch) -> Result<(), Memory>
-        requires { found key (watchers_of self.old) ≡ None }
         ensures added { OnOk result (watchers_of self.new ≡ with_watch key (watching_of w) (watchers_of self.old)) }
         ensures unchanged { OnErr result (watchers_of self.new ≡ watchers_of self.old) }
         ensures refused { IfErr result (λ e. e ≡ Memory.Refused) }
@@ -102,19 +118,18 @@ impl Watchers {
 
     /// The least key.
     pub fn first(&self) -> Option<&Key>
-        ensures { option_copied result ≡ first_key (watchers_of self.now) }
+        ensures key { option_copied result ≡ first_key (watchers_of self.now) }
+        ensures there { IfSome result (λ k. IsSome (found k.now (watchers_of self.now))) }
     {
-        let (key, _) = self.table.iter().next()?;
-        Some(key)
+        least(&self.table)
     }
 
     /// The least key above one, which need not be there.
     pub fn next_after(&self, key: &Key) -> Option<&Key>
-        ensures { option_copied result ≡ key_after key.now (watchers_of self.now) }
+        ensures key { option_copied result ≡ key_after key.now (watchers_of self.now) }
+        ensures there { IfSome result (λ k. IsSome (found k.now (watchers_of self.now))) }
     {
-        let start = Bound::Excluded(key);
-        let (next, _) = self.table.range((start, Bound::Unbounded)).next()?;
-        Some(next)
+        least_above(&self.table, key)
     }
 
     /// The number of watches.

@@ -1,15 +1,7 @@
-use Rattle.std.proofs.Common.{◌∙◌, ap, sym, option_map, map}
-use Rattle.ng_watch.specs.Table.{watchers_of, entry_of}
-use Rattle.std.specs.Option.{option_copied}
-use Rattle.ng_watch.proofs.Tables.{after_key}
+use Rattle.std.proofs.Common.{◌∙◌, ap}
+use Rattle.ng_watch.specs.Table.{watchers_of, key_after}
+use Rattle.ng_watch.proofs.Tables.{after_all}
 use Rattle.ng_watch.proofs.watchers.Watchers.next_after.Goals as goal
 
-pub returns-in_err-next : goal.returns-in_err-next
-returns-in_err-next c =
-    let a = after_key c.args.key.now c.self.inside.table.entries c.range.result (watchers_of c.args.self.now) (c.range.ensures.between tt) (ap (map entry_of) c.self.view_is) in
-    ap option_copied c.from_residual.ensures ∙ sym (rw c.in_err-next.ensures.steps.0 at a)
-
-pub returns : goal.returns
-returns c =
-    let a = after_key c.args.key.now c.self.inside.table.entries c.range.result (watchers_of c.args.self.now) (c.range.ensures.between tt) (ap (map entry_of) c.self.view_is) in
-    sym (rw c.in_ok-next.ensures.steps at a)
+pub returns-clause-there : goal.returns-clause-there
+returns-clause-there c = after_all c.args.key.now c.least_above.result (watchers_of c.args.self.now) (c.least_above.ensures ∙ ap (λ es. key_after c.args.key.now (watchers_of es)) c.self.view_is)
