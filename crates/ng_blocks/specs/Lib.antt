@@ -3,3 +3,7 @@ pub mod SameKeys
 pub mod Places
 pub mod Plans
 pub mod Switching
+pub mod Dividing
+pub mod Heads
+pub mod Repeats
+pub mod RepeatSpelling
