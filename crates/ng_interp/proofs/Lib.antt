@@ -1,1 +1,3 @@
 pub mod CutSteps
+pub mod EscapeSteps
+pub mod PartLaws
