@@ -1,11 +1,11 @@
 -- The first divider between white space, as it is read and as it is spelled.
-use Rattle.std.proofs.Common.{◌≡◌, ◌≤◌, ◌⊎◌, inl, inr, ℕ, suc, Bool, true, false, refl, ap, sym, subst, ◌∙◌, List, [], ◌∷◌, ◌++◌, length, Option, Some, None, arith}
+use Rattle.std.proofs.Common.{◌≡◌, ◌≤◌, ◌⊎◌, inl, inr, ℕ, Bool, true, false, refl, ap, sym, subst, ◌∙◌, List, [], ◌∷◌, ◌++◌, length, Option, Some, None, arith}
 use Rattle.std.specs.Prelude.{if◌then◌else◌}
 use Rattle.std.proofs.lemmas.List.{append_assoc}
 use Rattle.ng_language.specs.Choice.{when_some}
 use Rattle.ng_language.specs.Letters.{is_space}
 use Rattle.ng_blocks.specs.Dividing.{after_divider, cut_from}
-use Rattle.ng_blocks.specs.RepeatSpelling.{IsDivider, begins_spaced, ends_spaced, IsCut, IsFirstCut, HasNoCut}
+use Rattle.ng_blocks.specs.RepeatSpelling.{ends_spaced, IsCut, IsFirstCut, HasNoCut}
 use Rattle.ng_blocks.specs.declared.dividing.Divider.{Divider}
 use Rattle.ng_blocks.proofs.Dividers.{divider_here, divider_is}
 

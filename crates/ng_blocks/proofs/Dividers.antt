@@ -97,8 +97,9 @@ divider_is TrackBy cs after h =
     let (same, begins) = spaced_is gs after last in
     let (first, spaces) = spaced_is ds es space in
     let (ws, front, all) = front_cut es in
-    let left : es ≡ ws ++ (codes "by" ++ after) = front ∙ ap (λ x. ws ++ x) (word_is (codes "by") (without_front es) gs by ∙ ap (λ x. codes "by" ++ x) same) in
-    (codes "track" ++ (ws ++ codes "by"),
-     word_is (codes "track") cs ds track ∙ ap (λ x. codes "track" ++ x) (first ∙ left ∙ sym (append_assoc ws (codes "by") after)),
-     (ws, refl, some_space ws es after left spaces, all),
-     begins)
+    let left : es ≡ ws ++ (codes "by" ++ after) = front ∙ ap (λ x. ws ++ x) (word_is (codes "by") (without_front es) gs by ∙ ap (λ x. codes "by" ++ x) same) in (
+      codes "track" ++ (ws ++ codes "by"),
+      word_is (codes "track") cs ds track ∙ ap (λ x. codes "track" ++ x) (first ∙ left ∙ sym (append_assoc ws (codes "by") after)),
+      (ws, refl, some_space ws es after left spaces, all),
+      begins,
+    )

@@ -2,7 +2,6 @@
 use Rattle.std.proofs.Common.{◌≡◌, ◌<◌, ℕ, ◌+◌, refl, Bool, true, false, ap, sym, ◌∙◌, List, [], ◌∷◌, ◌++◌, length, drop, get_or}
 use Rattle.std.specs.Prelude.{◌||◌, not, if◌then◌else◌}
 use Rattle.std.proofs.lemmas.List.{drop_more, append_assoc}
-use Rattle.std.specs.List.{list_any}
 use Rattle.std.proofs.lemmas.List.Folds.{list_any-append}
 use Rattle.ng_blocks.specs.SameKeys.{same_key, same_key_equiv}
 use Rattle.ng_blocks.specs.Plans.{is_among, has_double}
@@ -34,7 +33,7 @@ found_double [] rest k h = absurd (cc)
 found_double (x ∷ xs) rest k h =
     which_true (same_key k x) (is_among xs k) (λ b. has_double ((x ∷ xs) ++ k ∷ rest) ≡ b)
     (λ e. either_true (is_among (xs ++ k ∷ rest) x) (has_double (xs ++ k ∷ rest))
-        (list_any-append (same_key x) xs (k ∷ rest) ∙ second_true (is_among xs x) (is_among (k ∷ rest) x) (either_true (same_key x k) (is_among rest x) (same_key_equiv.symm x k ∙ e))))
+    (list_any-append (same_key x) xs (k ∷ rest) ∙ second_true (is_among xs x) (is_among (k ∷ rest) x) (either_true (same_key x k) (is_among rest x) (same_key_equiv.symm x k ∙ e))))
     (λ e. second_true (is_among (xs ++ k ∷ rest) x) (has_double (xs ++ k ∷ rest)) (found_double xs rest k e))
     h
 

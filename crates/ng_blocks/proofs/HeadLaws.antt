@@ -1,5 +1,5 @@
 -- The names before `in`, as they are read and as they are spelled.
-use Rattle.std.proofs.Common.{◌≡◌, ℕ, List, [], ◌∷◌, ◌++◌, length, refl, ap, sym, subst, ◌∙◌, Option, Some, None, Result, Ok, Err, encode_utf8_all}
+use Rattle.std.proofs.Common.{◌≡◌, ℕ, List, [], ◌∷◌, length, refl, ap, subst, ◌∙◌, Option, Some, None, Result, Ok, Err, encode_utf8_all}
 use Rattle.ng_language.specs.Choice.{when_some}
 use Rattle.ng_language.specs.Lexing.{lexed}
 use Rattle.ng_language.specs.Tokens.{after, name_at}
@@ -11,7 +11,7 @@ use Rattle.ng_language.specs.declared.syntax.Token.{Token}
 use Rattle.ng_language.specs.declared.syntax.Token.TheVariants as token
 use Rattle.ng_language.specs.declared.syntax.LexFault.{LexFault}
 use Rattle.ng_blocks.specs.Heads.{only, one_name, two_names, head_in, head_lexed, head_of}
-use Rattle.ng_blocks.specs.RepeatSpelling.{IsHead, SpellsTokens, IsNames}
+use Rattle.ng_blocks.specs.RepeatSpelling.{IsHead, IsNames}
 use Rattle.ng_blocks.specs.declared.repeats.Head.{Head}
 use Rattle.ng_blocks.proofs.Dividers.{some_of}
 
@@ -34,11 +34,11 @@ two_is ts p h =
     let (e, close, h5) = some_of (after sign.CloseRound n.1) (λ e. only e (k.0, n.0)) p h4 in
     let (none, same) = only_is e (k.0, n.0) p h5 in
     let whole : IsHead (Some k.0) n.0 ts =
-        after_some sign.OpenRound ts a opened
-        ∙ ap (λ x. token.Sign sign.OpenRound ∷ x) (name_some a k.1 k.0 key)
-        ∙ ap (λ x. token.Sign sign.OpenRound ∷ token.Name k.0 ∷ x) (after_some sign.Comma k.1 b comma)
-        ∙ ap (λ x. token.Sign sign.OpenRound ∷ token.Name k.0 ∷ token.Sign sign.Comma ∷ x) (name_some b n.1 n.0 name)
-        ∙ ap (λ x. token.Sign sign.OpenRound ∷ token.Name k.0 ∷ token.Sign sign.Comma ∷ token.Name n.0 ∷ x) (after_some sign.CloseRound n.1 e close ∙ ap (λ x. token.Sign sign.CloseRound ∷ x) none) in
+    after_some sign.OpenRound ts a opened
+    ∙ ap (λ x. token.Sign sign.OpenRound ∷ x) (name_some a k.1 k.0 key)
+    ∙ ap (λ x. token.Sign sign.OpenRound ∷ token.Name k.0 ∷ x) (after_some sign.Comma k.1 b comma)
+    ∙ ap (λ x. token.Sign sign.OpenRound ∷ token.Name k.0 ∷ token.Sign sign.Comma ∷ x) (name_some b n.1 n.0 name)
+    ∙ ap (λ x. token.Sign sign.OpenRound ∷ token.Name k.0 ∷ token.Sign sign.Comma ∷ token.Name n.0 ∷ x) (after_some sign.CloseRound n.1 e close ∙ ap (λ x. token.Sign sign.CloseRound ∷ x) none) in
     subst (λ (q : List ℕ × List ℕ). IsHead (Some q.0) q.1 ts) same whole
 
 head_is : (ts : List Token) (h : Head) → head_in ts ≡ Some h → IsHead h.key h.name ts

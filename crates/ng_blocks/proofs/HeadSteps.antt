@@ -1,9 +1,9 @@
 -- Tokens that are names, one after another.
-use Rattle.std.proofs.Common.{◌≡◌, ◌<◌, ℕ, List, [], ◌∷◌, length, refl, ap, sym, ◌∙◌, Option, Some, None, arith}
+use Rattle.std.proofs.Common.{◌≡◌, ◌<◌, ℕ, List, [], ◌∷◌, length, refl, Some, None, arith}
 use Rattle.ng_language.specs.Tokens.{after, name_at}
 use Rattle.ng_language.specs.declared.syntax.Sign.TheVariants as sign
 use Rattle.ng_language.specs.declared.syntax.Token.{Token}
-use Rattle.ng_blocks.specs.Heads.{only, one_name, two_names}
+use Rattle.ng_blocks.specs.Heads.{only, two_names}
 
 -- two names, where each step goes on
 pub two_by : (ts a b c d e : List Token) (k n : List ℕ) → after sign.OpenRound ts ≡ Some a → name_at a ≡ Some (k, b) → after sign.Comma b ≡ Some c → name_at c ≡ Some (n, d) → after sign.CloseRound d ≡ Some e → two_names ts ≡ only e (k, n)

@@ -1,20 +1,17 @@
 -- The program of a text, from its bytes.
-use Rattle.std.proofs.Common.{◌≡◌, ℕ, List, length, refl, ap, sym, ◌∙◌, Bool, true, false, Result, Ok, Err, encode_utf8_all}
+use Rattle.std.proofs.Common.{◌≡◌, ℕ, List, length, refl, ap, ◌∙◌, false, Ok, Err}
 use Rattle.std.specs.Str.{chars, IsUtf8}
 use Rattle.std.proofs.lemmas.Str.{encodes-chars}
 use Rattle.ng_base.specs.declared.fault.Memory.{Memory}
 use Rattle.ng_language.specs.Lexing as lexing
 use Rattle.ng_language.specs.Parsing as parsing
-use Rattle.ng_language.specs.Trees.{Trees}
 use Rattle.ng_language.specs.declared.syntax.Token.{Token}
 use Rattle.ng_language.specs.declared.syntax.LexFault.{LexFault}
 use Rattle.ng_language.specs.declared.syntax.LexKind.{LexKind}
 use Rattle.ng_language.specs.declared.syntax.LexKind.TheVariants as lex_kinds
-use Rattle.ng_language.specs.declared.syntax.ParseFault.{ParseFault}
 use Rattle.ng_language.specs.declared.syntax.ParseKind.{ParseKind}
 use Rattle.ng_language.specs.declared.syntax.ParseKind.TheVariants as parse_kinds
 use Rattle.ng_blocks.specs.Repeats.{parsed_program, lexed_program, program_of}
-use Rattle.ng_blocks.specs.declared.repeats.RepeatFault.{RepeatFault}
 use Rattle.ng_blocks.specs.declared.repeats.RepeatFault.TheVariants.{Expression}
 
 pub lex_kind_free : (k : LexKind) → ((m : Memory) → k ≡ lex_kinds.Memory m → ⊥) → lexing.is_memory k ≡ false

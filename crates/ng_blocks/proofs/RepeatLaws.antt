@@ -1,5 +1,5 @@
 -- What a repeat says, as it is read and as it is spelled.
-use Rattle.std.proofs.Common.{◌≡◌, ◌⊎◌, inl, inr, ℕ, Bool, true, false, List, [], length, refl, ap, sym, subst, ◌∙◌, Option, Some, None, Result, Ok, Err, encode_utf8_all}
+use Rattle.std.proofs.Common.{◌≡◌, ℕ, Bool, true, false, List, [], length, refl, ap, sym, subst, ◌∙◌, Option, Some, None, Result, Ok, Err, encode_utf8_all}
 use Rattle.std.specs.Prelude.{IfOk, ◌||◌, if◌then◌else◌}
 use Rattle.ng_base.specs.Meets.{Gives, ◌>>=◌}
 use Rattle.ng_base.proofs.Binds.{bind_ok}
@@ -18,7 +18,7 @@ use Rattle.ng_language.specs.declared.syntax.ParseFault.{ParseFault}
 use Rattle.ng_blocks.specs.Dividing.{cut_from}
 use Rattle.ng_blocks.specs.Heads.{head_of}
 use Rattle.ng_blocks.specs.Repeats.{Says, repeat_of, is_free, said, parsed_program, lexed_program, program_of, is_blank, untracked, tracked, tail_read, repeat_read}
-use Rattle.ng_blocks.specs.RepeatSpelling.{IsFirstCut, SpellsTokens, IsNames, IsExpression, IsSource, IsTail, IsRepeat}
+use Rattle.ng_blocks.specs.RepeatSpelling.{SpellsTokens, IsNames, IsExpression, IsSource, IsTail, IsRepeat}
 use Rattle.ng_blocks.specs.declared.dividing.Divider.TheVariants.{In, TrackBy}
 use Rattle.ng_blocks.specs.declared.repeats.Head.{Head}
 use Rattle.ng_blocks.specs.declared.repeats.Repeat.{Repeat}

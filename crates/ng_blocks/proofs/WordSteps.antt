@@ -1,5 +1,5 @@
 -- A word that is longer than the text.
-use Rattle.std.proofs.Common.{◌≡◌, ◌<◌, ◌+◌, ℕ, List, [], ◌∷◌, length, drop, get_or, ap, ◌∙◌, Option, None}
+use Rattle.std.proofs.Common.{◌≡◌, ◌<◌, ◌+◌, ℕ, List, [], ◌∷◌, length, drop, get_or, ap, ◌∙◌, None}
 use Rattle.std.proofs.lemmas.List.{drop_more}
 use Rattle.ng_blocks.specs.Dividing.{after_word}
 

@@ -1,5 +1,5 @@
 -- Where a repeat's text is cut.
-use Rattle.std.specs.Prelude.{ℕ, Bool, List, [], ◌∷◌, ◌++◌, Option, None, Some, codes, if◌then◌else◌}
+use Rattle.std.specs.Prelude.{ℕ, List, [], ◌∷◌, ◌++◌, Option, None, Some, codes, if◌then◌else◌}
 use Rattle.ng_language.specs.Choice.{when_some}
 use Rattle.ng_language.specs.Letters.{is_space}
 use Rattle.ng_language.specs.Lexing.{next_is}

@@ -20,12 +20,12 @@ abbrev pub two_names : List Token → Option (List ℕ × List ℕ)
 two_names ts =
     when_some (after sign.OpenRound ts)
     (λ a. when_some (name_at a)
-        (λ k. when_some (after sign.Comma k.1)
-            (λ b. when_some (name_at b)
-                (λ n. when_some (after sign.CloseRound n.1) (λ e. only e (k.0, n.0)) None)
-                None)
-            None)
-        None)
+    (λ k. when_some (after sign.Comma k.1)
+    (λ b. when_some (name_at b)
+    (λ n. when_some (after sign.CloseRound n.1) (λ e. only e (k.0, n.0)) None)
+    None)
+    None)
+    None)
     None
 
 abbrev pub head_in : List Token → Option Head

@@ -6,7 +6,6 @@ use Rattle.std.specs.Cmp.{IsEquivalence}
 use Rattle.std.proofs.Common.{ap, sym, ◌∙◌}
 use Rattle.std.proofs.lemmas.Bool.{eq-eqb, eqb-true}
 use Rattle.std.proofs.lemmas.Slice.Eq.{bytes_eq-Decides}
-use Rattle.ng_base.specs.declared.value.Value.{Value}
 use Rattle.ng_base.specs.declared.value.Value.TheVariants as value
 use Rattle.ng_blocks.specs.Keys.{kind_of, number_of, text_of}
 use Rattle.ng_blocks.specs.declared.keys.TrackKey.{TrackKey}
@@ -88,5 +87,5 @@ pub same_key_equiv : IsEquivalence same_key
 same_key_equiv = record {
   refl = λ x. is_same x x refl;
   symm = λ x y. agree (same_key x y) (same_key y x) (same_symm x y) (same_symm y x);
-  congr = λ x y z e. ap (λ k. same_key k z) (same_is x y e)
+  congr = λ x y z e. ap (λ k. same_key k z) (same_is x y e);
 }

@@ -26,13 +26,7 @@ fn value_kind(value: &Value) -> u8
         Value::Undefined => 0,
         Value::Null => 1,
         Value::Bool(_) => 2,
-        Value::Int(n) => {
-            if *n < 0 {
-                4
-            } else {
-                3
-            }
-        }
+        Value::Int(n) => { if *n < 0 { 4 } else { 3 } }
         Value::Nan => 5,
         Value::Text(_) => 6,
         Value::Obj(_) => 7,

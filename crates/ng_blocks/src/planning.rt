@@ -24,7 +24,11 @@ fn set_of(alloc: Global, keys: &[TrackKey]) -> Result<IndexSet<TrackKey>, PlanFa
 }
 
 /// The places of the rows whose key is not among the entries.
-fn gone(alloc: Global, rows: &[TrackKey], entries: &IndexSet<TrackKey>) -> Result<Numbers, AllocError>
+fn gone(
+    alloc: Global,
+    rows: &[TrackKey],
+    entries: &IndexSet<TrackKey>,
+) -> Result<Numbers, AllocError>
     requires { length rows.now < 2 ^ 32 }
     ensures { IfOk result (λ n. n ≡ gone_places rows.now entries.now.keys) }
 {
@@ -38,7 +42,11 @@ fn gone(alloc: Global, rows: &[TrackKey], entries: &IndexSet<TrackKey>) -> Resul
 }
 
 /// For each entry the place of the row of its key.
-fn sources(alloc: Global, rows: &IndexSet<TrackKey>, entries: &[TrackKey]) -> Result<Sources, AllocError>
+fn sources(
+    alloc: Global,
+    rows: &IndexSet<TrackKey>,
+    entries: &[TrackKey],
+) -> Result<Sources, AllocError>
     requires { length rows.now.keys < 2 ^ 32 }
     ensures { IfOk result (λ s. s ≡ map (row_of rows.now.keys) entries.now) }
 {

@@ -58,12 +58,7 @@ fn read_untracked(alloc: Global, head: Head, source: &str) -> Result<Repeat, Rep
 }
 
 /// A repeat with a track expression.
-fn read_tracked(
-    alloc: Global,
-    head: Head,
-    source: &str,
-    track: &str,
-) -> Result<Repeat, RepeatFault>
+fn read_tracked(alloc: Global, head: Head, source: &str, track: &str) -> Result<Repeat, RepeatFault>
     ensures { Gives is_free repeat_of (tracked head (one_time_of (chars source.now)) (chars track.now)) result }
 {
     let (one_time, source) = one_time(source);

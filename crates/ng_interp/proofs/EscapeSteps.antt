@@ -36,7 +36,7 @@ run_plain (u ∷ us) cs p =
 pub run_on : (p q r cs rest us others whole : List ℕ) (c : ℕ) → cs ≡ c ∷ rest → escape_at cs ≡ None → rest ≡ us ++ others → list_all is_plain us ≡ true → q ≡ p ++ c ∷ [] → r ≡ q ++ us → p ++ unescaped cs ≡ whole → r ++ unescaped others ≡ whole
 run_on p q r cs rest us others whole c first none run plain one more before =
     let read : unescaped cs ≡ c ∷ (us ++ unescaped others) =
-        ap unescaped first ∙ one_plain c rest (ap escape_at (sym first) ∙ none) ∙ ap (λ x. c ∷ unescaped x) run ∙ ap (λ x. c ∷ x) (run_plain us others plain) in
+    ap unescaped first ∙ one_plain c rest (ap escape_at (sym first) ∙ none) ∙ ap (λ x. c ∷ unescaped x) run ∙ ap (λ x. c ∷ x) (run_plain us others plain) in
     ap (λ x. x ++ unescaped others) more
     ∙ append_assoc q us (unescaped others)
     ∙ ap (λ x. x ++ (us ++ unescaped others)) one

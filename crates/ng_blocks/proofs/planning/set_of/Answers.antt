@@ -20,5 +20,5 @@ loop-key-preserved c =
     let added = c.in_ok-insert.field-0 in
     record {
       all = still_all keys seen now c.loop-key.key-index k c.key-item.result added c.in_ok-insert.ensures.added c.if-not-branch.false c.in_ok-insert.ensures.keys c.loop-key.invariant.all less (c.in_ok-copied.ensures ∙ c.key-item.is);
-      differ = still_differ keys seen now c.loop-key.key-index k c.key-item.result added c.in_ok-insert.ensures.added c.if-not-branch.false c.in_ok-insert.ensures.keys c.loop-key.invariant.differ
+      differ = still_differ keys seen now c.loop-key.key-index k c.key-item.result added c.in_ok-insert.ensures.added c.if-not-branch.false c.in_ok-insert.ensures.keys c.loop-key.invariant.differ;
     }

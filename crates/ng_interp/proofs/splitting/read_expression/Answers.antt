@@ -1,4 +1,4 @@
-use Rattle.std.proofs.Common.{ap, sym, ◌∙◌, length, Err, Ok}
+use Rattle.std.proofs.Common.{ap, sym, ◌∙◌, Err, Ok}
 use Rattle.ng_lex.specs.TokensOf.{tokens_of}
 use Rattle.ng_parse.specs.ProgramOf.{program}
 use Rattle.ng_interp.proofs.PartLaws.{lex_free, parse_free, lex_is, parse_is}
@@ -12,7 +12,7 @@ returns-in-Err c =
 pub returns-in-Err-parse : goal.returns-in-Err-parse
 returns-in-Err-parse c =
     λ free. parse_is c.args.place c.args.text.now c.utf8.text (tokens_of c.in-Ok.tokens) c.in-Ok.tokens.end (Err c.in-Err-parse.fault) c.in-Ok.ensures.exact c.in-Ok.ensures.end
-        (c.in-Err-parse.ensures.exact (parse_free c.args.place c.in-Err-parse.fault c.of_parser.result c.of_parser.ensures free))
+    (c.in-Err-parse.ensures.exact (parse_free c.args.place c.in-Err-parse.fault c.of_parser.result c.of_parser.ensures free))
     ∙ ap Err (sym c.of_parser.ensures)
 
 pub returns : goal.returns

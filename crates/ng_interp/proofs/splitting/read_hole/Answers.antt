@@ -1,4 +1,4 @@
-use Rattle.std.proofs.Common.{rules, ap, sym, ◌≡◌, ◌∙◌, false, Result, Ok, Err}
+use Rattle.std.proofs.Common.{rules, ap, ◌≡◌, ◌∙◌, false, Result, Ok, Err}
 use Rattle.std.specs.Str.{chars}
 use Rattle.ng_base.specs.Meets.{◌>>=◌}
 use Rattle.ng_language.specs.OneTime.{one_time_of}
@@ -13,10 +13,10 @@ returns-in_err-program c =
     let once = c.one_time-one_time.result.0 in
     let es = chars c.one_time-one_time.result.1.now in
     let same = hole_is c.args.place c.args.text.now once es c.before_expression-before.result c.saturating_add-place.result
-        (c.one_time-one_time.ensures ∙ ap one_time_of c.as_str.ensures.chars) c.before_expression-before.ensures c.saturating_add-place.ensures in
+    (c.one_time-one_time.ensures ∙ ap one_time_of c.as_str.ensures.chars) c.before_expression-before.ensures c.saturating_add-place.ensures in
     let e = c.in_err-program.field-0.0 in
     let fact : is_free e ≡ false → hole_at c.args.place c.args.text.now ≡ Err e =
-        λ free. same ∙ ap (λ (r : Result Trees InterpFault). r >>= λ b. Ok (hole once b)) (c.in_err-program.ensures free) in
+    λ free. same ∙ ap (λ (r : Result Trees InterpFault). r >>= λ b. Ok (hole once b)) (c.in_err-program.ensures free) in
     search (rules, fact)
 
 pub returns : goal.returns
@@ -24,5 +24,5 @@ returns c =
     let once = c.one_time-one_time.result.0 in
     let es = chars c.one_time-one_time.result.1.now in
     hole_is c.args.place c.args.text.now once es c.before_expression-before.result c.saturating_add-place.result
-        (c.one_time-one_time.ensures ∙ ap one_time_of c.as_str.ensures.chars) c.before_expression-before.ensures c.saturating_add-place.ensures
+    (c.one_time-one_time.ensures ∙ ap one_time_of c.as_str.ensures.chars) c.before_expression-before.ensures c.saturating_add-place.ensures
     ∙ ap (λ (r : Result Trees InterpFault). r >>= λ b. Ok (hole once b)) c.in_ok-program.ensures
