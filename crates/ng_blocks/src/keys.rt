@@ -235,6 +235,14 @@ impl Entries {
         Ok(())
     }
 
+    /// The rows that stand once a plan is done.
+    pub fn into_rows(self) -> Rows
+        ensures { result ≡ self }
+    {
+        let Entries { items } = self;
+        Rows { items }
+    }
+
     /// All of them, in order.
     pub fn as_slice(&self) -> &[TrackKey]
         ensures { result.now ≡ self.now }
