@@ -19,13 +19,7 @@ fn key_at(order: Order, size: u64, i: u64) -> Option<u64> {
     match order {
         Order::Rising => Some(i),
         Order::Falling => size.checked_sub(i)?.checked_sub(1),
-        Order::WithoutTenths => {
-            if i % 10 == 9 {
-                None
-            } else {
-                Some(i)
-            }
-        }
+        Order::WithoutTenths => { if i % 10 == 9 { None } else { Some(i) } }
     }
 }
 
