@@ -31,7 +31,7 @@ abbrev pub after_divider : Divider → List ℕ → Option (List ℕ)
 after_divider In cs = after_in cs
 after_divider TrackBy cs = after_track_by cs
 
--- what stands before and after the first divider between white space, behind these characters
+-- what stands before and after the first divider between white space, after these characters
 abbrev pub cut_from : Divider → List ℕ → List ℕ → Option (List ℕ × List ℕ)
 cut_from d before [] = None
 cut_from d before (c ∷ cs) =

@@ -32,7 +32,7 @@ run_plain (u ∷ us) cs p =
     let both = both_parts (is_plain u) (list_all is_plain us) p in
     one_plain u (us ++ cs) (none_at u (us ++ cs) both.0) ∙ ap (λ x. u ∷ x) (run_plain us cs both.1)
 
--- a character that begins no escape, and the run behind it
+-- a character that begins no escape, and the run after it
 pub run_on : (p q r cs rest us others whole : List ℕ) (c : ℕ) → cs ≡ c ∷ rest → escape_at cs ≡ None → rest ≡ us ++ others → list_all is_plain us ≡ true → q ≡ p ++ c ∷ [] → r ≡ q ++ us → p ++ unescaped cs ≡ whole → r ++ unescaped others ≡ whole
 run_on p q r cs rest us others whole c first none run plain one more before =
     let read : unescaped cs ≡ c ∷ (us ++ unescaped others) =

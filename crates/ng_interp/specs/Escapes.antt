@@ -1,4 +1,4 @@
--- Braces behind backslashes.
+-- Braces after backslashes.
 use Rattle.std.specs.Prelude.{ℕ, ◌==◌, ◌&&◌, ◌||◌, Bool, List, [], ◌∷◌, Option, None, Some, if◌then◌else◌}
 use Rattle.ng_base.specs.Codes.{backslash, open_brace, close_brace}
 
@@ -6,7 +6,7 @@ use Rattle.ng_base.specs.Codes.{backslash, open_brace, close_brace}
 abbrev pub is_escape : ℕ → ℕ → ℕ → ℕ → Bool
 is_escape a b c d = a == backslash && c == backslash && d == b && (b == open_brace || b == close_brace)
 
--- the brace, and what stands behind it, where a text begins with an escape
+-- the brace, and what stands after it, where a text begins with an escape
 abbrev pub escape_at : List ℕ → Option (ℕ × List ℕ)
 escape_at [] = None
 escape_at (a ∷ []) = None

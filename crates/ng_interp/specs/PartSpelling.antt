@@ -16,7 +16,7 @@ use Rattle.ng_interp.specs.declared.cutting.Cut.TheVariants as cut
 abbrev pub IsExpression : Trees → List ℕ → Type 0
 IsExpression b cs = (ts : List Token) × (ps : List ℕ) × Written (length (encode_utf8_all cs)) ts ps cs × IsParsed b ts
 
--- the part of a cut: words as they read, or the program of a hole behind its one-time mark
+-- the part of a cut: words as they read, or the program of a hole after its one-time mark
 abbrev pub IsPieceOf : Bool → Cut → Piece → Type 0
 IsPieceOf escapes (cut.Words t) (words u) = u ≡ (if escapes then unescaped t else t)
 IsPieceOf escapes (cut.Words t) (hole once b) = ⊥

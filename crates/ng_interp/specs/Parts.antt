@@ -65,7 +65,7 @@ expression_on once t = if once then without_front (behind_first (behind_first (w
 abbrev pub bytes_before : Bool → List ℕ → ℕ
 bytes_before once t = length (encode_utf8_all t) - length (encode_utf8_all (expression_on once t))
 
--- so many bytes behind a place, as far as 64 bits go
+-- so many bytes after a place, as far as 64 bits go
 abbrev pub place_behind : ℕ → ℕ → ℕ
 place_behind place bytes = min (place + bytes) (2 ^ 64 - 1)
 
@@ -113,7 +113,7 @@ abbrev pub piece_at : Bool → Cut → Result Piece InterpFault
 piece_at escapes (cut.Words t) = Ok (words (if escapes then unescaped t else t))
 piece_at escapes (cut.Hole p t) = hole_at p t
 
--- the parts of cuts, behind those that were read
+-- the parts of cuts, after those that were read
 abbrev pub pieces_on : Bool → List Piece → List Cut → Result (List Piece) InterpFault
 pieces_on escapes done [] = Ok done
 pieces_on escapes done (c ∷ cs) = piece_at escapes c >>= λ p. pieces_on escapes (done ++ p ∷ []) cs

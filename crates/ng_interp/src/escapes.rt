@@ -1,4 +1,4 @@
-//! Braces behind backslashes, which open and end no hole.
+//! Braces after backslashes, which open and end no hole.
 ghost use Rattle.std.specs.Prelude.{◌≡◌, IfOk};
 ghost use Rattle.ng_interp.specs.Escapes.{escape_at, unescaped};
 
@@ -6,7 +6,7 @@ use ng_base::reader::Plain;
 use ng_base::txt::Txt;
 use std::alloc::{AllocError, Global};
 
-/// The brace of an escape, and what stands behind it, where a text begins so.
+/// The brace of an escape, and what stands after it, where a text begins so.
 fn past_escape<'a>(text: &Plain<'a>) -> Option<(char, Plain<'a>)>
     ensures { result ≡ escape_at text.now }
 {

@@ -32,7 +32,7 @@ fn any_hole(cuts: &[Cut]) -> bool
     false
 }
 
-/// What stands behind the white space in front.
+/// What stands after the white space in front.
 fn past_space<'a>(text: &Plain<'a>) -> Plain<'a>
     ensures { result ≡ without_front text.now }
 {
@@ -46,7 +46,7 @@ fn past_space<'a>(text: &Plain<'a>) -> Plain<'a>
     reader
 }
 
-/// What stands behind the first character.
+/// What stands after the first character.
 fn past_first<'a>(text: Plain<'a>) -> Plain<'a>
     ensures { result ≡ behind_first text.entry }
 {
@@ -181,7 +181,7 @@ pub fn split(alloc: Global, text: &str) -> Result<Parts, InterpFault>
     read_text(alloc, text)
 }
 
-/// The first text, and those behind it.
+/// The first text, and those after it.
 fn first(texts: &[Txt]) -> Option<(&Txt, &[Txt])>
     ensures { MatchOption result (texts.now ≡ []) (λ r. texts.now ≡ r.0.now ∷ r.1.now) }
 {
