@@ -1,3 +1,4 @@
 pub mod Typed
 pub mod State
 pub mod Shown
+pub mod Laws

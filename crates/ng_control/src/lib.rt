@@ -7,13 +7,15 @@
 //!
 //! The contract that the crates above use: the typed text stands exactly as long as the model is what it was read as; it is then
 //! shown as it was typed, and else the model is shown. Of each pair of state classes one word stands, in the order `ng-dirty`,
-//! `ng-touched`, `ng-invalid`, `ng-empty`. A control keeps no model: `shown` and `classes` are given it.
+//! `ng-touched`, `ng-invalid`, `ng-empty`. A control keeps no model: `shown` and `classes` are given it. `laws` says that what was
+//! typed is shown as it was typed, and that dropping what no longer stands changes nothing that is shown.
 //!
 //! Not here: where `ng-model` may stand, writing the model into its scope, `ng-change`, and forms.
 #![tactic(auto)]
 
 pub mod control;
 pub mod kind;
+pub mod laws;
 mod model;
 mod reading;
 mod trim;

@@ -1,0 +1,4 @@
+pub mod Bindings
+pub mod Sorts
+pub mod Ranks
+pub mod Reach

@@ -1,0 +1,13 @@
+pub mod Free
+pub mod Names
+pub mod Table
+pub mod Cloak
+pub mod Holes
+pub mod Spots
+pub mod Controls
+pub mod Definitions
+pub mod Picks
+pub mod Sorted
+pub mod Refused
+pub mod Collected
+pub mod Laws
