@@ -13,6 +13,7 @@ use ng_control::{Control, ControlKind};
 use ng_store::store::Store;
 use ng_value::operators::same;
 use std::alloc::{AllocError, Global};
+use std::process::Abort;
 
 /// What happens to a control: an input, a blur, or nothing but that the model is another.
 #[derive(Clone, Copy, Debug)]
@@ -127,8 +128,7 @@ fn shown(alloc: Global, store: &Store, control: &Control, model: &View) -> Optio
     format!(in alloc; "{};{}", text.as_str(), words.as_str()).ok()
 }
 
-fn run(rt: &HostRuntime, store: &Store, kind: ControlKind, rows: &[Row]) {
-    let alloc = rt.alloc();
+fn run(rt: &impl Abort, alloc: Global, store: &Store, kind: ControlKind, rows: &[Row]) {
     let mut control = Control::new(alloc, kind);
     for (step, model, text, classes) in rows {
         let read = done(alloc, &mut control, *step);
@@ -153,8 +153,8 @@ fn each_input_has_its_text_and_its_classes(rt: HostRuntime) {
     let alloc = rt.alloc();
     let mut store = Store::new(alloc);
     let _ = store.make(ObjKind::Plain, None);
-    run(&rt, &store, TRIMS, TEXT.as_slice());
-    run(&rt, &store, KEEPS, PASSWORD.as_slice());
-    run(&rt, &store, ControlKind::Number, NUMBER.as_slice());
-    run(&rt, &store, ControlKind::Checkbox, CHECKBOX.as_slice());
+    run(&rt, alloc, &store, TRIMS, TEXT.as_slice());
+    run(&rt, alloc, &store, KEEPS, PASSWORD.as_slice());
+    run(&rt, alloc, &store, ControlKind::Number, NUMBER.as_slice());
+    run(&rt, alloc, &store, ControlKind::Checkbox, CHECKBOX.as_slice());
 }

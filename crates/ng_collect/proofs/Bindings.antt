@@ -1,5 +1,5 @@
 -- What the reader of bindings tells of a text.
-use Rattle.std.proofs.Common.{◌≡◌, ℕ, List, Result, Ok, Err, refl, subst, sym}
+use Rattle.std.proofs.Common.{◌≡◌, ℕ, List, Result, Ok, Err, refl, subst}
 use Rattle.std.specs.Prelude.{IfOk, IfErr, MatchBool}
 use Rattle.ng_base.specs.Meets.{Meets}
 use Rattle.ng_base.specs.declared.fault.Memory.TheVariants.{Refused}

@@ -1,6 +1,6 @@
 -- Of sorted directives those that reach the last one stand in front.
-use Rattle.std.proofs.Common.{◌≡◌, ◌∙◌, ◌+◌, ℕ, suc, arith, Bool, true, false, not, cond, List, [], ◌∷◌, filter, Option, None, Some, refl, sym, ap, Ordering, Less, Equal, Greater}
-use Rattle.std.specs.Prelude.{find, take_while, take}
+use Rattle.std.proofs.Common.{◌≡◌, ◌+◌, suc, arith, Bool, true, false, not, List, [], ◌∷◌, filter, Option, None, Some, refl, sym, ap, Ordering, Less, Equal, Greater}
+use Rattle.std.specs.Prelude.{find, take_while}
 use Rattle.std.specs.Cmp.{IsStrictWeakOrder}
 use Rattle.std.specs.List.{AllByRecursion, prefix_len}
 use Rattle.std.specs.Ordering.{int_cmp, ordering_then, is_lt}
@@ -9,7 +9,7 @@ use Rattle.std.proofs.lemmas.List.Sorted.{ranks_by}
 use Rattle.ng_collect.specs.declared.definition.DirectiveDef.{DirectiveDef}
 use Rattle.ng_collect.specs.declared.pick.Pick.{Pick}
 use Rattle.ng_collect.specs.Laws.{sorted, not_left_out}
-use Rattle.ng_collect.specs.Sorted.{is_before, in_order, is_terminal, reaches, down_to_terminal, pick_cmp}
+use Rattle.ng_collect.specs.Sorted.{is_before, is_terminal, reaches, down_to_terminal}
 use Rattle.ng_collect.proofs.Ranks.{pick_cmp_total}
 use Rattle.ng_collect.proofs.Sorts.{Rises, in_order_rises}
 

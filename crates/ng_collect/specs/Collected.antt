@@ -1,5 +1,5 @@
 -- The directives of an element (guide: HTML Compiler, "How directives are compiled").
-use Rattle.std.specs.Prelude.{ℕ, ℤ, List, [], Option, None, Some, Result, Ok, Err, if◌then◌else◌}
+use Rattle.std.specs.Prelude.{ℕ, ℤ, List, [], Option, Result, Ok, Err, if◌then◌else◌}
 use Rattle.ng_markup.specs.Forest.{Attributes, Node, element, text, comment}
 use Rattle.ng_collect.specs.declared.definition.DirectiveDef.{DirectiveDef}
 use Rattle.ng_collect.specs.declared.fault.CollectFault.{CollectFault}

@@ -1,5 +1,5 @@
 -- The name of the directive that a name of an element or an attribute picks (guide: Directives, "Normalization").
-use Rattle.std.specs.Prelude.{ℕ, Bool, true, false, ◌==◌, ◌&&◌, ◌||◌, List, [], ◌∷◌, Option, None, Some, option_and_then, if◌then◌else◌}
+use Rattle.std.specs.Prelude.{ℕ, Bool, false, ◌==◌, ◌&&◌, ◌||◌, List, [], ◌∷◌, Option, None, Some, option_and_then, if◌then◌else◌}
 use Rattle.std.specs.Char.{is_ascii_uppercase, to_ascii_uppercase}
 use Rattle.std.specs.Option.{unwrap_or}
 use Rattle.ng_base.specs.Codes.{hyphen, colon, underscore, letter_a, letter_n, letter_t, letter_x}

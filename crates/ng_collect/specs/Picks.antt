@@ -3,7 +3,6 @@ use Rattle.std.specs.Prelude.{ℕ, ℤ, pos, Bool, ◌&&◌, true, List, [], ◌
 use Rattle.std.specs.List.{flat_map, enumerate_from}
 use Rattle.std.specs.Ordering.{int_cmp, is_lt}
 use Rattle.std.specs.Str.{bytes_eq}
-use Rattle.ng_markup.specs.Forest.{Attributes}
 use Rattle.ng_collect.specs.declared.definition.DirectiveDef.{DirectiveDef}
 use Rattle.ng_collect.specs.declared.pick.Directive.{Directive}
 use Rattle.ng_collect.specs.declared.pick.Directive.TheVariants.{Core, Interpolated, User}
@@ -11,7 +10,7 @@ use Rattle.ng_collect.specs.declared.pick.Pick.{Pick}
 use Rattle.ng_collect.specs.declared.spots.Spot.{Spot}
 use Rattle.ng_collect.specs.declared.table.CoreDirective.{CoreDirective}
 use Rattle.ng_collect.specs.Definitions.{allows_elements, allows_attributes}
-use Rattle.ng_collect.specs.Spots.{spots, stands_at, on_attribute, is_interpolated}
+use Rattle.ng_collect.specs.Spots.{stands_at, on_attribute, is_interpolated}
 use Rattle.ng_collect.specs.Table.{named, priority}
 
 abbrev pub pick : Directive → ℤ → Spot → Pick

@@ -1,5 +1,5 @@
 -- Picked directives in order, down to the priority of the first terminal one (API: `$compile`, `priority` and `terminal`).
-use Rattle.std.specs.Prelude.{ℕ, ℤ, ◌+◌, Bool, true, false, not, ◌||◌, List, [], ◌∷◌, find, take_while, slice_get, Option, None, Some, if◌then◌else◌}
+use Rattle.std.specs.Prelude.{ℕ, ◌+◌, Bool, true, false, not, ◌||◌, List, [], ◌∷◌, find, take_while, slice_get, Option, None, Some, if◌then◌else◌}
 use Rattle.std.specs.Option.{option_map_or}
 use Rattle.std.specs.Ordering.{nat_cmp, int_cmp, on, then_cmp, flip_args, is_lt}
 use Rattle.std.specs.declared.cmp.Ordering.{Ordering}

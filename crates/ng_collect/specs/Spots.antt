@@ -1,5 +1,5 @@
 -- Where directives may stand: on the element itself, and on each of its attributes.
-use Rattle.std.specs.Prelude.{ℕ, Bool, true, false, not, ◌&&◌, ◌||◌, List, [], ◌∷◌, map, Option, None, Some, is_some}
+use Rattle.std.specs.Prelude.{ℕ, Bool, false, not, ◌&&◌, ◌||◌, List, ◌∷◌, map, Option, None, Some, is_some}
 use Rattle.std.specs.Option.{option_map_or}
 use Rattle.ng_markup.specs.Forest.{Attributes}
 use Rattle.ng_tags.specs.declared.attrs.Attr.{Attr}

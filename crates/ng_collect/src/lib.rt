@@ -19,6 +19,7 @@
 #![tactic(auto)]
 
 mod cloak;
+pub mod collecting;
 mod controls;
 pub mod definition;
 pub mod fault;
@@ -32,7 +33,6 @@ pub mod registry;
 mod sorting;
 mod spots;
 pub mod table;
-pub mod collecting;
 
 pub use cloak::kept_attrs;
 pub use collecting::{collect, collect_below};

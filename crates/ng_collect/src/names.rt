@@ -120,7 +120,10 @@ fn camel(alloc: Global, name: Plain<'_>) -> Result<Txt, AllocError>
 pub fn directive_name(alloc: Global, name: &Txt) -> Result<Txt, AllocError>
     ensures { IfOk result (λ t. t ≡ directive_name_of name.now) }
 {
-    camel(alloc, past_joiners(without_prefix(Plain::new(name.as_str()))))
+    camel(
+        alloc,
+        past_joiners(without_prefix(Plain::new(name.as_str()))),
+    )
 }
 
 fn begins_upper(name: &Plain<'_>) -> bool

@@ -53,11 +53,7 @@ fn push_interpolated(alloc: Global, into: &mut Vec<Pick>, spot: &Spot) -> Result
     ensures { OnOk result (into.new.items ≡ into.old.items ++ interpolated_pick_of spot.now) }
 {
     if is_interpolated(alloc, spot)? {
-        into.push(pick(
-            Directive::Interpolated,
-            INTERPOLATED_PRIORITY,
-            spot,
-        )?)?;
+        into.push(pick(Directive::Interpolated, INTERPOLATED_PRIORITY, spot)?)?;
     }
     Ok(())
 }
@@ -77,11 +73,7 @@ fn fits(d: &DirectiveDef, spot: &Spot) -> bool
 }
 
 /// Adds the directives of the application.
-fn push_users(
-    into: &mut Vec<Pick>,
-    defs: &[DirectiveDef],
-    spot: &Spot,
-) -> Result<(), AllocError>
+fn push_users(into: &mut Vec<Pick>, defs: &[DirectiveDef], spot: &Spot) -> Result<(), AllocError>
     ensures { OnOk result (into.new.items ≡ into.old.items ++ flat_map (user_pick spot.now) (enumerate_from 0 defs.now)) }
 {
     for (i, d) in defs.iter().enumerate() {
@@ -107,11 +99,7 @@ fn push_picks(
 }
 
 /// What is picked anywhere.
-fn every_pick(
-    alloc: Global,
-    defs: &[DirectiveDef],
-    spots: &[Spot],
-) -> Result<Vec<Pick>, AllocError>
+fn every_pick(alloc: Global, defs: &[DirectiveDef], spots: &[Spot]) -> Result<Vec<Pick>, AllocError>
     ensures { IfOk result (λ v. v.items ≡ flat_map (picks_at defs.now) spots.now) }
 {
     let mut picks = Vec::new(alloc);

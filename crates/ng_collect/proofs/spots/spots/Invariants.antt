@@ -1,4 +1,4 @@
-use Rattle.std.proofs.Common.{◌≡◌, ◌++◌, ◌∷◌, [], drop, map}
+use Rattle.std.proofs.Common.{◌≡◌, ◌++◌, ◌∷◌, drop, map}
 use Rattle.ng_html.specs.Attrs.{attr_of}
 use Rattle.ng_collect.specs.Spots.{element_spot, attribute_spot}
 use Rattle.ng_collect.proofs.spots.spots.Given as goal
