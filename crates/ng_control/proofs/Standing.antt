@@ -1,11 +1,11 @@
 -- What was typed, as long as its model stands.
-use Rattle.std.proofs.Common.{◌≡◌, ℕ, Bool, true, false, List, Option, None, Some, Ok, refl, ap, if◌then◌else◌}
+use Rattle.std.proofs.Common.{◌≡◌, ℕ, Bool, true, false, List, Option, None, Some, Ok, refl, if◌then◌else◌}
 use Rattle.ng_base.specs.Objects.{Object}
-use Rattle.ng_base.specs.Views.{ViewTree, prim}
+use Rattle.ng_base.specs.Views.{ViewTree}
 use Rattle.ng_value.proofs.Sameness.{same_self}
 use Rattle.ng_control.specs.declared.kind.Typed.{Typed}
 use Rattle.ng_control.specs.Laws.{model_of}
-use Rattle.ng_control.specs.Shown.{shown, typed_or_model}
+use Rattle.ng_control.specs.Shown.{shown}
 use Rattle.ng_control.specs.State.{ControlState, is_model, while_model, typed_in}
 use Rattle.ng_control.specs.Typed.{parsed}
 

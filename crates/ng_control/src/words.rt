@@ -28,7 +28,11 @@ fn push_one(
     requires second { IsWord second.now }
     ensures { OnOk result (words.new ≡ words.old ++ (if is_first then first.now else second.now) ∷ []) }
 {
-    let w = if is_first { word(alloc, first)? } else { word(alloc, second)? };
+    let w = if is_first {
+        word(alloc, first)?
+    } else {
+        word(alloc, second)?
+    };
     words.push(w)
 }
 
