@@ -1,0 +1,6 @@
+//! Scripts.
+#![tactic(auto)]
+
+pub mod cut;
+pub mod fault;
+pub mod targets;
