@@ -2,3 +2,6 @@ pub mod Words
 pub mod Lines
 pub mod Targets
 pub mod Free
+pub mod Verbs
+pub mod Json
+pub mod Parts

@@ -2,5 +2,7 @@
 #![tactic(auto)]
 
 pub mod cut;
+pub mod json;
+pub mod verbs;
 pub mod fault;
 pub mod targets;
