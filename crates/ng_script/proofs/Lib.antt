@@ -1,3 +1,4 @@
 pub mod Cuts
 pub mod LineCuts
 pub mod SameWords
+pub mod Programs

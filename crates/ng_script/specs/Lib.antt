@@ -5,3 +5,6 @@ pub mod Free
 pub mod Verbs
 pub mod Json
 pub mod Parts
+pub mod Acts
+pub mod Expressions
+pub mod Commanding

@@ -8,18 +8,11 @@ ghost use Rattle.ng_script.specs.Json.{json_of, text_of, object_of, list_of};
 ghost use Rattle.ng_script.specs.Parts.{is_over};
 
 use crate::fault::ScriptKind;
+use crate::parts::is_over;
 use ng_base::fault::Memory;
-use ng_base::reader::Plain;
 use ng_base::txt::Txt;
 use serde_json::{Map, Value as Json};
 use std::alloc::Global;
-
-/// Whether nothing stands there.
-pub fn is_over(text: &str) -> bool
-    ensures { result ≡ is_over (chars text.now) }
-{
-    Plain::new(text).first().is_none()
-}
 
 /// The value of JSON.
 fn read_json(alloc: Global, text: &str) -> Result<Json, ScriptKind>
