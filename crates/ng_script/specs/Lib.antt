@@ -8,3 +8,5 @@ pub mod Parts
 pub mod Acts
 pub mod Expressions
 pub mod Commanding
+pub mod Scripts
+pub mod Spelling

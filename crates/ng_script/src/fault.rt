@@ -1,7 +1,8 @@
 //! Why a script is refused.
 ghost use Rattle.ng_base.specs.declared.fault.Memory.TheVariants.{Refused};
 ghost use Rattle.ng_script.specs.declared.fault.ScriptKind.TheVariants.{Memory as Wanting};
-ghost use Rattle.std.specs.Prelude.{◌≡◌};
+ghost use Rattle.ng_script.specs.Free.{is_free};
+ghost use Rattle.std.specs.Prelude.{◌≡◌, true};
 
 use ng_base::fault::Memory;
 use std::alloc::{AllocError, AllocFailed};
@@ -50,5 +51,16 @@ impl<T: Drop> From<AllocFailed<T>> for ScriptKind {
 
     fn from(_: AllocFailed<T>) -> Self {
         ScriptKind::Memory(Memory::Refused)
+    }
+}
+
+impl From<AllocError> for ScriptFault {
+    ghost from_gives = { λ _ e. is_free e ≡ true };
+
+    fn from(_: AllocError) -> Self {
+        ScriptFault {
+            line: 0,
+            kind: ScriptKind::Memory(Memory::Refused),
+        }
     }
 }
