@@ -5,3 +5,6 @@ pub mod Programs
 pub mod Sizes
 pub mod Solid
 pub mod ScriptBytes
+pub mod TargetLaws
+pub mod PartLaws
+pub mod CommandLaws

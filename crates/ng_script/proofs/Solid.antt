@@ -83,7 +83,7 @@ no_past (c ∷ gap) r g h = by (is_blank c) ((and_parts (is_blank c) (list_all i
     by false e i = absurd (cc)
 
 gap_ends : (gap r : List ℕ) → IsGap gap → begins_end part.Word (gap ++ r) ≡ true
-gap_ends [] r g = refl
+gap_ends [] r g = absurd (omega (arith, g.0))
 gap_ends (c ∷ gap) r g = (and_parts (is_blank c) (list_all is_blank gap) g.1).0
 
 -- a word, a gap and what follows are cut so

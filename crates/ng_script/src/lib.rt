@@ -6,6 +6,7 @@ pub mod commands;
 pub mod cut;
 pub mod expressions;
 pub mod json;
+pub mod laws;
 pub mod parts;
 pub mod reading;
 pub mod verbs;
