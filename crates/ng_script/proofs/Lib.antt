@@ -8,3 +8,5 @@ pub mod ScriptBytes
 pub mod TargetLaws
 pub mod PartLaws
 pub mod CommandLaws
+pub mod Trimmed
+pub mod ScriptLaws

@@ -23,7 +23,7 @@ pub record Solid (cs : List ℕ) : Type 0 where
 abbrev pub Rest : List ℕ → Type 0
 Rest cs = (cs ≡ []) ⊎ Solid cs
 
-ends_later : (us : List ℕ) (c : ℕ) (cs : List ℕ) → ends_blank (us ++ c ∷ cs) ≡ ends_blank (c ∷ cs)
+pub ends_later : (us : List ℕ) (c : ℕ) (cs : List ℕ) → ends_blank (us ++ c ∷ cs) ≡ ends_blank (c ∷ cs)
 ends_later [] c cs = refl
 ends_later (u ∷ []) c cs = refl
 ends_later (u ∷ v ∷ us) c cs = ends_later (v ∷ us) c cs
@@ -61,7 +61,7 @@ abbrev pub Past : List ℕ → List ℕ → Type 0
 Past cs r = (gap : List ℕ) × (cs ≡ gap ++ r) × (list_all is_blank gap ≡ true) × ((r ≡ []) ⊎ (begins_solid r ≡ true))
 
 -- the blanks in front of what stands after them
-past_gap : (cs : List ℕ) → Past cs (past_blanks cs)
+pub past_gap : (cs : List ℕ) → Past cs (past_blanks cs)
 past_gap [] = ([], refl, refl, inl refl)
 past_gap (c ∷ cs) = by (is_blank c) refl (past_gap cs)
   where

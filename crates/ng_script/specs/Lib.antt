@@ -10,3 +10,4 @@ pub mod Expressions
 pub mod Commanding
 pub mod Scripts
 pub mod Spelling
+pub mod Readings
