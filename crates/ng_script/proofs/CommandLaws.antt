@@ -12,7 +12,7 @@ use Rattle.ng_base.proofs.Binds.{bind_ok}
 use Rattle.ng_language.specs.Trees.{Trees}
 use Rattle.ng_script.specs.Acts.{Act, click_on, fire_at, type_into, check_at, eval_root, eval_at, emit_from, broadcast_from, queue_task, probe_root, destroy_scope, make_digest}
 use Rattle.ng_script.specs.Commanding.{click_of, fire_of, typed_of, check_of, eval_of, at_of, event_of, emit_of, broadcast_of, async_of, probe_of, destroy_of, act_named, command_of}
-use Rattle.ng_script.specs.Expressions.{program_of}
+use Rattle.ng_script.specs.Expressions.{program_of, pure_program_of}
 use Rattle.ng_script.specs.Json.{IsJsonText, IsJsonList, text_of, object_of, list_of}
 use Rattle.ng_script.specs.Parts.{is_over, ended, next_target, next_scope, next_name, next_event, next_flag}
 use Rattle.ng_script.specs.Spelling.{begins_solid, IsOneWord, IsLine, with_last, IsScope, flag_word, IsCommand, Spells}
@@ -24,7 +24,7 @@ use Rattle.ng_script.specs.declared.fault.ScriptKind.{ScriptKind}
 use Rattle.ng_script.specs.declared.verbs.Verb.{Verb}
 use Rattle.ng_script.specs.declared.verbs.Verb.TheVariants as verb
 use Rattle.ng_script.proofs.Solid.{Solid, Rest, rest_of, word_one, prepend, tail_line, not_over, first_part, last_word, first_of_last, word_of_last}
-use Rattle.ng_script.proofs.PartLaws.{Next, ok_is, ended_is, next_target_is, next_target_read, next_scope_is, next_scope_read, scope_solid, next_name_is, next_name_read, next_event_is, next_event_read, next_flag_is, next_flag_read, flag_solid, expression_is, expression_read, text_is, text_read, object_is, object_read, list_is, list_read}
+use Rattle.ng_script.proofs.PartLaws.{Next, ok_is, ended_is, next_target_is, next_target_read, next_scope_is, next_scope_read, scope_solid, next_name_is, next_name_read, next_event_is, next_event_read, next_flag_is, next_flag_read, flag_solid, expression_is, expression_read, pure_is, pure_read, text_is, text_read, object_is, object_read, list_is, list_read}
 use Rattle.ng_script.proofs.TargetLaws.{target_solid}
 
 abbrev Kinded : Type 0 → Type 0
@@ -175,9 +175,10 @@ async_is cs a s w h =
 probe_is : (cs : List ℕ) (a : Act) → Solid cs → word cs ≡ codes "probe" → probe_of (next_part cs) ≡ Ok a → Spells a cs
 probe_is cs a s w h =
     let f : Trees → Kinded Act = λ p. Ok (probe_root p) in
-    let b = bind_ok (program_of (next_part cs)) f a h in
+    let b = bind_ok (pure_program_of (next_part cs)) f a h in
     let l = alone_line cs (codes "probe") s w in
-    subst (λ (x : Act). Spells x cs) (ok_is (probe_root b.0) a b.2) (l.0, l.1, (next_part cs, l.2, expression_is (next_part cs) b.0 b.1))
+    let e = pure_is (next_part cs) b.0 b.1 in
+    subst (λ (x : Act). Spells x cs) (ok_is (probe_root b.0) a b.2) (l.0, l.1, (next_part cs, l.2, e.0, e.1))
 
 at_is : (cs : List ℕ) (a : Act) → Solid cs → word cs ≡ codes "at" → at_of (next_part cs) ≡ Ok a → Spells a cs
 at_is cs a s w h =
@@ -359,7 +360,7 @@ probe_read : (p : Trees) (cs : List ℕ) → Spells (probe_root p) cs → comman
 probe_read p cs h =
     let q = alone_read (codes "probe") h.2.0 cs h.0 h.2.1 refl h.1 in
     let f : Trees → Kinded Act = λ p. Ok (probe_root p) in
-    of_word cs verb.Probe q.0 ∙ ap (λ (y : Kinded Trees). y >>= f) (ap program_of q.1 ∙ expression_read p h.2.0 h.2.2)
+    of_word cs verb.Probe q.0 ∙ ap (λ (y : Kinded Trees). y >>= f) (ap pure_program_of q.1 ∙ pure_read p h.2.0 h.2.2 h.2.3)
 
 at_read : (s : ScopeOf) (p : Trees) (cs : List ℕ) → Spells (eval_at s p) cs → command_of cs ≡ Ok (eval_at s p)
 at_read s p cs h =

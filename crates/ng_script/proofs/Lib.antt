@@ -10,3 +10,4 @@ pub mod PartLaws
 pub mod CommandLaws
 pub mod Trimmed
 pub mod ScriptLaws
+pub mod Answered

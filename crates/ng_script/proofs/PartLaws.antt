@@ -20,7 +20,11 @@ use Rattle.ng_language.specs.declared.syntax.ParseFault.{ParseFault}
 use Rattle.ng_language.proofs.SignSound.{lexed_is}
 use Rattle.ng_language.proofs.LexComplete.{lexed_only}
 use Rattle.ng_language.proofs.Whole.{parsed_is, parsed_only}
-use Rattle.ng_script.specs.Expressions.{IsExpression, tokens_or, program_or, program_of}
+use Rattle.ng_language.specs.Spelling.{Written}
+use Rattle.ng_language.specs.Grammar.{IsParsed}
+use Rattle.ng_view.specs.Purity.{ArePure, all_filters_known, are_pure}
+use Rattle.ng_view.proofs.Pure.{known_are, are_known_test, pure_are, are_pure_test}
+use Rattle.ng_script.specs.Expressions.{IsExpression, tokens_or, program_or, with_known, spelled_in, program_of, pure_program_of}
 use Rattle.ng_script.specs.Json.{IsJson, IsJsonText, IsJsonObject, IsJsonList, or_bad_argument, json_of, as_text, text_of, object_of, list_of}
 use Rattle.ng_script.specs.Parts.{is_over, ended, next_target, scope_of, next_scope, next_name, next_event, next_flag}
 use Rattle.ng_script.specs.Spelling.{IsOneWord, IsScope, flag_word}
@@ -221,19 +225,43 @@ program_ok : (r : Result Trees ParseFault) (p : Trees) → program_or r ≡ Ok p
 program_ok (Ok q) p h = ap (λ (x : Trees). let r : Result Trees ParseFault = Ok x in r) (ok_is q p h)
 program_ok (Err f) p h = absurd (cc)
 
-pub expression_is : (cs : List ℕ) (p : Trees) → program_of cs ≡ Ok p → IsExpression p cs
-expression_is cs p h =
+spelled_is : (cs : List ℕ) (p : Trees) → spelled_in cs ≡ Ok p → (ts : List Token) × (ps : List ℕ) × Written (length (encode_utf8_all cs)) ts ps cs × IsParsed p ts
+spelled_is cs p h =
     let n = length (encode_utf8_all cs) in
     let f : List Token × List ℕ → Result Trees ScriptKind = λ ts. program_or (parsing.parsed ts.0 ts.1 n) in
     let b = bind_ok (tokens_or (lexing.lexed n cs)) f p h in
     (b.0.0, b.0.1, lexed_is n cs b.0.0 b.0.1 (tokens_ok (lexing.lexed n cs) b.0 b.1), parsed_is p b.0.0 b.0.1 n (program_ok (parsing.parsed b.0.0 b.0.1 n) p b.2))
 
+pub expression_is : (cs : List ℕ) (p : Trees) → program_of cs ≡ Ok p → IsExpression p cs
+expression_is cs p h =
+    let b = bind_ok (spelled_in cs) with_known p h in
+    let ok : Result Trees ScriptKind = Ok b.0 in
+    let g = guarded (all_filters_known b.0) ok kinds.BadExpression p b.2 in
+    let e = ok_is b.0 p g.1 in
+    let s = spelled_is cs p (b.1 ∙ ap (λ (q : Trees). let r : Result Trees ScriptKind = Ok q in r) e) in
+    (s.0, s.1, s.2, s.3, known_are p (sym (ap all_filters_known e) ∙ g.0))
+
 pub expression_read : (p : Trees) (cs : List ℕ) → IsExpression p cs → program_of cs ≡ Ok p
 expression_read p cs h =
     let n = length (encode_utf8_all cs) in
     let f : List Token × List ℕ → Result Trees ScriptKind = λ ts. program_or (parsing.parsed ts.0 ts.1 n) in
-    ap (λ (r : Result (List Token × List ℕ) LexFault). tokens_or r >>= f) (lexed_only n cs h.0 h.1 h.2)
-    ∙ ap program_or (parsed_only p h.0 h.1 n h.3)
+    ap (λ (r : Result Trees ScriptKind). r >>= with_known)
+    (ap (λ (r : Result (List Token × List ℕ) LexFault). tokens_or r >>= f) (lexed_only n cs h.0 h.1 h.2) ∙ ap program_or (parsed_only p h.0 h.1 n h.3))
+    ∙ if_true (all_filters_known p) (Ok p) (Err kinds.BadExpression) (are_known_test p h.4)
+
+abbrev if_pure : Trees → Result Trees ScriptKind
+if_pure p = if are_pure p then Ok p else Err kinds.BadExpression
+
+pub pure_is : (cs : List ℕ) (p : Trees) → pure_program_of cs ≡ Ok p → IsExpression p cs × ArePure p
+pure_is cs p h =
+    let b = bind_ok (program_of cs) if_pure p h in
+    let ok : Result Trees ScriptKind = Ok b.0 in
+    let g = guarded (are_pure b.0) ok kinds.BadExpression p b.2 in
+    let e = ok_is b.0 p g.1 in
+    (subst (λ (q : Trees). IsExpression q cs) e (expression_is cs b.0 b.1), pure_are p (sym (ap are_pure e) ∙ g.0))
+
+pub pure_read : (p : Trees) (cs : List ℕ) → IsExpression p cs → ArePure p → pure_program_of cs ≡ Ok p
+pure_read p cs h k = ap (λ (r : Result Trees ScriptKind). r >>= if_pure) (expression_read p cs h) ∙ if_true (are_pure p) (Ok p) (Err kinds.BadExpression) (are_pure_test p k)
 
 -- JSON
 json_is : (cs : List ℕ) (d : Data) → json_of cs ≡ Ok d → IsJson d cs

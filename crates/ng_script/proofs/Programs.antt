@@ -10,7 +10,7 @@ use Rattle.ng_language.specs.declared.syntax.Token.{Token}
 use Rattle.ng_language.specs.declared.syntax.LexFault.{LexFault}
 use Rattle.ng_language.specs.declared.syntax.ParseFault.{ParseFault}
 use Rattle.ng_script.specs.Free.{is_want}
-use Rattle.ng_script.specs.Expressions.{lex_kind, parse_kind, tokens_or, program_or, program_of}
+use Rattle.ng_script.specs.Expressions.{lex_kind, parse_kind, tokens_or, program_or, spelled_in}
 use Rattle.ng_script.specs.declared.fault.ScriptKind.{ScriptKind}
 use Rattle.ng_script.specs.declared.fault.ScriptKind.TheVariants as kinds
 
@@ -30,8 +30,8 @@ parse_refused k f e h = not_wanting k (parsing.is_free f) e h
 abbrev read_in : ℕ → List ℕ → Result (List Token × List ℕ) LexFault → Result Trees ScriptKind
 read_in n cs r = tokens_or r >>= λ ts. program_or (parsing.parsed ts.0 ts.1 n)
 
-pub no_tokens : (n : ℕ) (cs : List ℕ) (f : LexFault) → length (encode_utf8_all cs) ≡ n → lexing.lexed n cs ≡ Err f → program_of cs ≡ Err kinds.BadExpression
+pub no_tokens : (n : ℕ) (cs : List ℕ) (f : LexFault) → length (encode_utf8_all cs) ≡ n → lexing.lexed n cs ≡ Err f → spelled_in cs ≡ Err kinds.BadExpression
 no_tokens n cs f e h = ap (λ m. read_in m cs (lexing.lexed m cs)) e ∙ ap (read_in n cs) h
 
-pub of_tokens : (n : ℕ) (cs : List ℕ) (ts : List Token) (ps : List ℕ) → length (encode_utf8_all cs) ≡ n → lexing.lexed n cs ≡ Ok (ts, ps) → program_of cs ≡ program_or (parsing.parsed ts ps n)
+pub of_tokens : (n : ℕ) (cs : List ℕ) (ts : List Token) (ps : List ℕ) → length (encode_utf8_all cs) ≡ n → lexing.lexed n cs ≡ Ok (ts, ps) → spelled_in cs ≡ program_or (parsing.parsed ts ps n)
 of_tokens n cs ts ps e h = ap (λ m. read_in m cs (lexing.lexed m cs)) e ∙ ap (read_in n cs) h

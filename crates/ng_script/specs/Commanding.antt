@@ -3,7 +3,7 @@ use Rattle.std.specs.Prelude.{ℕ, List, Option, None, Some, Result, Ok, Err}
 use Rattle.serde_json.specs.Data.{Data}
 use Rattle.ng_base.specs.Meets.{◌>>=◌}
 use Rattle.ng_script.specs.Acts.{Act, click_on, fire_at, type_into, check_at, eval_root, eval_at, emit_from, broadcast_from, queue_task, probe_root, destroy_scope, make_digest}
-use Rattle.ng_script.specs.Expressions.{program_of}
+use Rattle.ng_script.specs.Expressions.{program_of, pure_program_of}
 use Rattle.ng_script.specs.Json.{text_of, object_of, list_of}
 use Rattle.ng_script.specs.Parts.{ended, next_target, next_scope, next_name, next_event, next_flag}
 use Rattle.ng_script.specs.Verbs.{verb_named}
@@ -46,7 +46,7 @@ abbrev pub async_of : List ℕ → Result Act ScriptKind
 async_of cs = program_of cs >>= λ p. Ok (queue_task p)
 
 abbrev pub probe_of : List ℕ → Result Act ScriptKind
-probe_of cs = program_of cs >>= λ p. Ok (probe_root p)
+probe_of cs = pure_program_of cs >>= λ p. Ok (probe_root p)
 
 abbrev pub destroy_of : List ℕ → Result Act ScriptKind
 destroy_of cs = next_scope cs >>= λ s. ended (destroy_scope s.0) s.1

@@ -1,6 +1,7 @@
 -- How a command is spelled: a line is its parts, with blanks between them.
 use Rattle.std.specs.Prelude.{◌≡◌, ◌<◌, not, ℕ, Bool, true, false, List, [], ◌∷◌, ◌++◌, length, codes}
 use Rattle.std.specs.List.{list_all}
+use Rattle.ng_view.specs.Purity.{ArePure}
 use Rattle.ng_script.specs.Acts.{Act, click_on, fire_at, type_into, check_at, eval_root, eval_at, emit_from, broadcast_from, queue_task, probe_root, destroy_scope, make_digest}
 use Rattle.ng_script.specs.Expressions.{IsExpression}
 use Rattle.ng_script.specs.Json.{IsJsonText, IsJsonObject, IsJsonList}
@@ -60,7 +61,7 @@ IsCommand (eval_at s p) ws = (w : List ℕ) × (es : List ℕ) × (ws ≡ with_l
 IsCommand (emit_from s n d) ws = (w : List ℕ) × (js : List ℕ) × (ws ≡ with_last (codes "emit" ∷ w ∷ n ∷ []) js) × IsScope s w × IsOneWord n × IsJsonList d js
 IsCommand (broadcast_from s n d) ws = (w : List ℕ) × (js : List ℕ) × (ws ≡ with_last (codes "broadcast" ∷ w ∷ n ∷ []) js) × IsScope s w × IsOneWord n × IsJsonList d js
 IsCommand (queue_task p) ws = (es : List ℕ) × (ws ≡ with_last (codes "async" ∷ []) es) × IsExpression p es
-IsCommand (probe_root p) ws = (es : List ℕ) × (ws ≡ with_last (codes "probe" ∷ []) es) × IsExpression p es
+IsCommand (probe_root p) ws = (es : List ℕ) × (ws ≡ with_last (codes "probe" ∷ []) es) × IsExpression p es × ArePure p
 IsCommand (destroy_scope s) ws = (w : List ℕ) × (ws ≡ codes "destroy" ∷ w ∷ []) × IsScope s w
 IsCommand make_digest ws = ws ≡ codes "digest" ∷ []
 

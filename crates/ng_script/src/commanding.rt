@@ -8,7 +8,7 @@ ghost use Rattle.ng_script.specs.Acts.{act_of};
 ghost use Rattle.ng_script.specs.Commanding.{click_of, fire_of, typed_of, check_of, eval_of, at_of, event_of, emit_of, broadcast_of, async_of, probe_of, destroy_of, act_named, command_of};
 
 use crate::commands::{ScopeOf, What};
-use crate::expressions::read_program;
+use crate::expressions::{read_program, read_pure};
 use crate::fault::ScriptKind;
 use crate::json::{read_list, read_object, read_text};
 use crate::parts::{ended, next_event, next_flag, next_name, next_scope, next_target};
@@ -102,7 +102,7 @@ fn read_async(alloc: Global, text: &str) -> Result<What, ScriptKind>
 fn read_probe(alloc: Global, text: &str) -> Result<What, ScriptKind>
     ensures { Gives is_want act_of (probe_of (chars text.now)) result }
 {
-    let program = read_program(alloc, text)?;
+    let program = read_pure(alloc, text)?;
     Ok(What::Probe(program))
 }
 

@@ -6,7 +6,6 @@ pub mod commands;
 pub mod cut;
 pub mod expressions;
 pub mod json;
-pub mod laws;
 pub mod parts;
 pub mod reading;
 pub mod verbs;

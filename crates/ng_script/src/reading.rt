@@ -1,9 +1,12 @@
 //! Reads a script.
 ghost use Rattle.std.specs.Prelude.{◌≡◌, ◌<◌, ◌+◌, [], length, true, false, count_by, ◌==◌};
 ghost use Rattle.ng_base.specs.Codes.{line_feed};
+ghost use Rattle.std.specs.Prelude.{IfOk, IfErr, List, Ok, Err};
 ghost use Rattle.std.specs.Str.{chars};
 ghost use Rattle.ng_base.specs.Meets.{Gives};
-ghost use Rattle.ng_script.specs.Acts.{act_of, entries_of};
+ghost use Rattle.ng_script.specs.Acts.{act_of, entries_of, Entry};
+ghost use Rattle.ng_script.specs.Readings.{IsScript, Refuses};
+ghost use Rattle.ng_script.specs.declared.fault.ScriptFault.{ScriptFault as Fault};
 ghost use Rattle.ng_script.specs.Free.{is_want, is_free};
 ghost use Rattle.ng_script.specs.Lines.{lines};
 ghost use Rattle.ng_script.specs.Scripts.{fault as fault_of, begins_slash, is_skipped, with_line, commands_from, ill_formed_line, script_of};
@@ -106,10 +109,28 @@ fn ill_formed_line(valid: &[u8]) -> u64
     feeds as u64 + 1
 }
 
-/// The commands of a script.
+/// The commands of a script, or the first refusal of its lines.
 pub fn read(alloc: Global, bytes: &[u8]) -> Result<Commands, ScriptFault>
+    // What is read is spelled so: each line is skipped or spells its command.
+    ensures found { IfOk result (λ commands. IsScript (entries_of commands) bytes.now) }
+
+    // What is spelled so is read, unless memory is refused.
+    ensures only { (es : List Entry) → IsScript es bytes.now → Gives is_free entries_of (Ok es) result }
+
+    // What is refused is the refusal of these bytes: the lines before it are commands, and that line cannot be one.
+    ensures refused { IfErr result (λ f. is_free f ≡ false → Refuses bytes.now f) }
+
+    // The refusal of these bytes is what is answered, unless memory is refused.
+    ensures one { (f : Fault) → Refuses bytes.now f → Gives is_free entries_of (Err f) result }
+
     // The answer is the one of the reading from the left, unless memory is refused.
     ensures exact { Gives is_free entries_of (script_of bytes.now) result }
+{
+    read_bytes(alloc, bytes)
+}
+
+fn read_bytes(alloc: Global, bytes: &[u8]) -> Result<Commands, ScriptFault>
+    ensures { Gives is_free entries_of (script_of bytes.now) result }
 {
     match str::from_utf8(bytes) {
         Err(e) => Err(fault(

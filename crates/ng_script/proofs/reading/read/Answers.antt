@@ -1,29 +1,14 @@
-use Rattle.std.proofs.Common.{rules, ◌≡◌, ◌∙◌, ap, sym, List, [], ℕ}
-use Rattle.std.proofs.Common.{take}
-use Rattle.std.specs.Prelude.{Err, Result}
-use Rattle.std.specs.Str.{chars}
-use Rattle.ng_base.specs.Meets.{Gives}
-use Rattle.ng_script.specs.Acts.{Entry, entries_of}
-use Rattle.ng_script.specs.Free.{is_free}
-use Rattle.ng_script.specs.Lines.{lines}
-use Rattle.ng_script.specs.Scripts.{script_of, commands_from}
-use Rattle.ng_script.specs.declared.commands.Commands.{Commands}
-use Rattle.ng_script.specs.declared.fault.ScriptFault.{ScriptFault}
-use Rattle.ng_script.proofs.ScriptBytes.{ill_formed_read, text_read}
+use Rattle.ng_script.proofs.Answered.{found, only, refused, one}
 use Rattle.ng_script.proofs.reading.read.Goals as goal
 
-pub returns-in-Err : goal.returns-in-Err
-returns-in-Err c =
-    let bs = c.args.bytes.now in
-    let e = ill_formed_read bs c.valid_up_to.result c.in-Err.ensures.cases.0 (c.valid_up_to.ensures ∙ c.in-Err.ensures.valid_len) in
-    let r : Result Commands ScriptFault = Err c.fault.result in
-    let g : Gives is_free entries_of (script_of bs) r = search (rules, e) in
-    record { exact = g }
+pub returns-clause-found : goal.returns-clause-found
+returns-clause-found c = found c.args.bytes.now c.read_bytes.result c.read_bytes.ensures
 
-pub returns-in-Ok : goal.returns-in-Ok
-returns-in-Ok c =
-    let bs = c.args.bytes.now in
-    let e : script_of bs ≡ commands_from 0 [] (lines (chars c.in-Ok.text.now)) = text_read bs c.in-Ok.ensures.cases.1 ∙ ap (λ (t : List ℕ). commands_from 0 [] (lines (chars t))) (sym c.in-Ok.ensures.cases.0) in
-    let r = c.read_lines.result in
-    let g : Gives is_free entries_of (script_of bs) r = search (rules, e) in
-    record { exact = g }
+pub returns-clause-only : goal.returns-clause-only
+returns-clause-only c = λ es h. only c.args.bytes.now es c.read_bytes.result c.read_bytes.ensures h
+
+pub returns-clause-refused : goal.returns-clause-refused
+returns-clause-refused c = refused c.args.bytes.now c.read_bytes.result c.read_bytes.ensures
+
+pub returns-clause-one : goal.returns-clause-one
+returns-clause-one c = λ f h. one c.args.bytes.now f c.read_bytes.result c.read_bytes.ensures h

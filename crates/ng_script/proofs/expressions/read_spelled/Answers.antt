@@ -7,7 +7,7 @@ use Rattle.ng_language.specs.Parsing.{parsed}
 use Rattle.ng_script.specs.Expressions.{program_or}
 use Rattle.ng_script.specs.declared.fault.ScriptKind.{ScriptKind}
 use Rattle.ng_script.proofs.Programs.{lex_refused, parse_refused, no_tokens, of_tokens}
-use Rattle.ng_script.proofs.expressions.read_program.Goals as goal
+use Rattle.ng_script.proofs.expressions.read_spelled.Goals as goal
 
 pub returns-in-Err : goal.returns-in-Err
 returns-in-Err c = λ h.
