@@ -154,9 +154,11 @@ check_is cs a s w h =
 
 -- a command with an expression alone
 alone_line : (cs w : List ℕ) → Solid cs → word cs ≡ w → (ws : List (List ℕ)) × IsLine ws cs × (ws ≡ with_last (w ∷ []) (next_part cs))
-alone_line cs w s e =
-    (word cs ∷ with_last [] (next_part cs), prepend cs (with_last [] (next_part cs)) s (tail_line (next_part cs) (rest_of cs s)),
-     headed (with_last [] (next_part cs)) (word cs) w e ∙ one_last w (next_part cs))
+alone_line cs w s e = (
+  word cs ∷ with_last [] (next_part cs),
+  prepend cs (with_last [] (next_part cs)) s (tail_line (next_part cs) (rest_of cs s)),
+  headed (with_last [] (next_part cs)) (word cs) w e ∙ one_last w (next_part cs),
+)
 
 eval_is : (cs : List ℕ) (a : Act) → Solid cs → word cs ≡ codes "eval" → eval_of (next_part cs) ≡ Ok a → Spells a cs
 eval_is cs a s w h =
@@ -381,11 +383,12 @@ event_read cs v w n js s d h i o k =
     let l = word_of_last n js (next_part (next_part cs)) q.1 o.1 in
     let f : ScopeOf × List ℕ → Kinded (ScopeOf × List ℕ × Data) = λ s. next_name s.1 >>= λ n. list_of n.1 >>= λ d. Ok (s.0, n.0, d) in
     let g : List ℕ × List ℕ → Kinded (ScopeOf × List ℕ × Data) = λ n. list_of n.1 >>= λ d. Ok (s, n.0, d) in
-    let j : Data → Kinded (ScopeOf × List ℕ × Data) = λ d. Ok (s, n, d) in
-    (p.0,
-     ap (λ (y : Kinded (ScopeOf × List ℕ)). y >>= f) (next_scope_read (next_part cs) w (next_part (next_part cs)) s (over_last w (n ∷ []) js (next_part cs) p.1) q.0 refl i)
-     ∙ (ap (λ (y : Kinded (List ℕ × List ℕ)). y >>= g) (next_name_read (next_part (next_part cs)) n js (over_last n [] js (next_part (next_part cs)) q.1) l.0 l.1)
-     ∙ ap (λ (y : Kinded Data). y >>= j) (list_read d js k)))
+    let j : Data → Kinded (ScopeOf × List ℕ × Data) = λ d. Ok (s, n, d) in (
+      p.0,
+      ap (λ (y : Kinded (ScopeOf × List ℕ)). y >>= f) (next_scope_read (next_part cs) w (next_part (next_part cs)) s (over_last w (n ∷ []) js (next_part cs) p.1) q.0 refl i)
+          ∙ (ap (λ (y : Kinded (List ℕ × List ℕ)). y >>= g) (next_name_read (next_part (next_part cs)) n js (over_last n [] js (next_part (next_part cs)) q.1) l.0 l.1)
+          ∙ ap (λ (y : Kinded Data). y >>= j) (list_read d js k)),
+    )
 
 emit_read : (s : ScopeOf) (n : List ℕ) (d : Data) (cs : List ℕ) → Spells (emit_from s n d) cs → command_of cs ≡ Ok (emit_from s n d)
 emit_read s n d cs h =

@@ -11,3 +11,4 @@ pub mod CommandLaws
 pub mod Trimmed
 pub mod ScriptLaws
 pub mod Answered
+pub mod LineLaws

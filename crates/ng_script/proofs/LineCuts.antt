@@ -7,7 +7,6 @@ use Rattle.ng_script.specs.Words.{ends, front, onward}
 use Rattle.ng_script.specs.Lines.{lines, longer, begins_line_feed, without_return}
 use Rattle.ng_script.specs.declared.cut.Part.TheVariants as part
 
-
 cons_by : (c d : ℕ) (xs : List ℕ) (b : Bool) → c ∷ (if b then xs else xs ++ d ∷ []) ≡ (if b then c ∷ xs else c ∷ (xs ++ d ∷ []))
 cons_by c d xs true = refl
 cons_by c d xs false = refl

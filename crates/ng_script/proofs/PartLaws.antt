@@ -63,9 +63,10 @@ target_by r p true o s h = absurd (cc)
 target_by r p false o s h =
     let f : Target → Result (Target × List ℕ) ScriptKind = λ t. Ok (t, next_part r) in
     let b = bind_ok (target_of (word r)) f p h in
-    let e = ok_is (b.0, next_part r) p b.2 in
-    (record { stands = stands_there r s o; left = sym (ap (λ (q : Target × List ℕ). q.1) e) },
-     subst (λ (t : Target). IsTarget t (word r)) (ap (λ (q : Target × List ℕ). q.0) e) (target_is (word r) b.0 (word_solid r) b.1))
+    let e = ok_is (b.0, next_part r) p b.2 in (
+      record { stands = stands_there r s o; left = sym (ap (λ (q : Target × List ℕ). q.1) e) },
+      subst (λ (t : Target). IsTarget t (word r)) (ap (λ (q : Target × List ℕ). q.0) e) (target_is (word r) b.0 (word_solid r) b.1),
+    )
 
 pub next_target_is : (r : List ℕ) (p : Target × List ℕ) → Rest r → next_target r ≡ Ok p → Next Target r p × IsTarget p.0 (word r)
 next_target_is r p s h = target_by r p (is_over r) refl s h
@@ -126,9 +127,10 @@ next_scope_by r p true o s h = absurd (cc)
 next_scope_by r p false o s h =
     let f : ScopeOf → Result (ScopeOf × List ℕ) ScriptKind = λ t. Ok (t, next_part r) in
     let b = bind_ok (scope_of (word r)) f p h in
-    let e = ok_is (b.0, next_part r) p b.2 in
-    (record { stands = stands_there r s o; left = sym (ap (λ (q : ScopeOf × List ℕ). q.1) e) },
-     subst (λ (t : ScopeOf). IsScope t (word r)) (ap (λ (q : ScopeOf × List ℕ). q.0) e) (scope_by (word r) b.0 (bytes_eq (word r) (codes "root")) refl (word_solid r) b.1))
+    let e = ok_is (b.0, next_part r) p b.2 in (
+      record { stands = stands_there r s o; left = sym (ap (λ (q : ScopeOf × List ℕ). q.1) e) },
+      subst (λ (t : ScopeOf). IsScope t (word r)) (ap (λ (q : ScopeOf × List ℕ). q.0) e) (scope_by (word r) b.0 (bytes_eq (word r) (codes "root")) refl (word_solid r) b.1),
+    )
 
 pub next_scope_is : (r : List ℕ) (p : ScopeOf × List ℕ) → Rest r → next_scope r ≡ Ok p → Next ScopeOf r p × IsScope p.0 (word r)
 next_scope_is r p s h = next_scope_by r p (is_over r) refl s h

@@ -12,17 +12,43 @@ same_word bs ds u h = tested bs ds (bytes_eq bs ds) u (IsUtf8-from_ascii ds (wor
 
 pub same_verb : (bs : List ℕ) → IsUtf8 bs → verb_named bs ≡ verb_named (chars bs)
 same_verb bs u =
-    rw (same_word bs (codes "click") u refl, same_word bs (codes "fire") u refl, same_word bs (codes "type") u refl, same_word bs (codes "check") u refl,
-        same_word bs (codes "eval") u refl, same_word bs (codes "at") u refl, same_word bs (codes "emit") u refl, same_word bs (codes "broadcast") u refl,
-        same_word bs (codes "async") u refl, same_word bs (codes "probe") u refl, same_word bs (codes "destroy") u refl, same_word bs (codes "digest") u refl) refl
+    rw (
+      same_word bs (codes "click") u refl,
+      same_word bs (codes "fire") u refl,
+      same_word bs (codes "type") u refl,
+      same_word bs (codes "check") u refl,
+      same_word bs (codes "eval") u refl,
+      same_word bs (codes "at") u refl,
+      same_word bs (codes "emit") u refl,
+      same_word bs (codes "broadcast") u refl,
+      same_word bs (codes "async") u refl,
+      same_word bs (codes "probe") u refl,
+      same_word bs (codes "destroy") u refl,
+      same_word bs (codes "digest") u refl,
+    ) refl
 
 pub same_event : (bs : List ℕ) → IsUtf8 bs → is_event bs ≡ is_event (chars bs)
 same_event bs u =
-    rw (same_word bs (codes "click") u refl, same_word bs (codes "dblclick") u refl, same_word bs (codes "mousedown") u refl, same_word bs (codes "mouseup") u refl,
-        same_word bs (codes "mouseover") u refl, same_word bs (codes "mouseout") u refl, same_word bs (codes "mousemove") u refl, same_word bs (codes "mouseenter") u refl,
-        same_word bs (codes "mouseleave") u refl, same_word bs (codes "keydown") u refl, same_word bs (codes "keyup") u refl, same_word bs (codes "keypress") u refl,
-        same_word bs (codes "submit") u refl, same_word bs (codes "focus") u refl, same_word bs (codes "blur") u refl, same_word bs (codes "copy") u refl,
-        same_word bs (codes "cut") u refl, same_word bs (codes "paste") u refl) refl
+    rw (
+      same_word bs (codes "click") u refl,
+      same_word bs (codes "dblclick") u refl,
+      same_word bs (codes "mousedown") u refl,
+      same_word bs (codes "mouseup") u refl,
+      same_word bs (codes "mouseover") u refl,
+      same_word bs (codes "mouseout") u refl,
+      same_word bs (codes "mousemove") u refl,
+      same_word bs (codes "mouseenter") u refl,
+      same_word bs (codes "mouseleave") u refl,
+      same_word bs (codes "keydown") u refl,
+      same_word bs (codes "keyup") u refl,
+      same_word bs (codes "keypress") u refl,
+      same_word bs (codes "submit") u refl,
+      same_word bs (codes "focus") u refl,
+      same_word bs (codes "blur") u refl,
+      same_word bs (codes "copy") u refl,
+      same_word bs (codes "cut") u refl,
+      same_word bs (codes "paste") u refl,
+    ) refl
 
 pub same_flag : (bs : List ℕ) → IsUtf8 bs → flag_named bs ≡ flag_named (chars bs)
 same_flag bs u = rw (same_word bs (codes "true") u refl, same_word bs (codes "false") u refl) refl

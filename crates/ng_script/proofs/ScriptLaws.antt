@@ -69,9 +69,12 @@ Found n done ls es = (fs : List Entry) × (es ≡ done ++ fs) × AreCommands n f
 found_line : (n : ℕ) (done : List Entry) (l : List ℕ) (ls : List (List ℕ)) (x es : List Entry) → Taken (n + 1) done (trimmed l) x → Found (n + 1) x ls es → Found n done (l ∷ ls) es
 found_line n done l ls x es (inl t) f = (f.0, f.1 ∙ ap (λ (y : List Entry). y ++ f.0) t.1, inl (t.0, f.2), f.3)
 found_line n done l ls x es (inr t) f =
-    let e = entry (n + 1) (trimmed l) t.1 in
-    (e ∷ f.0, f.1 ∙ (ap (λ (y : List Entry). y ++ f.0) t.2 ∙ append_assoc done (e ∷ []) f.0),
-     inr (t.0, t.1, f.0, refl, command_is (trimmed l) t.1 (stands l t.0) t.3, f.2), f.3)
+    let e = entry (n + 1) (trimmed l) t.1 in (
+      e ∷ f.0,
+      f.1 ∙ (ap (λ (y : List Entry). y ++ f.0) t.2 ∙ append_assoc done (e ∷ []) f.0),
+      inr (t.0, t.1, f.0, refl, command_is (trimmed l) t.1 (stands l t.0) t.3, f.2),
+      f.3,
+    )
 
 grown : (n : ℕ) (done : List Entry) (t : List ℕ) (x : List Entry) → length done ≤ most → Taken n done t x → length x ≤ most
 grown n done t x h (inl k) = omega (arith, h, ap length k.1)
@@ -157,31 +160,53 @@ wrong_later n done l ls x f (inl t) w =
     let z : n + 1 + length w.before + 1 ≡ n + length (l ∷ w.before) + 1 = omega arith in
     let same : x ++ w.commands ≡ done ++ w.commands = ap (λ (y : List Entry). y ++ w.commands) t.1 in
     record {
-      before = l ∷ w.before; line = w.line; after = w.after; commands = w.commands; kind = w.kind;
-      whole = ap (λ (y : List (List ℕ)). l ∷ y) w.whole; read = inl (t.0, w.read);
-      few = subst (λ (y : List Entry). length y ≤ most) same w.few; stands = w.stands;
+      before = l ∷ w.before;
+      line = w.line;
+      after = w.after;
+      commands = w.commands;
+      kind = w.kind;
+      whole = ap (λ (y : List (List ℕ)). l ∷ y) w.whole;
+      read = inl (t.0, w.read);
+      few = subst (λ (y : List Entry). length y ≤ most) same w.few;
+      stands = w.stands;
       refused = subst (λ (y : List Entry). RefusesLine (length y) (trimmed w.line) w.kind) same w.refused;
-      is = w.is ∙ ap (λ (m : ℕ). fault m w.kind) z }
+      is = w.is ∙ ap (λ (m : ℕ). fault m w.kind) z;
+    }
 wrong_later n done l ls x f (inr t) w =
     let e = entry (n + 1) (trimmed l) t.1 in
     let z : n + 1 + length w.before + 1 ≡ n + length (l ∷ w.before) + 1 = omega arith in
     let same : x ++ w.commands ≡ done ++ e ∷ w.commands = ap (λ (y : List Entry). y ++ w.commands) t.2 ∙ append_assoc done (e ∷ []) w.commands in
     record {
-      before = l ∷ w.before; line = w.line; after = w.after; commands = e ∷ w.commands; kind = w.kind;
-      whole = ap (λ (y : List (List ℕ)). l ∷ y) w.whole; read = inr (t.0, t.1, w.commands, refl, command_is (trimmed l) t.1 (stands l t.0) t.3, w.read);
-      few = subst (λ (y : List Entry). length y ≤ most) same w.few; stands = w.stands;
+      before = l ∷ w.before;
+      line = w.line;
+      after = w.after;
+      commands = e ∷ w.commands;
+      kind = w.kind;
+      whole = ap (λ (y : List (List ℕ)). l ∷ y) w.whole;
+      read = inr (t.0, t.1, w.commands, refl, command_is (trimmed l) t.1 (stands l t.0) t.3, w.read);
+      few = subst (λ (y : List Entry). length y ≤ most) same w.few;
+      stands = w.stands;
       refused = subst (λ (y : List Entry). RefusesLine (length y) (trimmed w.line) w.kind) same w.refused;
-      is = w.is ∙ ap (λ (m : ℕ). fault m w.kind) z }
+      is = w.is ∙ ap (λ (m : ℕ). fault m w.kind) z;
+    }
 
 wrong_here : (n : ℕ) (done : List Entry) (l : List ℕ) (ls : List (List ℕ)) (f : ScriptFault) → length done ≤ most → Wrong (n + 1) done (trimmed l) f → WrongAt n done (l ∷ ls) f
 wrong_here n done l ls f h w =
     let same : done ≡ done ++ [] = sym (append-nil done) in
     let z : n + 1 ≡ n + 0 + 1 = omega arith in
     record {
-      before = []; line = l; after = ls; commands = []; kind = w.1; whole = refl; read = refl;
-      few = subst (λ (y : List Entry). length y ≤ most) same h; stands = w.0;
+      before = [];
+      line = l;
+      after = ls;
+      commands = [];
+      kind = w.1;
+      whole = refl;
+      read = refl;
+      few = subst (λ (y : List Entry). length y ≤ most) same h;
+      stands = w.0;
       refused = subst (λ (y : List Entry). RefusesLine (length y) (trimmed l) w.1) same w.3;
-      is = w.2 ∙ ap (λ (m : ℕ). fault m w.1) z }
+      is = w.2 ∙ ap (λ (m : ℕ). fault m w.1) z;
+    }
 
 wrong_from : (n : ℕ) (done : List Entry) (ls : List (List ℕ)) (f : ScriptFault) → length done ≤ most → commands_from n done ls ≡ Err f → WrongAt n done ls f
 wrong_from n done [] f h e = absurd (cc)
@@ -251,8 +276,20 @@ answer_is_refusal bs f h = by (utf8_or_not bs)
     by (inl u) =
         let w = wrong_from 0 [] (lines (chars bs)) f some_at_first (sym (text_read bs u) ∙ h) in
         let z : 0 + length w.before + 1 ≡ length w.before + 1 = omega arith in
-        inr (u, record {
-          before = w.before; line = w.line; after = w.after; commands = w.commands; kind = w.kind;
-          whole = w.whole; read = w.read; few = w.few; stands = w.stands; refused = w.refused;
-          is = w.is ∙ ap (λ (m : ℕ). fault m w.kind) z })
+        inr (
+          u,
+          record {
+            before = w.before;
+            line = w.line;
+            after = w.after;
+            commands = w.commands;
+            kind = w.kind;
+            whole = w.whole;
+            read = w.read;
+            few = w.few;
+            stands = w.stands;
+            refused = w.refused;
+            is = w.is ∙ ap (λ (m : ℕ). fault m w.kind) z;
+          },
+        )
     by (inr n) = inl (n, faults_same f (fault (ill_formed_line bs) kinds.Utf8) (sym h ∙ no_text_read bs n))

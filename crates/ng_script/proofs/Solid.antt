@@ -6,14 +6,10 @@ use Rattle.std.specs.List.{list_all}
 use Rattle.ng_script.specs.Parts.{is_over}
 use Rattle.ng_script.specs.Spelling.{IsGap, IsOneWord, begins_solid, IsLine, with_last}
 use Rattle.ng_script.specs.Targets.{has_no_blank}
+pub use Rattle.ng_script.specs.Whole.{ends_blank}
 use Rattle.ng_script.specs.Words.{is_blank, ends, front, onward, past_blanks, word, next_part}
 use Rattle.ng_script.specs.declared.cut.Part.TheVariants as part
 use Rattle.ng_script.proofs.Cuts.{begins_end, cut_at}
-
-abbrev pub ends_blank : List ℕ → Bool
-ends_blank [] = false
-ends_blank (c ∷ []) = is_blank c
-ends_blank (c ∷ d ∷ cs) = ends_blank (d ∷ cs)
 
 -- no blank stands at either end, and something stands between
 pub record Solid (cs : List ℕ) : Type 0 where

@@ -183,6 +183,7 @@ target_is (c ∷ cs) t n h = by_sign (c == number_sign) refl h
     by_slash : (b : Bool) → c == slash ≡ b → (if b then (numbers_from [] None cs >>= as_path) else Err kinds.BadTarget) ≡ Ok t → IsTarget t (c ∷ cs)
     by_slash true e h = path_is c cs t (code_is c slash e) h
     by_slash false e h = absurd (cc)
+
     by_sign : (b : Bool) → c == number_sign ≡ b → (if b then id_of cs else if c == slash then (numbers_from [] None cs >>= as_path) else Err kinds.BadTarget) ≡ Ok t → IsTarget t (c ∷ cs)
     by_sign true e h = id_is c cs t (code_is c number_sign e) h n
     by_sign false e h = by_slash (c == slash) refl h

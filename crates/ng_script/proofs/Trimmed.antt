@@ -1,6 +1,10 @@
 -- A line without its outer blanks.
-use Rattle.std.proofs.Common.{◌≡◌, ◌⊎◌, inl, inr, ℕ, Bool, true, false, not, List, [], ◌∷◌, ◌++◌, ap, sym, ◌∙◌, refl, subst, reverse}
+use Rattle.std.proofs.Common.{◌≡◌, ◌⊎◌, inl, inr, ℕ, Bool, true, false, not, List, [], ◌∷◌, ◌++◌, ap, sym, ◌∙◌, refl, subst, reverse, ◌&&◌}
 use Rattle.std.specs.List.{list_all}
+use Rattle.std.proofs.lemmas.Bool.{and_parts}
+use Rattle.std.proofs.lemmas.List.Folds.{list_all-append}
+use Rattle.ng_language.proofs.LexSound.{both}
+use Rattle.ng_script.specs.Whole.{IsInner}
 use Rattle.ng_script.specs.Lines.{trimmed}
 use Rattle.ng_script.specs.Scripts.{is_skipped}
 use Rattle.ng_script.specs.Spelling.{begins_solid}
@@ -54,3 +58,22 @@ stands_by t (inr s) h = s
 -- a line that is not skipped
 pub stands : (l : List ℕ) → is_skipped (trimmed l) ≡ false → Solid (trimmed l)
 stands l h = stands_by (trimmed l) (trimmed_solid l) h
+
+blank_reversed : (gap : List ℕ) → list_all is_blank gap ≡ true → list_all is_blank (reverse gap) ≡ true
+blank_reversed [] h = refl
+blank_reversed (c ∷ gap) h =
+    let p = and_parts (is_blank c) (list_all is_blank gap) h in
+    ap (list_all is_blank) (reverse-append (c ∷ []) gap) ∙ (list_all-append is_blank (reverse gap) (c ∷ [])
+    ∙ both (list_all is_blank (reverse gap)) (is_blank c && true) (blank_reversed gap p.1) (both (is_blank c) true p.0 refl))
+
+ends_of : (t : List ℕ) → (t ≡ []) ⊎ Solid t → (t ≡ []) ⊎ ((begins_solid t ≡ true) × (ends_blank t ≡ false))
+ends_of t (inl e) = inl e
+ends_of t (inr s) = inr (s.begins, s.ended)
+
+-- what is left of a line without its outer blanks
+pub trimmed_inner : (cs : List ℕ) → IsInner (trimmed cs) cs
+trimmed_inner cs =
+    let p = past_gap cs in
+    let q = past_gap (reverse (past_blanks cs)) in
+    let whole : past_blanks cs ≡ trimmed cs ++ reverse q.0 = sym (reverse-reverse (past_blanks cs)) ∙ (ap reverse q.1 ∙ reverse-append q.0 (past_blanks (reverse (past_blanks cs)))) in
+    (p.0, reverse q.0, p.1 ∙ ap (λ (t : List ℕ). p.0 ++ t) whole, p.2, blank_reversed q.0 q.2, ends_of (trimmed cs) (trimmed_solid cs))

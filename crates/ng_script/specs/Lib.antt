@@ -11,3 +11,4 @@ pub mod Commanding
 pub mod Scripts
 pub mod Spelling
 pub mod Readings
+pub mod Whole

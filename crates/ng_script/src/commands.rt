@@ -25,13 +25,22 @@ pub enum What {
         extra: Json,
     },
     /// A text is typed into a control.
-    Typed { target: Target, text: Txt },
+    Typed {
+        target: Target,
+        text: Txt,
+    },
     /// A checkbox is checked, or is not.
-    Check { target: Target, on: bool },
+    Check {
+        target: Target,
+        on: bool,
+    },
     /// A program runs on the root.
     Eval(Program),
     /// A program runs on a scope.
-    At { scope: ScopeOf, program: Program },
+    At {
+        scope: ScopeOf,
+        program: Program,
+    },
     /// An event goes up from a scope, with a list of arguments.
     Emit {
         scope: ScopeOf,

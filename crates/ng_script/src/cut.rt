@@ -146,13 +146,7 @@ fn without_return(text: &str) -> &str
     ensures { chars result.now ≡ without_return (chars text.now) }
 {
     match Back::new(text).last() {
-        Some((c, before)) => {
-            if c == '\r' {
-                before.rest()
-            } else {
-                text
-            }
-        }
+        Some((c, before)) => { if c == '\r' { before.rest() } else { text } }
         None => text,
     }
 }

@@ -8,8 +8,8 @@ ghost use Rattle.ng_script.specs.Expressions.{lex_kind, parse_kind, spelled_in, 
 
 use crate::fault::ScriptKind;
 use ng_base::fault::Memory;
-use ng_lex::{LexFault, lex};
 use ng_language::syntax::LexKind;
+use ng_lex::{LexFault, lex};
 use ng_parse::{ParseFault, ParseKind, Program, parse};
 use ng_view::{filters_known, is_pure};
 use std::alloc::Global;

@@ -17,7 +17,8 @@
 //!
 //! In reading order: `cut` cuts lines and words; `verbs` are the words of commands and the names of events; `targets`,
 //! `expressions` and `json` read one part each, `parts` takes them from the left; `commanding` is what a line commands,
-//! and `reading` the file. `commands` and `fault` have the types.
+//! and `reading` the file. `commands` and `fault` have the types, and `laws` says
+//! that the lines of a text are the text, and no others are.
 //!
 //! Nothing is done here: whether a target stands, and what a command does, is the page's, and which commands are built
 //! is the run's. No call goes deeper for a longer script.
@@ -29,6 +30,7 @@ pub mod cut;
 mod expressions;
 pub mod fault;
 mod json;
+pub mod laws;
 mod parts;
 mod reading;
 mod targets;

@@ -133,10 +133,7 @@ fn read_bytes(alloc: Global, bytes: &[u8]) -> Result<Commands, ScriptFault>
     ensures { Gives is_free entries_of (script_of bytes.now) result }
 {
     match str::from_utf8(bytes) {
-        Err(e) => Err(fault(
-            ill_formed_line(&bytes[..e.valid_up_to()]),
-            ScriptKind::Utf8,
-        )),
+        Err(e) => Err(fault(ill_formed_line(&bytes[..e.valid_up_to()]), ScriptKind::Utf8)),
         Ok(text) => read_lines(alloc, text),
     }
 }
