@@ -1,7 +1,7 @@
 -- What a line commands is what it spells, and what it spells is what it commands.
-use Rattle.std.proofs.Common.{◌≡◌, ◌<◌, ◌⊎◌, inl, inr, length, arith, ℕ, Bool, true, false, List, [], ◌∷◌, ◌++◌, Option, None, Some, ap, sym, ◌∙◌, refl, subst, codes, if◌then◌else◌}
+use Rattle.std.proofs.Common.{◌≡◌, inl, inr, ℕ, Bool, true, false, List, [], ◌∷◌, ◌++◌, Option, None, Some, ap, sym, ◌∙◌, refl, subst, codes, if◌then◌else◌}
 use Rattle.std.proofs.lemmas.Slice.Eq.{bytes_eq-Decides}
-use Rattle.std.specs.Prelude.{Result, Ok, Err}
+use Rattle.std.specs.Prelude.{Result, Ok}
 use Rattle.std.specs.Str.{bytes_eq}
 use Rattle.serde_json.specs.Data.{Data}
 use Rattle.serde_json.specs.Read.{read}
@@ -15,8 +15,8 @@ use Rattle.ng_script.specs.Commanding.{click_of, fire_of, typed_of, check_of, ev
 use Rattle.ng_script.specs.Expressions.{program_of, pure_program_of}
 use Rattle.ng_script.specs.Json.{IsJsonText, IsJsonList, text_of, object_of, list_of}
 use Rattle.ng_script.specs.Parts.{is_over, ended, next_target, next_scope, next_name, next_event, next_flag}
-use Rattle.ng_script.specs.Spelling.{begins_solid, IsOneWord, IsLine, with_last, IsScope, flag_word, IsCommand, Spells}
-use Rattle.ng_script.specs.Targets.{IsTarget, has_no_blank}
+use Rattle.ng_script.specs.Spelling.{begins_solid, IsOneWord, IsLine, with_last, IsScope, flag_word, Spells}
+use Rattle.ng_script.specs.Targets.{has_no_blank}
 use Rattle.ng_script.specs.Verbs.{verb_named, is_event}
 use Rattle.ng_script.specs.Words.{word, next_part}
 use Rattle.ng_script.specs.declared.commands.ScopeOf.{ScopeOf}

@@ -1,5 +1,5 @@
 -- Bytes up to the end of a part, and the characters that they spell.
-use Rattle.std.proofs.Common.{arith, length, get_or, take, ◌≡◌, ◌<◌, ◌++◌, ℕ, Bool, true, false, not, ◌&&◌, nat_lt, List, [], ◌∷◌, encode_utf8, encode_utf8_all, sym, ap, ◌∙◌, refl, if◌then◌else◌}
+use Rattle.std.proofs.Common.{arith, length, get_or, ◌≡◌, ◌<◌, ◌++◌, ℕ, Bool, true, false, not, nat_lt, List, [], ◌∷◌, encode_utf8, encode_utf8_all, sym, ap, ◌∙◌, refl, if◌then◌else◌}
 use Rattle.std.proofs.lemmas.Bool.{and_parts}
 use Rattle.std.proofs.lemmas.Grind.{common_steps}
 use Rattle.std.proofs.lemmas.List.Folds.{list_all-append}

@@ -2,7 +2,7 @@
 use Rattle.std.proofs.Common.{◌≡◌, ◌≤◌, length, arith, ℕ, Bool, true, false, ◌&&◌, ◌==◌, List, [], ◌∷◌, ◌++◌, ap, sym, ◌∙◌, refl, if◌then◌else◌}
 use Rattle.std.proofs.lemmas.Bool.{and_parts}
 use Rattle.ng_base.specs.Codes.{line_feed, carriage_return}
-use Rattle.ng_base.proofs.Binds.{if_true, if_false}
+use Rattle.ng_base.proofs.Binds.{if_true}
 use Rattle.ng_script.specs.Words.{ends, front, onward}
 use Rattle.ng_script.specs.Lines.{lines, longer, begins_line_feed, without_return}
 use Rattle.ng_script.specs.declared.cut.Part.TheVariants as part

@@ -1,5 +1,5 @@
 -- What each part of a command is read as, and how it is spelled.
-use Rattle.std.proofs.Common.{◌≡◌, ◌<◌, ◌&&◌, ◌⊎◌, inl, inr, length, arith, ℕ, Bool, true, false, not, List, [], ◌∷◌, ◌++◌, Option, None, Some, is_some, ap, sym, ◌∙◌, refl, subst, codes, if◌then◌else◌, encode_utf8_all}
+use Rattle.std.proofs.Common.{◌≡◌, ◌⊎◌, inl, inr, length, arith, ℕ, Bool, true, false, List, [], ◌∷◌, Option, None, Some, is_some, ap, sym, ◌∙◌, refl, subst, codes, if◌then◌else◌, encode_utf8_all}
 use Rattle.std.proofs.lemmas.Slice.Eq.{bytes_eq-Decides}
 use Rattle.std.specs.Prelude.{Result, Ok, Err}
 use Rattle.std.specs.Str.{chars, bytes_eq}
@@ -27,7 +27,7 @@ use Rattle.ng_view.proofs.Pure.{known_are, are_known_test, pure_are, are_pure_te
 use Rattle.ng_script.specs.Expressions.{IsExpression, tokens_or, program_or, with_known, spelled_in, program_of, pure_program_of}
 use Rattle.ng_script.specs.Json.{IsJson, IsJsonText, IsJsonObject, IsJsonList, or_bad_argument, json_of, as_text, text_of, object_of, list_of}
 use Rattle.ng_script.specs.Parts.{is_over, ended, next_target, scope_of, next_scope, next_name, next_event, next_flag}
-use Rattle.ng_script.specs.Spelling.{IsOneWord, IsScope, flag_word}
+use Rattle.ng_script.specs.Spelling.{IsScope, flag_word}
 use Rattle.ng_script.specs.Targets.{IsTarget, has_no_blank, target_of}
 use Rattle.ng_script.specs.Verbs.{is_event, flag_named}
 use Rattle.ng_script.specs.Words.{word, next_part}

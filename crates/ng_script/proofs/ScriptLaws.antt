@@ -9,7 +9,7 @@ use Rattle.ng_base.proofs.Binds.{bind_ok, bind_err, if_true, if_false}
 use Rattle.ng_script.specs.Acts.{Act, Entry}
 use Rattle.ng_script.specs.Commanding.{command_of}
 use Rattle.ng_script.specs.Lines.{trimmed, lines}
-use Rattle.ng_script.specs.Readings.{AreCommands, IsScript, RefusesLine, RefusesAt, Refuses}
+use Rattle.ng_script.specs.Readings.{AreCommands, IsScript, RefusesLine, Refuses}
 use Rattle.ng_script.specs.Scripts.{most, fault, is_skipped, entry, in_line, with_line, commands_from, ill_formed_line, script_of}
 use Rattle.ng_script.specs.Spelling.{Spells}
 use Rattle.ng_script.specs.declared.fault.ScriptFault.{ScriptFault}

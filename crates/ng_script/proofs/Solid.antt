@@ -1,5 +1,5 @@
 -- A line and its first word.
-use Rattle.std.proofs.Common.{◌≡◌, ◌<◌, ◌⊎◌, inl, inr, length, arith, ℕ, Bool, true, false, not, ◌&&◌, List, [], ◌∷◌, ◌++◌, ap, sym, ◌∙◌, refl, if◌then◌else◌, append_assoc, append-nil, subst}
+use Rattle.std.proofs.Common.{◌≡◌, ◌<◌, ◌⊎◌, inl, inr, length, arith, ℕ, Bool, true, false, not, List, [], ◌∷◌, ◌++◌, ap, sym, ◌∙◌, refl, if◌then◌else◌, append_assoc, append-nil, subst}
 use Rattle.std.proofs.lemmas.Bool.{and_parts}
 use Rattle.std.proofs.lemmas.Grind.{common_steps}
 use Rattle.std.specs.List.{list_all}
@@ -7,7 +7,7 @@ use Rattle.ng_script.specs.Parts.{is_over}
 use Rattle.ng_script.specs.Spelling.{IsGap, IsOneWord, begins_solid, IsLine, with_last}
 use Rattle.ng_script.specs.Targets.{has_no_blank}
 pub use Rattle.ng_script.specs.Whole.{ends_blank}
-use Rattle.ng_script.specs.Words.{is_blank, ends, front, onward, past_blanks, word, next_part}
+use Rattle.ng_script.specs.Words.{is_blank, ends, onward, past_blanks, word, next_part}
 use Rattle.ng_script.specs.declared.cut.Part.TheVariants as part
 use Rattle.ng_script.proofs.Cuts.{begins_end, cut_at}
 

@@ -1,5 +1,5 @@
 -- What is read as a target is spelled so, and what is spelled so is read.
-use Rattle.std.proofs.Common.{◌≡◌, ◌<◌, ◌≤◌, ◌^◌, ◌+◌, ◌-◌, ◌*◌, ◌==◌, ◌&&◌, ◌⊎◌, inl, inr, length, arith, ℕ, nat_lt, Bool, true, false, not, List, [], ◌∷◌, ◌++◌, Option, None, Some, ap, sym, ◌∙◌, refl, subst, if◌then◌else◌, append_assoc}
+use Rattle.std.proofs.Common.{◌≡◌, ◌<◌, ◌≤◌, ◌+◌, ◌-◌, ◌*◌, ◌==◌, ◌&&◌, length, arith, ℕ, nat_lt, Bool, true, false, not, List, [], ◌∷◌, ◌++◌, Option, None, Some, ap, sym, ◌∙◌, refl, subst, if◌then◌else◌, append_assoc}
 use Rattle.std.proofs.lemmas.Bool.{and_parts}
 use Rattle.std.proofs.lemmas.Bool.Decides.{nat_tests}
 use Rattle.std.proofs.lemmas.Grind.{common_steps}
@@ -11,12 +11,12 @@ use Rattle.ng_base.specs.Codes.{number_sign, slash, digit_zero}
 use Rattle.ng_base.specs.Meets.{◌>>=◌}
 use Rattle.ng_base.specs.declared.path.Target.{Target}
 use Rattle.ng_base.specs.declared.path.Target.TheVariants as target
-use Rattle.ng_base.proofs.Binds.{bind_ok, chosen, if_true, if_false}
+use Rattle.ng_base.proofs.Binds.{bind_ok, if_true, if_false}
 use Rattle.ng_language.specs.Choice.{when_some}
 use Rattle.ng_language.specs.Letters.{is_digit}
 use Rattle.ng_language.specs.Spelling.{value_on}
 use Rattle.ng_language.proofs.LexSound.{both, code_is}
-use Rattle.ng_script.specs.Targets.{IsChildNumber, IsPath, IsTarget, has_no_blank, with_digit, numbers_from, as_path, id_of, target_of}
+use Rattle.ng_script.specs.Targets.{IsPath, IsTarget, has_no_blank, with_digit, numbers_from, as_path, id_of, target_of}
 use Rattle.ng_script.specs.Words.{is_blank}
 use Rattle.ng_script.specs.declared.fault.ScriptKind.{ScriptKind}
 use Rattle.ng_script.specs.declared.fault.ScriptKind.TheVariants as kinds

@@ -1,5 +1,5 @@
 -- A line without its outer blanks.
-use Rattle.std.proofs.Common.{◌≡◌, ◌⊎◌, inl, inr, ℕ, Bool, true, false, not, List, [], ◌∷◌, ◌++◌, ap, sym, ◌∙◌, refl, subst, reverse, ◌&&◌}
+use Rattle.std.proofs.Common.{◌≡◌, ◌⊎◌, inl, inr, ℕ, Bool, true, false, not, List, [], ◌∷◌, ◌++◌, ap, sym, ◌∙◌, refl, reverse, ◌&&◌}
 use Rattle.std.specs.List.{list_all}
 use Rattle.std.proofs.lemmas.Bool.{and_parts}
 use Rattle.std.proofs.lemmas.List.Folds.{list_all-append}
@@ -9,7 +9,7 @@ use Rattle.ng_script.specs.Lines.{trimmed}
 use Rattle.ng_script.specs.Scripts.{is_skipped}
 use Rattle.ng_script.specs.Spelling.{begins_solid}
 use Rattle.ng_script.specs.Words.{is_blank, past_blanks}
-use Rattle.ng_script.proofs.Solid.{Solid, ends_blank, ends_later, Past, past_gap}
+use Rattle.ng_script.proofs.Solid.{Solid, ends_blank, ends_later, past_gap}
 use Rattle.std.proofs.lemmas.List.{reverse-append, reverse-reverse}
 
 not_false : (b : Bool) → not b ≡ true → b ≡ false

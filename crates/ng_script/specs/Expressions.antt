@@ -1,5 +1,5 @@
 -- The expressions of a script: programs whose filters are there.
-use Rattle.std.specs.Prelude.{◌≡◌, ℕ, List, length, true, Result, Ok, Err, encode_utf8_all, if◌then◌else◌}
+use Rattle.std.specs.Prelude.{ℕ, List, length, Result, Ok, Err, encode_utf8_all, if◌then◌else◌}
 use Rattle.ng_base.specs.Meets.{◌>>=◌}
 use Rattle.ng_base.specs.declared.fault.Memory.TheVariants.{Refused}
 use Rattle.ng_language.specs.Trees.{Trees}

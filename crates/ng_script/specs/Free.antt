@@ -1,5 +1,5 @@
 -- The free answer: memory was refused.
-use Rattle.std.specs.Prelude.{ℕ, Bool, true, false, ◌==◌, ◌&&◌}
+use Rattle.std.specs.Prelude.{Bool, true, false, ◌==◌, ◌&&◌}
 use Rattle.ng_base.specs.declared.fault.Memory.TheVariants.{Refused}
 use Rattle.ng_script.specs.declared.fault.ScriptFault.{ScriptFault}
 use Rattle.ng_script.specs.declared.fault.ScriptKind.{ScriptKind}

@@ -1,6 +1,6 @@
 -- The lines of a script.
-use Rattle.std.specs.Prelude.{ℕ, ◌==◌, ◌&&◌, Bool, true, false, List, [], ◌∷◌, reverse, Option, None, Some, if◌then◌else◌}
-use Rattle.ng_base.specs.Codes.{line_feed, carriage_return, slash}
+use Rattle.std.specs.Prelude.{ℕ, ◌==◌, ◌&&◌, Bool, false, List, [], ◌∷◌, reverse, Option, None, Some, if◌then◌else◌}
+use Rattle.ng_base.specs.Codes.{line_feed, carriage_return}
 use Rattle.ng_script.specs.Words.{past_blanks}
 
 -- without the blanks at the end, and at both ends

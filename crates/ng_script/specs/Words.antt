@@ -1,6 +1,5 @@
 -- The words of a line, with blanks between them.
-use Rattle.std.specs.Prelude.{◌≡◌, ℕ, ◌==◌, ◌||◌, not, Bool, true, List, [], ◌∷◌, ◌++◌, if◌then◌else◌}
-use Rattle.std.specs.List.{list_all}
+use Rattle.std.specs.Prelude.{ℕ, ◌==◌, ◌||◌, Bool, List, [], ◌∷◌, if◌then◌else◌}
 use Rattle.ng_base.specs.Codes.{tab, line_feed, space}
 use Rattle.ng_script.specs.declared.cut.Part.{Part}
 use Rattle.ng_script.specs.declared.cut.Part.TheVariants as part

@@ -1,5 +1,4 @@
-use Rattle.std.proofs.Common.{rules, ◌≡◌, ap, sym, ◌∙◌, List, ℕ, [], ◌∷◌, ◌++◌, length, arith}
-use Rattle.std.proofs.lemmas.Grind.{common_steps}
+use Rattle.std.proofs.Common.{rules, ◌≡◌, ap, sym, ◌∙◌, List, ℕ, [], ◌∷◌, length, arith}
 use Rattle.std.specs.Str.{chars}
 use Rattle.ng_script.specs.Lines.{lines, without_return}
 use Rattle.ng_script.specs.Words.{ends, front, onward}

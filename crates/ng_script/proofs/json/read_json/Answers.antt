@@ -1,4 +1,4 @@
-use Rattle.std.proofs.Common.{◌≡◌, ◌∙◌, ap, IsTrue}
+use Rattle.std.proofs.Common.{◌∙◌, ap, IsTrue}
 use Rattle.std.proofs.lemmas.Str.{encodes-chars}
 use Rattle.serde_json.specs.Read.{read}
 use Rattle.ng_script.specs.Json.{or_bad_argument}

@@ -1,9 +1,8 @@
 use Rattle.std.proofs.Common.{rules, ◌≡◌, ◌∙◌, ap, sym, List, [], ℕ}
-use Rattle.std.proofs.Common.{take}
 use Rattle.std.specs.Prelude.{Err, Result}
 use Rattle.std.specs.Str.{chars}
 use Rattle.ng_base.specs.Meets.{Gives}
-use Rattle.ng_script.specs.Acts.{Entry, entries_of}
+use Rattle.ng_script.specs.Acts.{entries_of}
 use Rattle.ng_script.specs.Free.{is_free}
 use Rattle.ng_script.specs.Lines.{lines}
 use Rattle.ng_script.specs.Scripts.{script_of, commands_from}

@@ -1,4 +1,4 @@
-use Rattle.std.proofs.Common.{◌≡◌, ◌≤◌, ◌+◌, ◌<◌, ap, length, arith, option_map, subst}
+use Rattle.std.proofs.Common.{ap, length, arith, option_map}
 use Rattle.std.proofs.lemmas.Str.{encodes-chars, length-le-encodes}
 use Rattle.std.specs.Str.{chars}
 use Rattle.ng_script.proofs.Sizes.{size_of}

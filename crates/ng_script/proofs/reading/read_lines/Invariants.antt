@@ -1,4 +1,4 @@
-use Rattle.std.proofs.Common.{◌≡◌, ◌+◌, ◌≤◌, [], length, option_map}
+use Rattle.std.proofs.Common.{◌≡◌, ◌+◌, ◌≤◌, [], option_map}
 use Rattle.std.specs.Str.{chars}
 use Rattle.ng_script.specs.Acts.{entries_of}
 use Rattle.ng_script.specs.Lines.{lines_after}
