@@ -1,0 +1,5 @@
+pub mod Written
+pub mod Storing
+pub mod Assigning
+pub mod Changing
+pub mod Events
