@@ -1,5 +1,6 @@
 pub mod Written
 pub mod Storing
 pub mod Assigning
+pub mod Making
 pub mod Changing
 pub mod Events

@@ -9,6 +9,7 @@ use Rattle.ng_base.specs.declared.heap.ObjKind.TheVariants as kinds
 use Rattle.ng_base.specs.declared.value.Value.{Value}
 use Rattle.ng_base.specs.declared.value.Value.TheVariants as value
 use Rattle.ng_base.specs.declared.fault.Fault.TheVariants.{StoreFull}
+use Rattle.ng_language.specs.Objects.{set_name}
 use Rattle.ng_write.specs.Written.{Written, ◌>>◌}
 
 -- an array with its items
@@ -33,6 +34,11 @@ PropertiesStand count properties = AllByRecursion (λ (p : List ℕ × Value). S
 abbrev pub entered : List (List ℕ × Value) → List (List ℕ × Value) → List (List ℕ × Value)
 entered done [] = done
 entered done (p ∷ ps) = entered (insert_entry bytes_eq done p.0 p.1) ps
+
+-- names of an object are set one after another
+abbrev pub with_names : List Object → ℕ → List (List ℕ × Value) → List Object
+with_names objects o [] = objects
+with_names objects o (p ∷ ps) = with_names (set_name objects o p.0 p.1) o ps
 
 -- a view as a value: what stands in a list or record becomes a value first, in order, and then the list or record itself
 abbrev mutual

@@ -1,11 +1,12 @@
 //! Assignment to names, members and items.
-ghost use Rattle.std.specs.Prelude.{◌≡◌, ◌<◌, ◌≤◌, ℕ, length, slice_set, IfOk};
+ghost use Rattle.std.specs.Prelude.{◌≡◌, ◌<◌, ◌≤◌, ℕ, length, Ok, None, Some, if◌then◌else◌};
 ghost use Rattle.std.specs.List.{list_all};
 ghost use Rattle.ng_base.specs.Faults.{is_memory};
 ghost use Rattle.ng_base.specs.Meets.{Meets};
-ghost use Rattle.ng_base.specs.Objects.{StandsAmong};
-ghost use Rattle.ng_view.specs.Evaluation.{LocalsStand};
-ghost use Rattle.ng_write.specs.Assigning.{is_kept_name, scope_assigned, length_assigned, item_assigned, is_whole_name, beyond, indexed, array_assigned, object_assigned, member_assigned, index_name, item_set, is_local, locals_after, name_assigned};
+ghost use Rattle.ng_base.specs.Objects.{StandsAmong, is_digit};
+ghost use Rattle.ng_language.specs.Objects.{set_name};
+ghost use Rattle.ng_write.specs.Assigning.{is_kept_name, scope_assigned, length_assigned, item_assigned, is_whole_name, beyond, indexed, array_assigned, object_assigned, member_assigned, is_local, place_among, locals_after, name_assigned};
+ghost use Rattle.ng_write.specs.Making.{index_name, item_set};
 ghost use Rattle.ng_write.specs.Written.{Writes};
 
 use ng_base::fault::Fault;
@@ -28,6 +29,7 @@ fn is_kept_name(name: &Txt) -> bool
     name.is_word("$id") || name.is_word("$parent") || name.is_word("$root")
 }
 
+#[tactic(auto, using(crate::proofs::More::as_many))]
 fn assign_scope(store: &mut Store, o: Oid, name: &Txt, v: Value) -> Result<(), Fault>
     requires object { o.0 < length store.old }
     requires value { StandsAmong (length store.old) v }
@@ -42,6 +44,7 @@ fn assign_scope(store: &mut Store, o: Oid, name: &Txt, v: Value) -> Result<(), F
 }
 
 /// Cuts an array.
+#[tactic(auto, using(crate::proofs::More::as_many, crate::proofs::Filled::splice_cut))]
 fn assign_length(store: &mut Store, o: Oid, v: &Value) -> Result<(), Fault>
     requires { o.0 < length store.old }
     ensures assigned { Writes (length_assigned store.old o.0 v.now) store.new result }
@@ -60,6 +63,7 @@ fn assign_length(store: &mut Store, o: Oid, v: &Value) -> Result<(), Fault>
 }
 
 /// Replaces an item of an array, or adds the next.
+#[tactic(auto, using(crate::proofs::More::as_many))]
 fn assign_index(store: &mut Store, o: Oid, i: u32, v: Value) -> Result<(), Fault>
     requires object { o.0 < length store.old }
     requires value { StandsAmong (length store.old) v }
@@ -78,7 +82,9 @@ fn assign_index(store: &mut Store, o: Oid, i: u32, v: Value) -> Result<(), Fault
     Err(Fault::Range)
 }
 
+/// Digits alone.
 fn are_digits(mut reader: Plain<'_>) -> bool
+    ensures { result ≡ list_all is_digit reader.entry }
 {
     while let Some(c) = reader.next() {
         if !c.is_ascii_digit() {
@@ -129,9 +135,12 @@ fn assign_array(store: &mut Store, o: Oid, name: &Txt, v: Value) -> Result<(), F
 }
 
 /// Sets a name of an object that keeps none for itself.
+#[tactic(auto, using(crate::proofs::More::as_many))]
 fn set(store: &mut Store, o: Oid, name: &Txt, v: Value) -> Result<(), Fault>
     requires object { o.0 < length store.old }
     requires value { StandsAmong (length store.old) v }
+    ensures set { Writes (set_name store.old o.0 name.now v, Ok tt) store.new result }
+    ensures len { length store.new ≡ length store.old }
 {
     store.set(o, name, v)?;
     Ok(())
@@ -206,12 +215,30 @@ pub fn assign_item(
 }
 
 /// The place of the local of a name.
-fn local_place(locals: &Locals, name: &Txt) -> Option<usize>
+fn local_place(locals: &[(Txt, Value)], name: &Txt) -> Option<usize>
+    ensures { result ≡ place_among name.now 0 locals.now }
 {
-    locals
-        .as_slice()
-        .iter()
-        .position(|local| name.same(&local.0))
+    for (i, local) in locals.iter().enumerate() {
+        if name.same(&local.0) {
+            return Some(i);
+        }
+    }
+    None
+}
+
+/// Gives the local of a name another value, where there is one, and else hands the value back.
+#[tactic(auto, using(crate::proofs::Placed::places))]
+fn assign_local(locals: &mut Locals, name: &Txt, v: Value) -> Option<Value>
+    ensures locals { locals.new ≡ locals_after locals.old name.now v }
+    ensures handed { result ≡ (if is_local locals.old name.now then None else Some v) }
+{
+    match local_place(locals.as_slice(), name) {
+        Some(place) => {
+            locals.put(place, v);
+            None
+        }
+        None => Some(v),
+    }
 }
 
 /// `a = v`: a local of that name, else a name of the scope's own object.
@@ -229,11 +256,8 @@ pub fn assign_name(
     ensures locals { locals.new ≡ locals_after locals.old name.now v }
     ensures len { length store.new ≡ length store.old }
 {
-    match local_place(locals, name) {
-        Some(place) => {
-            locals.put(place, v);
-            Ok(())
-        }
-        None => assign_object(store, scope, name, v),
+    match assign_local(locals, name, v) {
+        None => Ok(()),
+        Some(v) => assign_object(store, scope, name, v),
     }
 }

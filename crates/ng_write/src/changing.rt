@@ -1,11 +1,11 @@
 //! The methods of arrays that change them.
-ghost use Rattle.std.specs.Prelude.{◌≡◌, ◌<◌, ◌≤◌, ◌-◌, ℕ, length, IfOk};
+ghost use Rattle.std.specs.Prelude.{◌≡◌, ◌<◌, ◌≤◌, ◌-◌, ◌+◌, ℕ, length, drop, IfOk};
 ghost use Rattle.std.specs.List.{AllByRecursion};
 ghost use Rattle.ng_base.specs.Objects.{StandsAmong};
 ghost use Rattle.ng_language.specs.Objects.{items_at};
 ghost use Rattle.ng_language.specs.Operators.{num};
 ghost use Rattle.ng_view.specs.Methods.{from_end};
-ghost use Rattle.ng_write.specs.Changing.{change_named, pushed, unshifted, spliced, cut_out, cut_from, cut_count, up_to, changed};
+ghost use Rattle.ng_write.specs.Changing.{change_named, number, pushed, unshifted, spliced, cut_out, cut_from, cut_count, up_to, changed};
 ghost use Rattle.ng_write.specs.Written.{Writes};
 
 use crate::storing::add_array;
@@ -17,6 +17,7 @@ use ng_base::value::Value;
 use ng_base::view::View;
 use ng_store::Store;
 use ng_value::numbers::view_num;
+use ng_view::lists::from_end;
 
 /// A method of arrays that changes them.
 #[derive(Clone, Copy, Debug, PartialEq, Eq)]
@@ -53,7 +54,16 @@ pub fn change_named(name: &Txt) -> Option<Change>
     }
 }
 
+/// The length of an array, as a value.
+fn length(store: &Store, o: Oid) -> Value
+    requires { o.0 < length store.now }
+    ensures { result ≡ number (length (items_at store.now o.0)) }
+{
+    Value::Int(i64::from(store.len(o)))
+}
+
 /// Adds values behind the items.
+#[tactic(auto, using(crate::proofs::More::as_many))]
 fn push(store: &mut Store, o: Oid, args: &[Value]) -> Result<Value, Fault>
     requires object { o.0 < length store.old }
     requires args { AllByRecursion (StandsAmong (length store.old)) args.now }
@@ -62,10 +72,11 @@ fn push(store: &mut Store, o: Oid, args: &[Value]) -> Result<Value, Fault>
 {
     let count = store.len(o);
     store.splice(o, count, 0, args)?;
-    Ok(Value::Int(i64::from(store.len(o))))
+    Ok(length(store, o))
 }
 
 /// Adds values before the items.
+#[tactic(auto, using(crate::proofs::More::as_many))]
 fn unshift(store: &mut Store, o: Oid, args: &[Value]) -> Result<Value, Fault>
     requires object { o.0 < length store.old }
     requires args { AllByRecursion (StandsAmong (length store.old)) args.now }
@@ -73,7 +84,7 @@ fn unshift(store: &mut Store, o: Oid, args: &[Value]) -> Result<Value, Fault>
     ensures len { length store.new ≡ length store.old }
 {
     store.splice(o, 0, 0, args)?;
-    Ok(Value::Int(i64::from(store.len(o))))
+    Ok(length(store, o))
 }
 
 /// A place that an argument names: below 0 it counts from the end, what is no number is 0.
@@ -81,15 +92,8 @@ fn place(count: u32, v: &Value) -> Result<u32, Memory>
     ensures place { IfOk result (λ n. n ≡ from_end count (num v.now)) }
     ensures within { IfOk result (λ n. n ≤ count) }
 {
-    let count = i64::from(count);
-    let place = match view_num(&View::of_value(v.copied()?)) {
-        None => 0,
-        Some(n) if n >= count => count,
-        Some(n) if n >= 0 => n,
-        Some(n) if n <= -count => 0,
-        Some(n) => count + n,
-    };
-    Ok(place as u32)
+    let from = from_end(count as usize, view_num(&View::of_value(v.copied()?)));
+    Ok(from as u32)
 }
 
 /// As many as an argument asks for, and not more than there are.
@@ -134,6 +138,7 @@ fn cut_count(count: u32, from: u32, args: &[Value]) -> Result<u32, Memory>
 }
 
 /// Replaces a range of the items by values, and gives a new array of what stood there.
+#[tactic(auto, using(crate::proofs::More::as_many, crate::proofs::More::one_more))]
 fn cut_out(
     store: &mut Store,
     o: Oid,
@@ -157,6 +162,7 @@ fn cut_out(
 
 /// The arguments behind the count.
 fn put_in(args: &[Value]) -> &[Value]
+    ensures { result.now ≡ drop 2 args.now }
 {
     if args.len() < 2 { &[] } else { &args[2..] }
 }
@@ -175,8 +181,13 @@ fn splice(store: &mut Store, o: Oid, args: &[Value]) -> Result<Value, Fault>
 }
 
 /// Calls a method of an array that changes it.
-#[tactic(auto, unfolding(crate::specs::Changing::changed))]
-pub fn change(store: &mut Store, method: Change, o: Oid, args: &[Value]) -> Result<Value, Fault>
+#[tactic(auto, using(crate::proofs::More::as_many), unfolding(crate::specs::Changing::changed))]
+pub fn change_array(
+    store: &mut Store,
+    method: Change,
+    o: Oid,
+    args: &[Value],
+) -> Result<Value, Fault>
     requires object { o.0 < length store.old }
     requires args { AllByRecursion (StandsAmong (length store.old)) args.now }
     ensures changed { Writes (changed store.old method o.0 args.now) store.new result }

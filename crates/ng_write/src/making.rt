@@ -4,7 +4,7 @@ ghost use Rattle.ng_base.specs.Objects.{StandsAmong};
 ghost use Rattle.ng_view.specs.Evaluation.{LocalsStand};
 ghost use Rattle.ng_base.specs.Views.{prim};
 ghost use Rattle.ng_base.specs.ViewOf.{view_of};
-ghost use Rattle.ng_write.specs.Assigning.{value_in, member_value, name_value, is_nothing, made_member, made_item, made_name, locals_made};
+ghost use Rattle.ng_write.specs.Making.{value_in, member_value, name_value, is_nothing, made_member, made_item, made_name, locals_made};
 ghost use Rattle.ng_write.specs.Written.{Writes};
 
 use crate::assigning::{assign_member, assign_name, index_name};

@@ -1,5 +1,5 @@
 //! Fresh lists and records become objects.
-ghost use Rattle.std.specs.Prelude.{◌≡◌, ◌<◌, ◌≤◌, ◌++◌, ◌∷◌, [], ℕ, List, length, map, Ok, Err, None, nat_lt, IfOk, OnOk, OnErr, if◌then◌else◌};
+ghost use Rattle.std.specs.Prelude.{◌≡◌, ◌<◌, ◌≤◌, ◌++◌, ◌∷◌, [], ℕ, List, length, map, Ok, Err, None, nat_lt, false, true, IfOk, IfErr, OnOk, OnErr, if◌then◌else◌};
 ghost use Rattle.std.specs.List.{AllByRecursion};
 ghost use Rattle.ng_base.specs.Faults.{is_memory};
 ghost use Rattle.ng_base.specs.Meets.{Meets};
@@ -9,7 +9,7 @@ ghost use Rattle.ng_base.specs.ViewOf.{view_of, field_of};
 ghost use Rattle.ng_base.specs.declared.fault.Fault.TheVariants.{StoreFull};
 ghost use Rattle.ng_language.specs.Objects.{new_object};
 ghost use Rattle.ng_language.specs.Views.{ViewStands, ViewsStand, FieldsStand};
-ghost use Rattle.ng_write.specs.Storing.{array_with, plain_with, with_object, PropertiesStand, entered, stored, stored_views, stored_fields};
+ghost use Rattle.ng_write.specs.Storing.{array_with, plain_with, with_object, PropertiesStand, entered, with_names, stored, stored_views, stored_fields};
 ghost use Rattle.ng_write.specs.Written.{Writes};
 
 use crate::parts::{fields_in, first_field, first_property, first_view, views_in};
@@ -37,6 +37,7 @@ pub(crate) fn make(store: &mut Store, kind: ObjKind) -> Result<Oid, Fault>
 }
 
 /// A new array with its items.
+#[tactic(auto, using(crate::proofs::Filled::filled_array, crate::proofs::More::one_more))]
 pub(crate) fn add_array(store: &mut Store, items: &[Value]) -> Result<Value, Fault>
     requires { AllByRecursion (StandsAmong (length store.old)) items.now }
     ensures made { Writes (with_object (array_with items.now) store.old) store.new result }
@@ -49,9 +50,13 @@ pub(crate) fn add_array(store: &mut Store, items: &[Value]) -> Result<Value, Fau
 }
 
 /// Sets names of an object one after another.
+#[tactic(auto, using(crate::proofs::More::as_many))]
 fn enter(store: &mut Store, o: Oid, properties: &[(Txt, Value)]) -> Result<(), Fault>
     requires object { o.0 < length store.old }
     requires stands { PropertiesStand (length store.old) properties.now }
+    ensures entered { OnOk result (store.new ≡ with_names store.old o.0 properties.now) }
+    ensures len { length store.new ≡ length store.old }
+    ensures memory { IfErr result (λ e. is_memory e ≡ true) }
 {
     let mut left = properties;
     while let Some((property, rest)) = first_property(left) {
@@ -62,6 +67,7 @@ fn enter(store: &mut Store, o: Oid, properties: &[(Txt, Value)]) -> Result<(), F
 }
 
 /// A new object with its named values.
+#[tactic(auto, using(crate::proofs::Filled::filled_plain, crate::proofs::More::one_more))]
 pub(crate) fn add_plain(store: &mut Store, properties: &[(Txt, Value)]) -> Result<Value, Fault>
     requires { PropertiesStand (length store.old) properties.now }
     ensures made { Writes (with_object (plain_with (entered [] properties.now)) store.old) store.new result }
@@ -119,6 +125,8 @@ fn stored_fields(
     fields: &[(Txt, View)],
 ) -> Result<Vec<(Txt, Value)>, Fault>
     requires { FieldsStand (length store.old) (fields_from (map field_of fields.now)) }
+    ensures stored { IfOk result (λ ps. stored_fields store.old [] (fields_from (map field_of fields.now)) ≡ (store.new, Ok ps.items)) }
+    ensures refused { IfErr result (λ e. is_memory e ≡ false → stored_fields store.old [] (fields_from (map field_of fields.now)) ≡ (store.new, Err e)) }
     ensures grown { length store.old ≤ length store.new }
     ensures stands { IfOk result (λ ps. PropertiesStand (length store.new) ps.items) }
 {

@@ -1,0 +1,4 @@
+pub mod More
+pub mod Filled
+pub mod Steps
+pub mod Placed
