@@ -2,3 +2,5 @@ pub mod More
 pub mod Filled
 pub mod Steps
 pub mod Placed
+pub mod Extending
+pub mod Read

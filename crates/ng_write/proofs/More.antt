@@ -46,3 +46,8 @@ pub length-changed_more : (objects : List Object) (x : Object) (o : ℕ) (f : Ob
 length-changed_more objects x o f = length-update_at (objects ++ x ∷ []) o f ∙ length-one_more objects x
 
 pub ruleset one_more = (length-one_more, length-changed_more)
+
+pub length-appended : (objects made : List Object) → length (objects ++ made) ≡ length objects + length made
+length-appended objects made = length-append objects made
+
+pub ruleset more_by_some = (length-appended)

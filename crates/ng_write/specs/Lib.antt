@@ -4,3 +4,5 @@ pub mod Assigning
 pub mod Making
 pub mod Changing
 pub mod Events
+pub mod Reading
+pub mod Facts

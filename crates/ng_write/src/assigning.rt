@@ -23,7 +23,7 @@ use ng_value::texts::to_text;
 use std::alloc::Global;
 
 /// A scope's number, its parent and the root.
-fn is_kept_name(name: &Txt) -> bool
+pub(crate) fn is_kept_name(name: &Txt) -> bool
     ensures { result ≡ is_kept_name name.now }
 {
     name.is_word("$id") || name.is_word("$parent") || name.is_word("$root")

@@ -19,6 +19,8 @@
 pub mod assigning;
 pub mod changing;
 pub mod events;
+pub mod facts;
+pub mod laws;
 pub mod making;
 mod parts;
 pub mod storing;
