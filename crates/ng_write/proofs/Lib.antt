@@ -4,3 +4,4 @@ pub mod Steps
 pub mod Placed
 pub mod Extending
 pub mod Read
+pub mod Only

@@ -1,12 +1,14 @@
 -- What stands among some objects stands among more.
-use Rattle.std.proofs.Common.{◌≡◌, ◌∙◌, ◌≤◌, ◌<◌, ◌+◌, ℕ, suc, List, [], ◌∷◌, ◌++◌, length, arith, length-append}
+use Rattle.std.proofs.Common.{Bool, true, false, if◌then◌else◌, bytes_eq, ◌≡◌, ◌∙◌, ◌≤◌, ◌<◌, ◌+◌, ℕ, suc, List, [], ◌∷◌, ◌++◌, length, arith, length-append}
 use Rattle.std.specs.List.{AllByRecursion}
 use Rattle.ng_base.specs.Objects.{Object, StandsAmong}
 use Rattle.ng_base.specs.Views.{ViewTree, ViewTrees, ViewFields, prim, list, rec, no_views, view_then, no_fields, field_then}
 use Rattle.ng_base.specs.declared.value.Value.{Value}
 use Rattle.ng_language.specs.Objects.{update_at}
 use Rattle.ng_language.specs.Views.{ViewStands, ViewsStand, FieldsStand}
-use Rattle.ng_store.proofs.Sound.{stands_more, all_through, all_append, length-update_at}
+use Rattle.ng_store.proofs.Sound.{stands_more, all_through, all_append, all_inserted, length-update_at}
+use Rattle.indexmap.specs.IndexMap.{insert_entry}
+use Rattle.ng_write.specs.Assigning.{is_local, locals_after}
 use Rattle.ng_write.specs.Storing.{PropertiesStand}
 
 mutual
@@ -51,3 +53,11 @@ pub length-appended : (objects made : List Object) → length (objects ++ made) 
 length-appended objects made = length-append objects made
 
 pub ruleset more_by_some = (length-appended)
+
+-- the locals after a name is assigned to
+pub locals_after_stand : (n : ℕ) (ls : List (List ℕ × Value)) (name : List ℕ) (v : Value) → PropertiesStand n ls → StandsAmong n v → PropertiesStand n (locals_after ls name v)
+locals_after_stand n ls name v a s = by (is_local ls name)
+  where
+    by : (b : Bool) → PropertiesStand n (if b then insert_entry bytes_eq ls name v else ls)
+    by true = all_inserted n ls name v a s
+    by false = a
