@@ -1,9 +1,8 @@
 -- What `stored` leaves as it was, and what it makes.
-use Rattle.std.proofs.Common.{◌≡◌, ◌∙◌, ◌<◌, ◌≤◌, ◌+◌, ℕ, zero, suc, Bool, true, false, List, [], ◌∷◌, ◌++◌, length, refl, sym, ap, subst, arith, nat_lt, if◌then◌else◌, length-append, append_assoc}
+use Rattle.std.proofs.Common.{◌≡◌, ◌∙◌, ◌<◌, ◌≤◌, ℕ, zero, suc, Bool, true, false, List, [], ◌∷◌, ◌++◌, length, refl, arith, nat_lt, if◌then◌else◌, length-append}
 use Rattle.std.specs.Prelude.{Result, Ok, Err}
 use Rattle.ng_base.specs.Objects.{Object, object_at}
 use Rattle.ng_base.specs.Views.{ViewTree, ViewTrees, ViewFields, prim, list, rec, no_views, view_then, no_fields, field_then}
-use Rattle.ng_base.specs.declared.name.Oid.{Oid}
 use Rattle.ng_base.specs.declared.fault.Fault.{Fault}
 use Rattle.ng_base.specs.declared.fault.Fault.TheVariants.{StoreFull}
 use Rattle.ng_base.specs.declared.value.Value.{Value}
@@ -11,7 +10,6 @@ use Rattle.ng_base.specs.declared.value.Value.TheVariants as value
 use Rattle.ng_write.specs.Written.{Written, ◌>>◌}
 use Rattle.ng_write.specs.Storing.{array_with, plain_with, entered, with_object, stored, stored_views, stored_fields}
 use Rattle.ng_write.specs.Reading.{Extends, ReadsAs, ItemsRead, FieldsRead}
-use Rattle.ng_write.proofs.Filled.{last_object}
 
 pub extends_self : (objects : List Object) → Extends objects objects
 extends_self objects = record { no_fewer = omega arith; unchanged = λ q h. refl }
@@ -20,9 +18,9 @@ pub extends_on : (a b c : List Object) → Extends a b → Extends b c → Exten
 extends_on a b c e f = record {
   no_fewer = let x : length a ≤ length b = e.no_fewer in let y : length b ≤ length c = f.no_fewer in omega arith;
   unchanged = λ q h.
-    let x : length a ≤ length b = e.no_fewer in
-    let k : q < length b = omega arith in
-    f.unchanged q k ∙ e.unchanged q h;
+      let x : length a ≤ length b = e.no_fewer in
+      let k : q < length b = omega arith in
+      f.unchanged q k ∙ e.unchanged q h;
 }
 
 before_last : (xs : List Object) (x : Object) (q : ℕ) → q < length xs → object_at (xs ++ x ∷ []) q ≡ object_at xs q
@@ -50,22 +48,22 @@ mutual
   stored_extends (prim v) objects = extends_self objects
   stored_extends (list ts) objects =
       extends_then objects (stored_views objects [] ts).0 (stored_views objects [] ts).1 (λ items now. with_object (array_with items) now)
-        (views_extend ts objects []) (λ items now. extends_object (array_with items) now)
+      (views_extend ts objects []) (λ items now. extends_object (array_with items) now)
   stored_extends (rec fs) objects =
       extends_then objects (stored_fields objects [] fs).0 (stored_fields objects [] fs).1 (λ properties now. with_object (plain_with (entered [] properties)) now)
-        (fields_extend fs objects []) (λ properties now. extends_object (plain_with (entered [] properties)) now)
+      (fields_extend fs objects []) (λ properties now. extends_object (plain_with (entered [] properties)) now)
 
   pub views_extend : (ts : ViewTrees) (objects : List Object) (done : List Value) → Extends objects (stored_views objects done ts).0
   views_extend no_views objects done = extends_self objects
   views_extend (view_then t ts) objects done =
       extends_then objects (stored objects t).0 (stored objects t).1 (λ v now. stored_views now (done ++ v ∷ []) ts)
-        (stored_extends t objects) (λ v now. views_extend ts now (done ++ v ∷ []))
+      (stored_extends t objects) (λ v now. views_extend ts now (done ++ v ∷ []))
 
   pub fields_extend : (fs : ViewFields) (objects : List Object) (done : List (List ℕ × Value)) → Extends objects (stored_fields objects done fs).0
   fields_extend no_fields objects done = extends_self objects
   fields_extend (field_then name t fs) objects done =
       extends_then objects (stored objects t).0 (stored objects t).1 (λ v now. stored_fields now (done ++ (name, v) ∷ []) fs)
-        (stored_extends t objects) (λ v now. fields_extend fs now (done ++ (name, v) ∷ []))
+      (stored_extends t objects) (λ v now. fields_extend fs now (done ++ (name, v) ∷ []))
 
 -- what reads as a view still does when objects stand behind
 mutual

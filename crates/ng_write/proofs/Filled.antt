@@ -1,5 +1,5 @@
 -- A new object that is filled, and ranges of items at either end.
-use Rattle.std.proofs.Common.{◌≡◌, ◌∙◌, ◌+◌, ◌-◌, ◌≤◌, ◌<◌, ℕ, zero, suc, List, [], ◌∷◌, ◌++◌, length, take, drop, refl, sym, ap, arith, append-nil, None, subst, bytes_eq, length-append, add_comm}
+use Rattle.std.proofs.Common.{◌≡◌, ◌∙◌, ◌+◌, ◌-◌, ◌≤◌, ◌<◌, ℕ, List, [], ◌∷◌, ◌++◌, length, take, drop, refl, sym, ap, arith, append-nil, None, bytes_eq, length-append, add_comm}
 use Rattle.std.specs.Prelude.{Ok}
 use Rattle.std.specs.List.{splice}
 use Rattle.std.proofs.lemmas.List.{take_all}
@@ -52,9 +52,9 @@ filled_array objects items =
     let new = new_object kinds.Array None in
     update_last objects new (with_items (splice (items_at (objects ++ new ∷ []) (length objects)) 0 (0 + 0) items))
     ∙ ap (λ vs. objects ++ with_items vs new ∷ [])
-      (splice_front (items_at (objects ++ new ∷ []) (length objects)) items
-       ∙ ap (λ (x : Object). items ++ x.items) (last_object objects new)
-       ∙ append-nil items)
+    (splice_front (items_at (objects ++ new ∷ []) (length objects)) items
+    ∙ ap (λ (x : Object). items ++ x.items) (last_object objects new)
+    ∙ append-nil items)
 
 -- a name of the last object is set
 pub entered_one : (objects : List Object) (done : List (List ℕ × Value)) (name : List ℕ) (v : Value) →
@@ -86,9 +86,9 @@ pub is_pushed : (objects now : List Object) (o n : ℕ) (args : List Value) → 
 is_pushed objects now o n args h k e =
     let items = items_at objects o in
     let same : now ≡ set_items objects o (items ++ args) =
-      e ∙ ap (set_items objects o) (ap (λ i. splice items i (i + 0) args) k ∙ splice_end items args) in
+    e ∙ ap (set_items objects o) (ap (λ i. splice items i (i + 0) args) k ∙ splice_end items args) in
     let many : length (items_at now o) ≡ length items + length args =
-      ap (λ (os : List Object). length (items_at os o)) same ∙ (pushed_length objects o (items ++ args) h ∙ length-append items args) in
+    ap (λ (os : List Object). length (items_at os o)) same ∙ (pushed_length objects o (items ++ args) h ∙ length-append items args) in
     ap (λ (os : List Object). (os, Ok (number (length items + length args)))) (sym same) ∙ ap (λ i. (now, Ok (number i))) (sym many)
 
 pub is_unshifted : (objects now : List Object) (o : ℕ) (args : List Value) → o < length objects →
@@ -97,5 +97,5 @@ is_unshifted objects now o args h e =
     let items = items_at objects o in
     let same : now ≡ set_items objects o (args ++ items) = e ∙ ap (set_items objects o) (splice_front items args) in
     let many : length (items_at now o) ≡ length items + length args =
-      ap (λ (os : List Object). length (items_at os o)) same ∙ (pushed_length objects o (args ++ items) h ∙ (length-append args items ∙ add_comm (length args) (length items))) in
+    ap (λ (os : List Object). length (items_at os o)) same ∙ (pushed_length objects o (args ++ items) h ∙ (length-append args items ∙ add_comm (length args) (length items))) in
     ap (λ (os : List Object). (os, Ok (number (length items + length args)))) (sym same) ∙ ap (λ i. (now, Ok (number i))) (sym many)

@@ -1,5 +1,5 @@
 -- An assignment changes one object.
-use Rattle.std.proofs.Common.{◌≡◌, ◌++◌, ◌∷◌, [], ℕ, Bool, true, false, List, length, take, refl, pos, bytes_eq, slice_set, if◌then◌else◌, nat_lt, nat_le, Option, Some, None, ◌==◌}
+use Rattle.std.proofs.Common.{◌≡◌, ◌++◌, ◌∷◌, [], ℕ, Bool, true, false, List, length, take, refl, pos, slice_set, if◌then◌else◌, nat_lt, nat_le, Option, Some, None, ◌==◌}
 use Rattle.std.specs.Prelude.{Ok, Err}
 use Rattle.ng_base.specs.Objects.{Object, object_at, index_of}
 use Rattle.ng_base.specs.declared.heap.ObjKind.{ObjKind}
@@ -14,7 +14,7 @@ use Rattle.ng_view.specs.Evaluation.{Local}
 use Rattle.ng_view.specs.Members.{is_length}
 use Rattle.ng_write.specs.Written.{Written}
 use Rattle.ng_write.specs.Reading.{OnlyAt}
-use Rattle.ng_write.specs.Assigning.{is_kept_name, scope_assigned, length_assigned, item_assigned, beyond, indexed, array_assigned, by_kind, object_assigned, is_local, locals_after, name_assigned}
+use Rattle.ng_write.specs.Assigning.{is_kept_name, length_assigned, item_assigned, indexed, by_kind, object_assigned, is_local, locals_after, name_assigned}
 
 only_self : (objects : List Object) (o : ℕ) → OnlyAt o objects objects
 only_self objects o = record { as_many = refl; others = λ q h. refl }
@@ -30,16 +30,16 @@ only_either objects o false w u h k = k
 only_length : (objects : List Object) (o : ℕ) (v : Value) → OnlyAt o objects (length_assigned objects o v).0
 only_length objects o (value.Int (pos n)) =
     only_either objects o (nat_le n (length (items_at objects o))) (set_items objects o (take n (items_at objects o)), Ok tt) (objects, Err Range)
-      (only_updated objects o (with_items (take n (items_at objects o)))) (only_self objects o)
+    (only_updated objects o (with_items (take n (items_at objects o)))) (only_self objects o)
 only_length objects o v = only_self objects o
 
 only_item : (objects : List Object) (o i : ℕ) (v : Value) → OnlyAt o objects (item_assigned objects o i v).0
 only_item objects o i v =
     let rest : Written (Unit {0}) = if i == length (items_at objects o) then (set_items objects o (items_at objects o ++ v ∷ []), Ok tt) else (objects, Err Range) in
     only_either objects o (nat_lt i (length (items_at objects o))) (set_items objects o (slice_set (items_at objects o) i v), Ok tt) rest
-      (only_updated objects o (with_items (slice_set (items_at objects o) i v)))
-      (only_either objects o (i == length (items_at objects o)) (set_items objects o (items_at objects o ++ v ∷ []), Ok tt) (objects, Err Range)
-        (only_updated objects o (with_items (items_at objects o ++ v ∷ []))) (only_self objects o))
+    (only_updated objects o (with_items (slice_set (items_at objects o) i v)))
+    (only_either objects o (i == length (items_at objects o)) (set_items objects o (items_at objects o ++ v ∷ []), Ok tt) (objects, Err Range)
+    (only_updated objects o (with_items (items_at objects o ++ v ∷ []))) (only_self objects o))
 
 only_indexed : (objects : List Object) (o : ℕ) (name : List ℕ) (i : Option ℕ) (v : Value) → OnlyAt o objects (indexed objects o name i v).0
 only_indexed objects o name None v = only_self objects o
@@ -50,10 +50,10 @@ only_kind kinds.Plain objects o name v = only_updated objects o (with_property n
 only_kind kinds.Event objects o name v = only_updated objects o (with_property name v)
 only_kind kinds.Array objects o name v =
     only_either objects o (is_length name) (length_assigned objects o v) (indexed objects o name (index_of name) v)
-      (only_length objects o v) (only_indexed objects o name (index_of name) v)
+    (only_length objects o v) (only_indexed objects o name (index_of name) v)
 only_kind kinds.Scope objects o name v =
     only_either objects o (is_kept_name name) (objects, Err NotAssignable) (set_name objects o name v, Ok tt)
-      (only_self objects o) (only_updated objects o (with_property name v))
+    (only_self objects o) (only_updated objects o (with_property name v))
 
 pub only_object : (objects : List Object) (o : ℕ) (name : List ℕ) (v : Value) → OnlyAt o objects (object_assigned objects o name v).0
 unfolding object_assigned

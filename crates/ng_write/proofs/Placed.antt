@@ -1,7 +1,6 @@
 -- The place of a local, and what stands there.
-use Rattle.std.proofs.Common.{◌≡◌, ◌∙◌, ◌<◌, ◌≤◌, ◌+◌, ◌-◌, ℕ, zero, suc, Bool, true, false, List, [], ◌∷◌, length, refl, sym, ap, arith, bytes_eq, Option, Some, None, if◌then◌else◌, slice_set, subst}
-use Rattle.std.specs.Prelude.{slice_index_or, is_some}
-use Rattle.std.specs.Map.{lookup}
+use Rattle.std.proofs.Common.{◌≡◌, ◌∙◌, ◌<◌, ◌+◌, ℕ, suc, Bool, true, false, List, [], ◌∷◌, length, refl, ap, arith, bytes_eq, Option, Some, None, if◌then◌else◌, slice_set, subst}
+use Rattle.std.specs.Prelude.{slice_index_or}
 use Rattle.indexmap.specs.IndexMap.{insert_entry}
 use Rattle.ng_base.specs.declared.value.Value.{Value}
 use Rattle.ng_base.specs.declared.value.Value.TheVariants.{Undefined}

@@ -1,5 +1,5 @@
 -- Assignment to names, members and items (guide: Expressions, "Context").
-use Rattle.std.specs.Prelude.{ℕ, suc, pos, Bool, true, false, List, [], ◌∷◌, ◌++◌, length, take, codes, Option, None, Some, is_some, Result, Ok, Err, slice_set, nat_lt, nat_le, ◌==◌, ◌||◌, if◌then◌else◌}
+use Rattle.std.specs.Prelude.{ℕ, suc, pos, Bool, true, false, List, [], ◌∷◌, ◌++◌, length, take, codes, Option, None, Some, is_some, Ok, Err, slice_set, nat_lt, nat_le, ◌==◌, ◌||◌, if◌then◌else◌}
 use Rattle.std.specs.List.{list_all}
 use Rattle.std.specs.Str.{bytes_eq}
 use Rattle.std.specs.Map.{lookup}

@@ -69,15 +69,17 @@ cut_count n (from ∷ count ∷ args) = up_to (n - from_end n (num from)) (num c
 abbrev pub cut_out : List Object → ℕ → ℕ → ℕ → List Value → Written Value
 cut_out objects o from to new =
     if nat_lt (length objects) 1000000
-    then (set_items objects o (splice (items_at objects o) from to new) ++ array_with (slice_range (items_at objects o) from to) ∷ [],
-        Ok (value.Obj (record { 0 = length objects })))
+    then (
+      set_items objects o (splice (items_at objects o) from to new) ++ array_with (slice_range (items_at objects o) from to) ∷ [],
+      Ok (value.Obj (record { 0 = length objects })),
+    )
     else (objects, Err StoreFull)
 
 -- `splice`: the arguments behind the count stand where the range stood
 abbrev pub spliced : List Object → ℕ → List Value → Written Value
 spliced objects o args =
     cut_out objects o (cut_from (length (items_at objects o)) args)
-        (cut_from (length (items_at objects o)) args + cut_count (length (items_at objects o)) args) (drop 2 args)
+    (cut_from (length (items_at objects o)) args + cut_count (length (items_at objects o)) args) (drop 2 args)
 
 -- what a method leaves and gives
 unfoldable pub changed : List Object → Change → ℕ → List Value → Written Value

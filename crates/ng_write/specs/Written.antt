@@ -1,5 +1,5 @@
 -- What a write leaves and answers.
-use Rattle.std.specs.Prelude.{◌≡◌, Bool, false, List, Result, Ok, Err}
+use Rattle.std.specs.Prelude.{◌≡◌, false, List, Result, Ok, Err}
 use Rattle.ng_base.specs.Faults.{is_memory}
 use Rattle.ng_base.specs.Objects.{Object}
 use Rattle.ng_base.specs.declared.fault.Fault.{Fault}

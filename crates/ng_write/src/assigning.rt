@@ -164,12 +164,7 @@ pub fn assign_object(store: &mut Store, o: Oid, name: &Txt, v: Value) -> Result<
 }
 
 /// `a.b = v`.
-pub fn assign_member(
-    store: &mut Store,
-    target: &Value,
-    name: &Txt,
-    v: Value,
-) -> Result<(), Fault>
+pub fn assign_member(store: &mut Store, target: &Value, name: &Txt, v: Value) -> Result<(), Fault>
     requires target { StandsAmong (length store.old) target.now }
     requires value { StandsAmong (length store.old) v }
     ensures assigned { Writes (member_assigned store.old target.now name.now v) store.new result }
@@ -182,12 +177,7 @@ pub fn assign_member(
 }
 
 /// The name that an index stands for: its text, where the target has members.
-pub fn index_name(
-    alloc: Global,
-    store: &Store,
-    target: &Value,
-    index: &Value,
-) -> Result<Txt, Fault>
+pub fn index_name(alloc: Global, store: &Store, target: &Value, index: &Value) -> Result<Txt, Fault>
     requires { StandsAmong (length store.now) index.now }
     ensures { Meets is_memory (index_name store.now target.now index.now) result }
 {

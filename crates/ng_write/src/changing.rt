@@ -139,13 +139,7 @@ fn cut_count(count: u32, from: u32, args: &[Value]) -> Result<u32, Memory>
 
 /// Replaces a range of the items by values, and gives a new array of what stood there.
 #[tactic(auto, using(crate::proofs::More::as_many, crate::proofs::More::one_more))]
-fn cut_out(
-    store: &mut Store,
-    o: Oid,
-    from: u32,
-    count: u32,
-    new: &[Value],
-) -> Result<Value, Fault>
+fn cut_out(store: &mut Store, o: Oid, from: u32, count: u32, new: &[Value]) -> Result<Value, Fault>
     requires object { o.0 < length store.old }
     requires within { from + count ≤ length (items_at store.old o.0) }
     requires new { AllByRecursion (StandsAmong (length store.old)) new.now }

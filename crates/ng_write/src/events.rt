@@ -54,12 +54,7 @@ fn set_word(
 }
 
 /// Sets the property of a method of an event object.
-pub fn call_event(
-    alloc: Global,
-    store: &mut Store,
-    o: Oid,
-    call: EventCall,
-) -> Result<(), Memory>
+pub fn call_event(alloc: Global, store: &mut Store, o: Oid, call: EventCall) -> Result<(), Memory>
     requires { o.0 < length store.old }
     ensures called { OnOk result (store.new ≡ event_called store.old o.0 call) }
     ensures unchanged { OnErr result (store.new ≡ store.old) }

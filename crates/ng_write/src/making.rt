@@ -46,12 +46,7 @@ pub fn member_value(
 }
 
 /// The value of a bare name.
-pub fn name_value(
-    store: &Store,
-    scope: Oid,
-    locals: &Locals,
-    name: &Txt,
-) -> Result<Value, Memory>
+pub fn name_value(store: &Store, scope: Oid, locals: &Locals, name: &Txt) -> Result<Value, Memory>
     requires scope { scope.0 < length store.now }
     requires locals { LocalsStand (length store.now) locals.now }
     ensures value { IfOk result (λ v. v ≡ name_value store.now scope.0 locals.now name.now) }

@@ -1,4 +1,4 @@
-use Rattle.std.proofs.Common.{rules, length}
+use Rattle.std.proofs.Common.{length}
 use Rattle.ng_write.proofs.More.{properties_more}
 use Rattle.ng_write.proofs.making.made_name.Goals as goal
 

@@ -27,9 +27,9 @@ stored_views-loop-view-preserved t c =
     record {
       size = omega arith;
       same =
-        ap (λ vs. stored_views now vs (views_from (map view_of c.in-Some.rest.now))) put
-        ∙ (sym (next_view before now done (view_of c.in-Some.view.now) (views_from (map view_of c.in-Some.rest.now)) v one)
-        ∙ (ap (λ xs. stored_views before done (views_from (map view_of xs))) (sym is) ∙ c.loop-view.invariant.same));
+          ap (λ vs. stored_views now vs (views_from (map view_of c.in-Some.rest.now))) put
+          ∙ (sym (next_view before now done (view_of c.in-Some.view.now) (views_from (map view_of c.in-Some.rest.now)) v one)
+          ∙ (ap (λ xs. stored_views before done (views_from (map view_of xs))) (sym is) ∙ c.loop-view.invariant.same));
       grown = omega arith;
       stands = views_more (length before) (length now) more (views_from (map view_of c.in-Some.rest.now)) all.1;
       done = subst (λ (vs : List Value). AllByRecursion (StandsAmong (length now)) vs) (sym put) (values_and (length before) (length now) more done v c.loop-view.invariant.done stands);
@@ -54,9 +54,9 @@ stored_fields-loop-field-preserved t c =
     record {
       size = omega arith;
       same =
-        ap (λ ps. stored_fields now ps (fields_from (map field_of c.in-Some.rest.now))) (put ∙ ap (λ n. done ++ (n, v) ∷ []) copy)
-        ∙ (sym (next_field before now done name (view_of view) (fields_from (map field_of c.in-Some.rest.now)) v one)
-        ∙ (ap (λ xs. stored_fields before done (fields_from (map field_of xs))) (sym is) ∙ c.loop-field.invariant.same));
+          ap (λ ps. stored_fields now ps (fields_from (map field_of c.in-Some.rest.now))) (put ∙ ap (λ n. done ++ (n, v) ∷ []) copy)
+          ∙ (sym (next_field before now done name (view_of view) (fields_from (map field_of c.in-Some.rest.now)) v one)
+          ∙ (ap (λ xs. stored_fields before done (fields_from (map field_of xs))) (sym is) ∙ c.loop-field.invariant.same));
       grown = omega arith;
       stands = fields_more (length before) (length now) more (fields_from (map field_of c.in-Some.rest.now)) all.1;
       done = subst (PropertiesStand (length now)) (sym put) (properties_and (length before) (length now) more done c.in_ok-name.name v c.loop-field.invariant.done stands);

@@ -1,4 +1,4 @@
-use Rattle.std.proofs.Common.{◌≡◌, ◌<◌, length}
+use Rattle.std.proofs.Common.{◌≡◌, length}
 use Rattle.ng_write.specs.Storing.{with_names, PropertiesStand}
 use Rattle.ng_write.proofs.storing.enter.Given as goal
 
