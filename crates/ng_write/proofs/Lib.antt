@@ -5,3 +5,4 @@ pub mod Placed
 pub mod Extending
 pub mod Read
 pub mod Only
+pub mod ReadBack

@@ -1,6 +1,8 @@
 //! What a reader may take from the definitions of writes.
-ghost use Rattle.std.specs.Prelude.{◌≡◌, Ok, true, false};
+ghost use Rattle.std.specs.Prelude.{◌≡◌, ◌<◌, Ok, true, false, length};
+ghost use Rattle.ng_base.specs.Views.{prim};
 ghost use Rattle.ng_base.specs.ViewOf.{view_of};
+ghost use Rattle.ng_view.specs.Members.{member};
 ghost use Rattle.ng_write.specs.Reading.{OnlyAt, Extends, ReadsAs};
 ghost use Rattle.ng_write.specs.Assigning.{object_assigned, is_local, locals_after, name_assigned};
 ghost use Rattle.ng_write.specs.Storing.{stored};
@@ -34,4 +36,11 @@ pub fn bare_name(store: &Store, scope: Oid, locals: &Locals, name: &Txt, v: &Val
     ensures alone { OnlyAt scope.0 store.now (name_assigned store.now scope.0 locals.now name.now v.now).0 }
     ensures local { is_local locals.now name.now ≡ true → name_assigned store.now scope.0 locals.now name.now v.now ≡ (store.now, Ok tt) }
     ensures scope { is_local locals.now name.now ≡ false → locals_after locals.now name.now v.now ≡ locals.now }
+{}
+
+/// Where an assignment answers no fault, what was assigned is read back as the member of that name.
+pub fn assigned_reads(store: &Store, o: Oid, name: &Txt, v: &Value)
+    requires object { o.0 < length store.now }
+    requires done { (object_assigned store.now o.0 name.now v.now).1 ≡ Ok tt }
+    ensures { member (object_assigned store.now o.0 name.now v.now).0 (prim (Value.Obj o)) name.now ≡ prim v.now }
 {}

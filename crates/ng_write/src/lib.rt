@@ -9,9 +9,10 @@
 //! leaves the objects as they were, but for those that the definition made before it.
 //!
 //! `storing` is `stored`, the value of a view; `assigning` are the three assignments, `making` what is made along the
-//! left of them; `changing` are the methods of arrays; `events` are those of event objects; `laws` says what a reader
-//! may take from the definitions: a bare name changes the locals or the scope's own object and no other, an assignment
-//! is read back, and what stood before `stored` is as it was.
+//! left of them; `changing` are the methods of arrays; `events` are those of event objects; `facts` reads the members of an
+//! application's data as names of the root scope's own object; `laws` says what a reader may take from the definitions: a
+//! bare name changes the locals or the scope's own object and no other, an assignment changes one object and is read back
+//! there, what stood before `stored` is as it was, and what it made reads as the view.
 //!
 //! It is not for the tree of scopes, whose objects it sees as objects of a kind, nor for what runs programs.
 #![tactic(auto)]
