@@ -1,0 +1,7 @@
+pub mod Lists
+pub mod Nodes
+pub mod Editing
+pub mod Rooms
+pub mod Kept
+pub mod Making
+pub mod Document

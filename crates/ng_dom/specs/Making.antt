@@ -1,0 +1,46 @@
+-- New nodes.
+use Rattle.std.specs.Prelude.{ℕ, nat_lt, ◌≡◌, ◌==◌, Bool, true, false, List, [], ◌∷◌, Option, Some, None, Result, Ok, Err, if◌then◌else◌}
+use Rattle.ng_base.specs.declared.name.NodeId.{NodeId}
+use Rattle.ng_base.specs.declared.fault.Memory.TheVariants.{Refused, Worn}
+use Rattle.ng_dom.specs.Nodes.{NamedNode, NamedForest, named_text, named_comment, named_element, named_anchor, nothing_named, named_then, no_groups}
+use Rattle.ng_dom.specs.Rooms.{Shape, Room, Rooms, text_shape, comment_shape, element_shape, anchor_shape}
+use Rattle.ng_dom.specs.declared.fault.DomFault.{DomFault}
+use Rattle.ng_dom.specs.declared.fault.DomFault.TheVariants.{NodeLimit, Memory}
+use Rattle.ng_dom.specs.declared.record.NewNode.{NewNode}
+use Rattle.ng_dom.specs.declared.record.NewNode.TheVariants.{Element, Text, Comment, Anchor}
+
+-- the most nodes that may be live
+abbrev pub node_limit : ℕ
+node_limit = 200000
+
+-- the name of the next node, where so many are live
+abbrev pub new_name : ℕ → ℕ → Result NodeId DomFault
+new_name live next =
+    if nat_lt live node_limit then (if nat_lt next 18446744073709551615 then Ok (record { slot = 0; made = record { 0 = next } }) else Err (Memory Worn))
+    else Err NodeLimit
+
+-- want of memory
+abbrev pub is_want : DomFault → Bool
+is_want (Memory Refused) = true
+is_want (Memory Worn) = false
+is_want NodeLimit = false
+
+-- a new node of a name: an element has no attribute and no child yet, an anchor no group
+abbrev pub new_node : ℕ → NewNode → NamedNode
+new_node n (Element e) = named_element n e [] nothing_named
+new_node n (Text t) = named_text n t
+new_node n (Comment t) = named_comment n t
+new_node n Anchor = named_anchor n no_groups
+
+-- the table has an element of this name
+abbrev pub IsElementShape : Shape → Type 0
+IsElementShape (text_shape t) = ⊥
+IsElementShape (comment_shape t) = ⊥
+IsElementShape (element_shape e ats ks) = Unit {0}
+IsElementShape (anchor_shape gs) = ⊥
+
+abbrev pub IsAnchorShape : Shape → Type 0
+IsAnchorShape (text_shape t) = ⊥
+IsAnchorShape (comment_shape t) = ⊥
+IsAnchorShape (element_shape e ats ks) = ⊥
+IsAnchorShape (anchor_shape gs) = Unit {0}

@@ -1,0 +1,8 @@
+//! The document of a page, as nodes by name.
+#![tactic(auto)]
+
+pub mod dom;
+pub mod edits;
+pub mod fault;
+pub mod nodes;
+pub mod record;

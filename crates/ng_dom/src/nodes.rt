@@ -1,0 +1,80 @@
+//! The nodes by name.
+ghost use Rattle.std.specs.Prelude.{◌≡◌, ◌+◌, ℕ, ◌==◌, is_some, Some, None, OnOk, OnErr, IfOk, if◌then◌else◌};
+ghost use Rattle.std.specs.BTreeMap.{get, btree_map_len};
+ghost use Rattle.std.specs.Ordering.{nat_cmp};
+ghost use Rattle.ng_dom.specs.Lists.{put_at};
+ghost use Rattle.ng_dom.specs.Editing.{attribute_set, attribute_dropped};
+ghost use Rattle.ng_dom.specs.Rooms.{room_changed, room_added, shape_told, shape_with_attributes, shape_with_kids};
+ghost use Rattle.ng_dom.specs.Kept.{rooms_of, homes_of, room_kept, SameNodes};
+
+use crate::edits;
+use crate::record::Record;
+use ng_base::txt::Txt;
+use std::alloc::AllocError;
+use std::collections::BTreeMap;
+
+/// A new node under a name that no node has.
+pub fn add(nodes: &mut BTreeMap<u64, Record>, n: u64, node: Record) -> Result<(), AllocError>
+    requires { get nat_cmp nodes.old n ≡ None }
+    ensures rooms { OnOk result ((q : ℕ) → rooms_of nodes.new q ≡ room_added n (room_kept node) (rooms_of nodes.old) q) }
+    ensures homes { OnOk result ((q : ℕ) → homes_of nodes.new q ≡ (if q == n then Some node.home else homes_of nodes.old q)) }
+    ensures live { OnOk result (btree_map_len nodes.new ≡ btree_map_len nodes.old + 1) }
+    ensures err { OnErr result (nodes.new.entries ≡ nodes.old.entries) }
+{
+    let _ = nodes.insert(n, node)?;
+    Ok(())
+}
+
+/// A text or comment shows another text.
+pub fn tell(nodes: &mut BTreeMap<u64, Record>, n: u64, t: Txt)
+    ensures rooms { (q : ℕ) → rooms_of nodes.new q ≡ room_changed n (shape_told t) (rooms_of nodes.old) q }
+    ensures same { SameNodes nodes.old nodes.new }
+{
+    match nodes.get_mut(&n) {
+        None => {}
+        Some(node) => edits::tell(node, t),
+    }
+}
+
+/// An element has an attribute of this value.
+pub fn set_attribute(
+    nodes: &mut BTreeMap<u64, Record>,
+    n: u64,
+    name: &Txt,
+    v: Txt,
+) -> Result<(), AllocError>
+    ensures rooms { OnOk result ((q : ℕ) → rooms_of nodes.new q ≡ room_changed n (shape_with_attributes (attribute_set name.now v)) (rooms_of nodes.old) q) }
+    ensures same { SameNodes nodes.old nodes.new }
+{
+    match nodes.get_mut(&n) {
+        None => Ok(()),
+        Some(node) => edits::set_attribute(node, name, v),
+    }
+}
+
+/// An element has no attribute of this name.
+pub fn drop_attribute(nodes: &mut BTreeMap<u64, Record>, n: u64, name: &Txt)
+    ensures rooms { (q : ℕ) → rooms_of nodes.new q ≡ room_changed n (shape_with_attributes (attribute_dropped name.now)) (rooms_of nodes.old) q }
+    ensures same { SameNodes nodes.old nodes.new }
+{
+    match nodes.get_mut(&n) {
+        None => {}
+        Some(node) => edits::drop_attribute(node, name),
+    }
+}
+
+/// An element has one child more.
+pub fn put_kid(
+    nodes: &mut BTreeMap<u64, Record>,
+    parent: u64,
+    i: usize,
+    n: u64,
+) -> Result<(), AllocError>
+    ensures rooms { OnOk result ((q : ℕ) → rooms_of nodes.new q ≡ room_changed parent (shape_with_kids (put_at i n)) (rooms_of nodes.old) q) }
+    ensures same { SameNodes nodes.old nodes.new }
+{
+    match nodes.get_mut(&parent) {
+        None => Ok(()),
+        Some(node) => edits::put_kid(node, i, n),
+    }
+}

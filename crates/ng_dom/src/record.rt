@@ -1,0 +1,58 @@
+//! What is kept of a node.
+
+use ng_base::path::Key;
+use ng_base::txt::Txt;
+use std::collections::BTreeMap;
+
+/// A part of what a text or an attribute is drawn from: plain words, or a hole with the key of its watcher
+/// (guide: Interpolation).
+#[derive(Drop)]
+pub enum Piece {
+    Words(Txt),
+    Hole(Key),
+}
+
+/// An attribute and what its value is drawn from.
+#[derive(Drop)]
+pub struct Drawn {
+    pub name: Txt,
+    pub pieces: Vec<Piece>,
+}
+
+/// What a node is drawn from, which never changes: nothing, a text's pieces, or those of an element's attributes.
+#[derive(Drop)]
+pub enum Home {
+    Plain,
+    Text(Vec<Piece>),
+    Attributes(Vec<Drawn>),
+}
+
+/// A node to be made: an element without attributes and children, a text, a comment, or a block's anchor without groups.
+#[derive(Drop)]
+pub enum NewNode {
+    Element(Txt),
+    Text(Txt),
+    Comment(Txt),
+    Anchor,
+}
+
+/// What a node shows. Children and groups are given by name.
+#[derive(Drop)]
+pub enum Content {
+    Text(Txt),
+    Comment(Txt),
+    Element {
+        name: Txt,
+        attributes: BTreeMap<Txt, Txt>,
+        kids: Vec<u64>,
+    },
+    Anchor(Vec<Vec<u64>>),
+}
+
+/// A node.
+#[derive(Drop)]
+pub struct Record {
+    pub parent: Option<u64>,
+    pub home: Home,
+    pub content: Content,
+}
