@@ -1,5 +1,5 @@
 -- Places in lists.
-use Rattle.std.proofs.Common.{◌≡◌, ◌≤◌, ◌<◌, ◌+◌, ℕ, zero, suc, List, [], ◌∷◌, ◌++◌, length, take, drop, refl, ap, arith}
+use Rattle.std.proofs.Common.{◌≡◌, ◌≤◌, ◌<◌, ◌+◌, ℕ, zero, suc, List, [], ◌∷◌, ◌++◌, length, take, drop, map, refl, ap, sym, ◌∙◌, arith}
 use Rattle.std.specs.List.{insert, remove}
 use Rattle.ng_dom.specs.Lists.{put_at, without_at}
 
@@ -14,4 +14,32 @@ put_at-end (suc i) x [] h = refl
 put_at-end zero x (y ∷ ys) h = absurd (omega arith)
 put_at-end (suc i) x (y ∷ ys) h = ap (λ zs. y ∷ zs) (put_at-end i x ys (omega arith))
 
-pub ruleset puts = (put_at-insert, put_at-end)
+pub put_at-map : {X Y : Type 0} (f : X → Y) (i : ℕ) (x : X) (xs : List X) → map f (put_at i x xs) ≡ put_at i (f x) (map f xs)
+put_at-map f zero x xs = refl
+put_at-map f (suc i) x [] = refl
+put_at-map f (suc i) x (y ∷ ys) = ap (λ zs. f y ∷ zs) (put_at-map f i x ys)
+
+pub without_at-remove : {X : Type 0} (i : ℕ) (xs : List X) → i < length xs → remove xs i ≡ without_at i xs
+without_at-remove i [] h = absurd (omega arith)
+without_at-remove zero (y ∷ ys) h = refl
+without_at-remove (suc i) (y ∷ ys) h = ap (λ zs. y ∷ zs) (without_at-remove i ys (omega arith))
+
+pub without_at-past : {X : Type 0} (i : ℕ) (xs : List X) → length xs ≤ i → without_at i xs ≡ xs
+without_at-past i [] h = refl
+without_at-past zero (y ∷ ys) h = absurd (omega arith)
+without_at-past (suc i) (y ∷ ys) h = ap (λ zs. y ∷ zs) (without_at-past i ys (omega arith))
+
+pub without_at-map : {X Y : Type 0} (f : X → Y) (i : ℕ) (xs : List X) → map f (without_at i xs) ≡ without_at i (map f xs)
+without_at-map f i [] = refl
+without_at-map f zero (y ∷ ys) = refl
+without_at-map f (suc i) (y ∷ ys) = ap (λ zs. f y ∷ zs) (without_at-map f i ys)
+
+pub put_end : {X Y : Type 0} (f : X → Y) (i : ℕ) (x : X) (xs ys : List X) → ys ≡ xs ++ x ∷ [] → length xs ≤ i → map f ys ≡ put_at i (f x) (map f xs)
+put_end f i x xs ys e h = rw (e, put_at-end i x xs h) (put_at-map f i x xs)
+
+pub cut_past : {X Y : Type 0} (f : X → Y) (i : ℕ) (xs : List X) → length xs ≤ i → map f xs ≡ without_at i (map f xs)
+cut_past f i xs h = sym (ap (map f) (without_at-past i xs h)) ∙ without_at-map f i xs
+
+pub ruleset puts = (put_at-insert, put_at-end, put_at-map)
+
+pub ruleset cuts = (without_at-remove, without_at-past, without_at-map)

@@ -1,9 +1,12 @@
 -- The document that a `Dom` keeps.
-use Rattle.std.specs.Prelude.{ℕ, ◌≡◌, List, Option, None}
+use Rattle.std.specs.Prelude.{ℕ, ◌≡◌, ◌+◌, ◌==◌, List, Option, Some, None, IfSome, IsSome, if◌then◌else◌}
 use Rattle.std.specs.BTreeMap.{btree_map_len}
-use Rattle.ng_dom.specs.Nodes.{NamedForest, names_of}
+use Rattle.ng_base.specs.declared.name.NodeId.{NodeId}
+use Rattle.ng_dom.specs.Nodes.{NamedNode, NamedForest, names_of, nothing_named, named_then}
+use Rattle.ng_dom.specs.Editing.{changed_in, with_kids, node_inserted}
 use Rattle.ng_dom.specs.Rooms.{Rooms, ReadsIn}
 use Rattle.ng_dom.specs.Kept.{rooms_of, homes_of}
+use Rattle.ng_dom.specs.Making.{IsElementShape, IsAnchorShape}
 use Rattle.ng_dom.specs.declared.dom.Dom.{Dom}
 use Rattle.ng_dom.specs.declared.record.Home.{Home}
 
@@ -27,6 +30,21 @@ next_name d = d.next
 abbrev pub live_count : Dom → ℕ
 live_count d = btree_map_len d.nodes
 
+-- a node of this name is live, an element, an anchor
+abbrev pub IsLive : Dom → ℕ → Type 0
+IsLive d n = IsSome (rooms d n)
+
+abbrev pub IsElement : Dom → ℕ → Type 0
+IsElement d n = IfSome (rooms d n) (λ x. IsElementShape x.shape) × IsLive d n
+
+abbrev pub IsAnchor : Dom → ℕ → Type 0
+IsAnchor d n = IfSome (rooms d n) (λ x. IsAnchorShape x.shape) × IsLive d n
+
+-- a parent is the top or an element
+abbrev pub IsParent : Dom → Option NodeId → Type 0
+IsParent d None = Unit {0}
+IsParent d (Some p) = IsElement d p.made.0
+
 -- the whole document is this forest
 abbrev pub Shows : Dom → NamedForest → Type 0
 Shows d f = (top d ≡ names_of f) × ReadsIn (rooms d) None f
@@ -35,9 +53,33 @@ Shows d f = (top d ≡ names_of f) × ReadsIn (rooms d) None f
 abbrev pub Becomes : Dom → Dom → (NamedForest → NamedForest) → Type 0
 Becomes d e g = (p : Option ℕ) (f : NamedForest) → ReadsIn (rooms d) p f → ReadsIn (rooms e) p (g f)
 
+-- whatever is read before is read afterwards
+abbrev pub Remains : Dom → Dom → Type 0
+Remains d e = (p : Option ℕ) (f : NamedForest) → ReadsIn (rooms d) p f → ReadsIn (rooms e) p f
+
 -- a change within nodes: no node comes or goes, and each is drawn from what it was
 pub record Stays (d e : Dom) : Type 0 where
   pub homes : (q : ℕ) → homes e q ≡ homes d q
   pub top : top e ≡ top d
   pub next : next_name e ≡ next_name d
   pub live : live_count e ≡ live_count d
+
+-- nothing is changed
+pub record Unchanged (d e : Dom) : Type 0 where
+  pub rooms : (q : ℕ) → rooms e q ≡ rooms d q
+  pub stays : Stays d e
+
+-- one node more is live, drawn from this
+pub record Gains (home : Home) (d e : Dom) : Type 0 where
+  pub homes : (q : ℕ) → homes e q ≡ (if q == next_name d then Some home else homes d q)
+  pub next : next_name e ≡ next_name d + 1
+  pub live : live_count e ≡ live_count d + 1
+
+-- a new node stands as the i-th child of a parent, or at the top, and all else is as it was
+abbrev pub IsPlaced : Option NodeId → ℕ → NamedNode → Dom → Dom → Type 0
+IsPlaced None i x d e = Remains d e × ((f : NamedForest) → Shows d f → Shows e (node_inserted i x f))
+IsPlaced (Some p) i x d e = Becomes d e (changed_in p.made.0 (with_kids (node_inserted i x))) × (top e ≡ top d)
+
+-- a new node is made for an anchor's groups and stands apart, and all else is as it was
+abbrev pub IsApart : ℕ → NamedNode → Dom → Dom → Type 0
+IsApart anchor x d e = Remains d e × ReadsIn (rooms e) (Some anchor) (named_then x nothing_named) × (top e ≡ top d)

@@ -7,7 +7,9 @@ use Rattle.ng_dom.specs.Rooms.{Shape, Room, Rooms, text_shape, comment_shape, el
 use Rattle.ng_dom.specs.declared.fault.DomFault.{DomFault}
 use Rattle.ng_dom.specs.declared.fault.DomFault.TheVariants.{NodeLimit, Memory}
 use Rattle.ng_dom.specs.declared.record.NewNode.{NewNode}
-use Rattle.ng_dom.specs.declared.record.NewNode.TheVariants.{Element, Text, Comment, Anchor}
+use Rattle.ng_dom.specs.declared.record.NewNode.TheVariants.{Element, Text, Comment}
+use Rattle.ng_dom.specs.declared.record.Part.{Part}
+use Rattle.ng_dom.specs.declared.record.Part.TheVariants.{Node, Anchor}
 
 -- the most nodes that may be live
 abbrev pub node_limit : ℕ
@@ -25,12 +27,16 @@ is_want (Memory Refused) = true
 is_want (Memory Worn) = false
 is_want NodeLimit = false
 
--- a new node of a name: an element has no attribute and no child yet, an anchor no group
+-- a new node of a name: an element has no attribute and no child yet
 abbrev pub new_node : ℕ → NewNode → NamedNode
 new_node n (Element e) = named_element n e [] nothing_named
 new_node n (Text t) = named_text n t
 new_node n (Comment t) = named_comment n t
-new_node n Anchor = named_anchor n no_groups
+
+-- a part of a template, made anew: an anchor has no group yet
+abbrev pub new_part : ℕ → Part → NamedNode
+new_part n (Node x) = new_node n x
+new_part n Anchor = named_anchor n no_groups
 
 -- the table has an element of this name
 abbrev pub IsElementShape : Shape → Type 0

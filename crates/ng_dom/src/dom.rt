@@ -1,17 +1,26 @@
 //! The document.
-ghost use Rattle.std.specs.Prelude.{◌≡◌, ◌≤◌, ◌<◌, ◌==◌, ℕ, List, Some, None, false, is_some, OnOk, OnErr, IfOk, IfErr, [], ◌∷◌, IsOk};
+ghost use Rattle.std.specs.Prelude.{◌≡◌, ◌≤◌, ◌<◌, ◌+◌, ◌==◌, ℕ, List, Some, None, false, is_some, OnOk, OnErr, IfOk, IfErr, IfSome, [], ◌∷◌, IsOk, nat_lt, option_map, if◌then◌else◌};
 ghost use Rattle.std.specs.BTreeMap.{get, btree_map_len};
 ghost use Rattle.std.specs.Ordering.{nat_cmp};
+ghost use Rattle.ng_base.specs.Meets.{Meets};
+ghost use Rattle.ng_dom.specs.Lists.{put_at, without_at};
 ghost use Rattle.ng_dom.specs.Editing.{changed_in, with_text, with_attributes, attribute_set, attribute_dropped};
-ghost use Rattle.ng_dom.specs.Rooms.{room_changed, shape_told, shape_with_attributes};
+ghost use Rattle.ng_dom.specs.Rooms.{room_changed, room_added, shape_of, shape_told, shape_with_attributes, shape_with_kids};
+ghost use Rattle.ng_dom.specs.Making.{new_name, new_node, new_part, is_want};
+ghost use Rattle.ng_dom.specs.Kept.{shape_kept};
 
+use crate::edits::{content_of, put};
+use crate::fault::DomFault;
 use crate::nodes::{add, drop_attribute, put_kid, set_attribute, tell};
-use crate::record::{Home, NewNode, Record};
+use crate::record::{Content, Home, NewNode, Part, Record};
 use ng_base::fault::Memory;
 use ng_base::name::{NodeId, Serial};
 use ng_base::txt::Txt;
-use std::alloc::Global;
+use std::alloc::{AllocError, Global};
 use std::collections::BTreeMap;
+
+/// The most nodes that may be live.
+pub const NODE_LIMIT: usize = 200_000;
 
 /// A document.
 #[derive(Drop)]
@@ -26,7 +35,7 @@ pub struct Dom {
 }
 
 impl Dom {
-    ghost use Rattle.ng_dom.specs.Document.{rooms, homes, top, next_name, live_count, Shows, Becomes, Stays};
+    ghost use Rattle.ng_dom.specs.Document.{rooms, homes, top, next_name, live_count, IsElement, IsAnchor, IsLive, IsParent, Shows, Becomes, Stays, Unchanged, Gains, IsPlaced, IsApart};
 
     /// No node.
     pub fn new(alloc: Global) -> Dom
@@ -42,6 +51,140 @@ impl Dom {
         }
     }
 
+    /// The name of the next node, or why there is none.
+    fn new_name(&self) -> Result<NodeId, DomFault>
+        ensures { result ≡ new_name (live_count self.now) (next_name self.now) }
+    {
+        if self.nodes.len() >= NODE_LIMIT {
+            return Err(DomFault::NodeLimit);
+        }
+        if self.next == u64::MAX {
+            return Err(DomFault::Memory(Memory::Worn));
+        }
+        Ok(NodeId {
+            slot: 0,
+            made: Serial(self.next),
+        })
+    }
+
+    /// A node of the next name becomes live, which no other node names yet.
+    #[tactic(auto, using(crate::proofs::Adding::free_name))]
+    fn make(
+        &mut self,
+        parent: Option<u64>,
+        home: Home,
+        content: Content,
+    ) -> Result<NodeId, DomFault>
+        ensures answer { Meets is_want (new_name (live_count self.old) (next_name self.old)) result }
+        ensures rooms { OnOk result ((q : ℕ) → rooms self.new q ≡ room_added (next_name self.old) (record { parent = parent; shape = shape_kept content }) (rooms self.old) q) }
+        ensures gains { OnOk result (Gains home self.old self.new) }
+        ensures top { top self.new ≡ top self.old }
+        ensures refused { IfErr result (λ e. is_want e ≡ false → Unchanged self.old self.new) }
+    {
+        let id = self.new_name()?;
+        let name = self.next;
+        let node = Record {
+            parent,
+            home,
+            content,
+        };
+        self.next = name + 1;
+        add(&mut self.nodes, name, node)?;
+        Ok(id)
+    }
+
+    /// A new node is the i-th at the top.
+    #[tactic(auto, using(crate::proofs::Adding::free_name))]
+    fn put_top(
+        &mut self,
+        i: usize,
+        home: Home,
+        content: Content,
+    ) -> Result<NodeId, DomFault>
+        ensures answer { Meets is_want (new_name (live_count self.old) (next_name self.old)) result }
+        ensures placed { OnOk result (((q : ℕ) → rooms self.new q ≡ room_added (next_name self.old) (record { parent = None; shape = shape_kept content }) (rooms self.old) q) × (top self.new ≡ put_at i (next_name self.old) (top self.old))) }
+        ensures gains { OnOk result (Gains home self.old self.new) }
+        ensures refused { IfErr result (λ e. is_want e ≡ false → Unchanged self.old self.new) }
+    {
+        let id = self.make(None, home, content)?;
+        put(&mut self.top, i, id.made.0)?;
+        Ok(id)
+    }
+
+    /// A new node is the i-th child of an element.
+    fn put_under(
+        &mut self,
+        parent: u64,
+        i: usize,
+        home: Home,
+        content: Content,
+    ) -> Result<NodeId, DomFault>
+        ensures answer { Meets is_want (new_name (live_count self.old) (next_name self.old)) result }
+        ensures rooms { OnOk result ((q : ℕ) → rooms self.new q ≡ room_changed parent (shape_with_kids (put_at i (next_name self.old))) (room_added (next_name self.old) (record { parent = Some parent; shape = shape_kept content }) (rooms self.old)) q) }
+        ensures gains { OnOk result (Gains home self.old self.new) }
+        ensures top { top self.new ≡ top self.old }
+        ensures refused { IfErr result (λ e. is_want e ≡ false → Unchanged self.old self.new) }
+    {
+        let id = self.make(Some(parent), home, content)?;
+        put_kid(&mut self.nodes, parent, i, id.made.0)?;
+        Ok(id)
+    }
+
+    /// A new part of a template, drawn from its home, is the i-th at the top or of an element.
+    pub fn add_part(
+        &mut self,
+        parent: Option<NodeId>,
+        at: u32,
+        part: Part,
+        home: Home,
+    ) -> Result<NodeId, DomFault>
+        requires { IsParent self.old parent }
+        ensures answer { Meets is_want (new_name (live_count self.old) (next_name self.old)) result }
+        ensures placed { OnOk result (IsPlaced parent at (new_part (next_name self.old) part) self.old self.new) }
+        ensures gains { OnOk result (Gains home self.old self.new) }
+        ensures refused { IfErr result (λ e. is_want e ≡ false → Unchanged self.old self.new) }
+    {
+        let content = content_of(self.alloc, part);
+        match parent {
+            None => self.put_top(at as usize, home, content),
+            Some(p) => self.put_under(p.made.0, at as usize, home, content),
+        }
+    }
+
+    /// A new node is the i-th at the top or of an element.
+    pub fn insert(
+        &mut self,
+        parent: Option<NodeId>,
+        at: u32,
+        n: NewNode,
+    ) -> Result<NodeId, DomFault>
+        requires { IsParent self.old parent }
+        ensures answer { Meets is_want (new_name (live_count self.old) (next_name self.old)) result }
+        ensures placed { OnOk result (IsPlaced parent at (new_node (next_name self.old) n) self.old self.new) }
+        ensures gains { OnOk result (Gains Home.Plain self.old self.new) }
+        ensures refused { IfErr result (λ e. is_want e ≡ false → Unchanged self.old self.new) }
+    {
+        self.add_part(parent, at, Part::Node(n), Home::Plain)
+    }
+
+    /// A new part is made for a group of an anchor, and stands apart until the group is inserted.
+    #[tactic(auto, using(crate::proofs::Adding::free_name))]
+    pub fn make_part(
+        &mut self,
+        anchor: NodeId,
+        part: Part,
+        home: Home,
+    ) -> Result<NodeId, DomFault>
+        requires { IsLive self.old anchor.made.0 }
+        ensures answer { Meets is_want (new_name (live_count self.old) (next_name self.old)) result }
+        ensures apart { OnOk result (IsApart anchor.made.0 (new_part (next_name self.old) part) self.old self.new) }
+        ensures gains { OnOk result (Gains home self.old self.new) }
+        ensures refused { IfErr result (λ e. is_want e ≡ false → Unchanged self.old self.new) }
+    {
+        let content = content_of(self.alloc, part);
+        self.make(Some(anchor.made.0), home, content)
+    }
+
     /// A text or comment shows another text.
     pub fn set_text(&mut self, n: NodeId, t: Txt) -> Result<(), Memory>
         ensures rooms { (q : ℕ) → rooms self.new q ≡ room_changed n.made.0 (shape_told t) (rooms self.old) q }
@@ -50,6 +193,28 @@ impl Dom {
         ensures ok { IsOk result }
     {
         tell(&mut self.nodes, n.made.0, t);
+        Ok(())
+    }
+
+    /// An element has an attribute of this value, at its place in the order of the names.
+    pub fn set_attr(&mut self, n: NodeId, name: &Txt, v: Txt) -> Result<(), Memory>
+        ensures rooms { OnOk result ((q : ℕ) → rooms self.new q ≡ room_changed n.made.0 (shape_with_attributes (attribute_set name.now v)) (rooms self.old) q) }
+        ensures reads { OnOk result (Becomes self.old self.new (changed_in n.made.0 (with_attributes (attribute_set name.now v)))) }
+        ensures stays { Stays self.old self.new }
+        ensures refused { IfErr result (λ e. e ≡ Memory.Refused) }
+    {
+        set_attribute(&mut self.nodes, n.made.0, name, v)?;
+        Ok(())
+    }
+
+    /// An element has no attribute of this name.
+    pub fn drop_attr(&mut self, n: NodeId, name: &Txt) -> Result<(), Memory>
+        ensures rooms { (q : ℕ) → rooms self.new q ≡ room_changed n.made.0 (shape_with_attributes (attribute_dropped name.now)) (rooms self.old) q }
+        ensures reads { Becomes self.old self.new (changed_in n.made.0 (with_attributes (attribute_dropped name.now))) }
+        ensures stays { Stays self.old self.new }
+        ensures ok { IsOk result }
+    {
+        drop_attribute(&mut self.nodes, n.made.0, name);
         Ok(())
     }
 }

@@ -1,18 +1,18 @@
 //! Changes of one node.
-ghost use Rattle.std.specs.Prelude.{ℕ, ◌≡◌, ◌≤◌, [], OnOk, OnErr, IfOk};
-ghost use Rattle.ng_dom.specs.Lists.{put_at, without_at};
+ghost use Rattle.std.specs.Prelude.{ℕ, map, ◌≡◌, ◌≤◌, [], OnOk, OnErr, IfOk};
+ghost use Rattle.ng_dom.specs.Lists.{put_at, without_at, list_at, lists_at};
 ghost use Rattle.ng_dom.specs.Editing.{attribute_set, attribute_dropped};
 ghost use Rattle.ng_dom.specs.Rooms.{reshaped, shape_of, shape_told, shape_with_attributes, shape_with_kids, shape_with_groups};
-ghost use Rattle.ng_dom.specs.Making.{new_node};
+ghost use Rattle.ng_dom.specs.Making.{new_node, new_part};
 ghost use Rattle.ng_dom.specs.Kept.{room_kept, shape_kept};
 
-use crate::record::{Content, NewNode, Record};
+use crate::record::{Content, NewNode, Part, Record};
 use ng_base::txt::Txt;
 use std::alloc::{AllocError, Global};
 use std::collections::BTreeMap;
 
 /// What a new node shows.
-pub fn content_of(alloc: Global, n: NewNode) -> Content
+fn node_content(alloc: Global, n: NewNode) -> Content
     ensures { (m : ℕ) → shape_kept result ≡ shape_of (new_node m n) }
 {
     match n {
@@ -23,7 +23,16 @@ pub fn content_of(alloc: Global, n: NewNode) -> Content
         },
         NewNode::Text(t) => Content::Text(t),
         NewNode::Comment(t) => Content::Comment(t),
-        NewNode::Anchor => Content::Anchor(Vec::new(alloc)),
+    }
+}
+
+/// What a new part shows.
+pub fn content_of(alloc: Global, part: Part) -> Content
+    ensures { (m : ℕ) → shape_kept result ≡ shape_of (new_part m part) }
+{
+    match part {
+        Part::Node(n) => node_content(alloc, n),
+        Part::Anchor => Content::Anchor(Vec::new(alloc)),
     }
 }
 
@@ -39,6 +48,55 @@ pub fn put(names: &mut Vec<u64>, i: usize, name: u64) -> Result<(), AllocError>
         names.push(name)?;
     }
     Ok(())
+}
+
+/// A group is put before the i-th of some, or at the end where there are fewer.
+#[tactic(auto, using(crate::proofs::Places::puts))]
+fn put_list(groups: &mut Vec<Vec<u64>>, i: usize, group: Vec<u64>) -> Result<(), AllocError>
+    ensures { OnOk result (map (λ g. g.items) groups.new.items ≡ put_at i group.items (map (λ g. g.items) groups.old.items)) }
+{
+    if i < groups.len() {
+        groups.insert(i, group)?;
+    } else {
+        groups.push(group)?;
+    }
+    Ok(())
+}
+
+/// The i-th group is taken out.
+#[tactic(auto, using(crate::proofs::Places::cuts))]
+fn cut_list(groups: &mut Vec<Vec<u64>>, i: usize)
+    ensures { map (λ g. g.items) groups.new.items ≡ without_at i (map (λ g. g.items) groups.old.items) }
+{
+    if i < groups.len() {
+        let _ = groups.remove(i);
+    }
+}
+
+/// An anchor has one group more.
+pub fn put_group(node: &mut Record, i: usize, group: Vec<u64>) -> Result<(), AllocError>
+    ensures room { OnOk result (room_kept node.new ≡ reshaped (shape_with_groups (put_at i group.items)) (room_kept node.old)) }
+    ensures home { node.new.home ≡ node.old.home }
+{
+    match &mut node.content {
+        Content::Anchor(groups) => put_list(groups, i, group),
+        Content::Text(_) => Ok(()),
+        Content::Comment(_) => Ok(()),
+        Content::Element { .. } => Ok(()),
+    }
+}
+
+/// An anchor has one group less.
+pub fn cut_group(node: &mut Record, i: usize)
+    ensures room { room_kept node.new ≡ reshaped (shape_with_groups (without_at i)) (room_kept node.old) }
+    ensures home { node.new.home ≡ node.old.home }
+{
+    match &mut node.content {
+        Content::Anchor(groups) => cut_list(groups, i),
+        Content::Text(_) => {}
+        Content::Comment(_) => {}
+        Content::Element { .. } => {}
+    }
 }
 
 /// An element has one child more.

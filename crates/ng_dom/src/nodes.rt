@@ -2,9 +2,9 @@
 ghost use Rattle.std.specs.Prelude.{◌≡◌, ◌+◌, ℕ, ◌==◌, is_some, Some, None, OnOk, OnErr, IfOk, if◌then◌else◌};
 ghost use Rattle.std.specs.BTreeMap.{get, btree_map_len};
 ghost use Rattle.std.specs.Ordering.{nat_cmp};
-ghost use Rattle.ng_dom.specs.Lists.{put_at};
+ghost use Rattle.ng_dom.specs.Lists.{put_at, without_at};
 ghost use Rattle.ng_dom.specs.Editing.{attribute_set, attribute_dropped};
-ghost use Rattle.ng_dom.specs.Rooms.{room_changed, room_added, shape_told, shape_with_attributes, shape_with_kids};
+ghost use Rattle.ng_dom.specs.Rooms.{room_changed, room_added, shape_told, shape_with_attributes, shape_with_kids, shape_with_groups};
 ghost use Rattle.ng_dom.specs.Kept.{rooms_of, homes_of, room_kept, SameNodes};
 
 use crate::edits;
@@ -76,5 +76,32 @@ pub fn put_kid(
     match nodes.get_mut(&parent) {
         None => Ok(()),
         Some(node) => edits::put_kid(node, i, n),
+    }
+}
+
+/// An anchor has one group more.
+pub fn put_group(
+    nodes: &mut BTreeMap<u64, Record>,
+    anchor: u64,
+    i: usize,
+    group: Vec<u64>,
+) -> Result<(), AllocError>
+    ensures rooms { OnOk result ((q : ℕ) → rooms_of nodes.new q ≡ room_changed anchor (shape_with_groups (put_at i group.items)) (rooms_of nodes.old) q) }
+    ensures same { SameNodes nodes.old nodes.new }
+{
+    match nodes.get_mut(&anchor) {
+        None => Ok(()),
+        Some(node) => edits::put_group(node, i, group),
+    }
+}
+
+/// An anchor has one group less.
+pub fn cut_group(nodes: &mut BTreeMap<u64, Record>, anchor: u64, i: usize)
+    ensures rooms { (q : ℕ) → rooms_of nodes.new q ≡ room_changed anchor (shape_with_groups (without_at i)) (rooms_of nodes.old) q }
+    ensures same { SameNodes nodes.old nodes.new }
+{
+    match nodes.get_mut(&anchor) {
+        None => {}
+        Some(node) => edits::cut_group(node, i),
     }
 }

@@ -27,12 +27,18 @@ pub enum Home {
     Attributes(Vec<Drawn>),
 }
 
-/// A node to be made: an element without attributes and children, a text, a comment, or a block's anchor without groups.
+/// A node to be made: an element without attributes and children, a text or a comment.
 #[derive(Drop)]
 pub enum NewNode {
     Element(Txt),
     Text(Txt),
     Comment(Txt),
+}
+
+/// A part of a template to be made: a node, or the anchor of a block, without groups.
+#[derive(Drop)]
+pub enum Part {
+    Node(NewNode),
     Anchor,
 }
 

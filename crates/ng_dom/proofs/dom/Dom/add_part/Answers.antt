@@ -1,0 +1,27 @@
+use Rattle.std.proofs.Common.{rules, ap, ◌∙◌, sym}
+use Rattle.std.proofs.lemmas.Result.{on_ok_weaker}
+use Rattle.ng_dom.specs.Document.{rooms, next_name}
+use Rattle.ng_dom.proofs.Adding.{remains, part_reads, part_at_top, names_placed, free_room, standing_below}
+use Rattle.ng_dom.proofs.dom.Dom.add_part.Goals as goal
+
+pub returns-in-None-clause-placed : goal.returns-in-None-clause-placed
+returns-in-None-clause-placed c =
+    let d = c.args.self.now in
+    let k = next_name d in
+    let free = free_room d.nodes d.next d.fresh in
+    rw c.in-None.is
+    (on_ok_weaker c.put_top.result
+    (λ told. (λ p f h. remains (rooms d) _ k _ free told.0 p f h,
+    λ f h. (names_placed c.args.at k c.args.part _ _ f h.0 told.1, part_at_top (rooms d) _ c.args.at k c.args.part _ (c.content_of-content.ensures k) free told.0 f h.1)))
+    c.put_top.ensures.placed)
+
+pub returns-in-Some-clause-placed : goal.returns-in-Some-clause-placed
+returns-in-Some-clause-placed c =
+    let d = c.args.self.now in
+    let k = next_name d in
+    let free = free_room d.nodes d.next d.fresh in
+    let above = standing_below d.nodes d.next c.in-Some.p.made.0 d.fresh (search rules) in
+    rw c.in-Some.is
+    (on_ok_weaker c.put_under.result
+    (λ told. (λ o f h. part_reads (rooms d) _ c.in-Some.p.made.0 c.args.at k c.args.part _ (c.content_of-content.ensures k) free above told o f h, c.put_under.ensures.top))
+    c.put_under.ensures.rooms)
