@@ -2,3 +2,5 @@ pub mod Places
 pub mod Reading
 pub mod Changes
 pub mod Adding
+pub mod Groups
+pub mod Focus

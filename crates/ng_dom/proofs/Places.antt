@@ -1,7 +1,7 @@
 -- Places in lists.
-use Rattle.std.proofs.Common.{◌≡◌, ◌≤◌, ◌<◌, ◌+◌, ℕ, zero, suc, List, [], ◌∷◌, ◌++◌, length, take, drop, map, refl, ap, sym, ◌∙◌, arith}
+use Rattle.std.proofs.Common.{◌≡◌, ◌≤◌, ◌<◌, ◌+◌, ℕ, zero, suc, List, [], ◌∷◌, ◌++◌, length, take, drop, map, get_or, refl, ap, sym, ◌∙◌, arith}
 use Rattle.std.specs.List.{insert, remove}
-use Rattle.ng_dom.specs.Lists.{put_at, without_at}
+use Rattle.ng_dom.specs.Lists.{put_at, without_at, list_at}
 
 pub put_at-insert : {X : Type 0} (i : ℕ) (x : X) (xs : List X) → i < length xs → insert xs i x ≡ put_at i x xs
 put_at-insert i x [] h = absurd (omega arith)
@@ -43,3 +43,13 @@ cut_past f i xs h = sym (ap (map f) (without_at-past i xs h)) ∙ without_at-map
 pub ruleset puts = (put_at-insert, put_at-end, put_at-map)
 
 pub ruleset cuts = (without_at-remove, without_at-past, without_at-map)
+
+pub list-past : {X Y : Type 0} (f : X → List Y) (i : ℕ) (ys : List X) → length ys ≤ i → [] ≡ list_at i (map f ys)
+list-past f i [] h = refl
+list-past f zero (y ∷ ys) h = absurd (omega arith)
+list-past f (suc i) (y ∷ ys) h = list-past f i ys (omega arith)
+
+pub list-or : {X Y : Type 0} (f : X → List Y) (i : ℕ) (ys : List X) (d : X) → i < length ys → f (get_or ys i d) ≡ list_at i (map f ys)
+list-or f i [] d h = absurd (omega arith)
+list-or f zero (x ∷ ys) d h = refl
+list-or f (suc i) (x ∷ ys) d h = list-or f i ys d (omega arith)

@@ -6,6 +6,7 @@ use Rattle.ng_dom.specs.Nodes.{NamedNode, NamedForest, names_of, nothing_named, 
 use Rattle.ng_dom.specs.Editing.{changed_in, with_kids, node_inserted}
 use Rattle.ng_dom.specs.Rooms.{Rooms, ReadsIn}
 use Rattle.ng_dom.specs.Kept.{rooms_of, homes_of}
+use Rattle.ng_dom.specs.Asked.{kids_in}
 use Rattle.ng_dom.specs.Making.{IsElementShape, IsAnchorShape}
 use Rattle.ng_dom.specs.declared.dom.Dom.{Dom}
 use Rattle.ng_dom.specs.declared.record.Home.{Home}
@@ -83,3 +84,8 @@ IsPlaced (Some p) i x d e = Becomes d e (changed_in p.made.0 (with_kids (node_in
 -- a new node is made for an anchor's groups and stands apart, and all else is as it was
 abbrev pub IsApart : ℕ → NamedNode → Dom → Dom → Type 0
 IsApart anchor x d e = Remains d e × ReadsIn (rooms e) (Some anchor) (named_then x nothing_named) × (top e ≡ top d)
+
+-- the children of a parent by name
+abbrev pub children : Dom → Option NodeId → List ℕ
+children d None = top d
+children d (Some p) = kids_in (rooms d p.made.0)

@@ -4,4 +4,7 @@ pub mod Editing
 pub mod Rooms
 pub mod Kept
 pub mod Making
+pub mod Asked
 pub mod Document
+pub mod Drawing
+pub mod Laws

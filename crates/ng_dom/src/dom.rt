@@ -1,19 +1,24 @@
 //! The document.
-ghost use Rattle.std.specs.Prelude.{◌≡◌, ◌≤◌, ◌<◌, ◌+◌, ◌==◌, ℕ, List, Some, None, false, is_some, OnOk, OnErr, IfOk, IfErr, IfSome, [], ◌∷◌, IsOk, nat_lt, option_map, if◌then◌else◌};
+ghost use Rattle.std.specs.Prelude.{◌≡◌, ◌≤◌, ◌<◌, ◌+◌, ◌==◌, ◌&&◌, ℕ, List, Some, None, false, is_some, OnOk, OnErr, IfOk, IfErr, IfSome, [], ◌∷◌, IsOk, nat_lt, option_map, if◌then◌else◌};
 ghost use Rattle.std.specs.BTreeMap.{get, btree_map_len};
 ghost use Rattle.std.specs.Ordering.{nat_cmp};
 ghost use Rattle.ng_base.specs.Meets.{Meets};
-ghost use Rattle.ng_dom.specs.Lists.{put_at, without_at};
-ghost use Rattle.ng_dom.specs.Editing.{changed_in, with_text, with_attributes, attribute_set, attribute_dropped};
-ghost use Rattle.ng_dom.specs.Rooms.{room_changed, room_added, shape_of, shape_told, shape_with_attributes, shape_with_kids};
+ghost use Rattle.ng_dom.specs.Lists.{put_at, without_at, lists_at};
+ghost use Rattle.ng_dom.specs.Editing.{changed_in, with_text, with_attributes, attribute_set, attribute_dropped, with_groups, group_inserted, group_removed, picked};
+ghost use Rattle.ng_dom.specs.Nodes.{NamedForest, names_of};
+ghost use Rattle.ng_dom.specs.Asked.{is_element_room, attribute_in, kids_in, counted};
+ghost use Rattle.ng_dom.specs.Rooms.{room_changed, room_added, shape_of, shape_told, shape_with_attributes, shape_with_kids, shape_with_groups, ReadsIn};
 ghost use Rattle.ng_dom.specs.Making.{new_name, new_node, new_part, is_want};
 ghost use Rattle.ng_dom.specs.Kept.{shape_kept};
 
-use crate::edits::{content_of, put};
+use crate::edits::{attribute, content_of, count, is_element, kid_count, put};
 use crate::fault::DomFault;
-use crate::nodes::{add, drop_attribute, put_kid, set_attribute, tell};
-use crate::record::{Content, Home, NewNode, Part, Record};
+use crate::nodes::{
+    add, cut_group, drop_attribute, pick_groups, put_group, put_kid, set_attribute, tell,
+};
+use crate::record::{Content, Group, Home, NewNode, Part, Record};
 use ng_base::fault::Memory;
+use ng_base::lists::Numbers;
 use ng_base::name::{NodeId, Serial};
 use ng_base::txt::Txt;
 use std::alloc::{AllocError, Global};
@@ -35,7 +40,7 @@ pub struct Dom {
 }
 
 impl Dom {
-    ghost use Rattle.ng_dom.specs.Document.{rooms, homes, top, next_name, live_count, IsElement, IsAnchor, IsLive, IsParent, Shows, Becomes, Stays, Unchanged, Gains, IsPlaced, IsApart};
+    ghost use Rattle.ng_dom.specs.Document.{rooms, homes, top, next_name, live_count, IsElement, IsAnchor, IsLive, IsParent, Shows, Becomes, Stays, Unchanged, Gains, IsPlaced, IsApart, children};
 
     /// No node.
     pub fn new(alloc: Global) -> Dom
@@ -216,5 +221,83 @@ impl Dom {
     {
         drop_attribute(&mut self.nodes, n.made.0, name);
         Ok(())
+    }
+
+    /// What was built apart for an anchor becomes its group before the i-th. It costs what the anchor's list of groups does,
+    /// however large the document is.
+    pub fn insert_group(&mut self, anchor: NodeId, at: u32, group: Group) -> Result<(), Memory>
+        ensures rooms { OnOk result ((q : ℕ) → rooms self.new q ≡ room_changed anchor.made.0 (shape_with_groups (put_at at group.nodes.items)) (rooms self.old) q) }
+        ensures reads { OnOk result ((piece : NamedForest) → names_of piece ≡ group.nodes.items → ReadsIn (rooms self.old) (Some anchor.made.0) piece → Becomes self.old self.new (changed_in anchor.made.0 (with_groups (group_inserted at piece)))) }
+        ensures stays { Stays self.old self.new }
+        ensures refused { IfErr result (λ e. e ≡ Memory.Refused) }
+    {
+        put_group(&mut self.nodes, anchor.made.0, at as usize, group.nodes)?;
+        Ok(())
+    }
+
+    /// The i-th group of an anchor is taken out, and its nodes stand apart.
+    pub fn cut_group(&mut self, anchor: NodeId, at: u32)
+        ensures rooms { (q : ℕ) → rooms self.new q ≡ room_changed anchor.made.0 (shape_with_groups (without_at at)) (rooms self.old) q }
+        ensures reads { Becomes self.old self.new (changed_in anchor.made.0 (with_groups (group_removed at))) }
+        ensures stays { Stays self.old self.new }
+    {
+        cut_group(&mut self.nodes, anchor.made.0, at as usize);
+    }
+
+    /// An anchor has the groups of these places, in this order.
+    pub fn pick_groups(&mut self, anchor: NodeId, order: &Numbers) -> Result<(), Memory>
+        ensures rooms { OnOk result ((q : ℕ) → rooms self.new q ≡ room_changed anchor.made.0 (shape_with_groups (lists_at order.now)) (rooms self.old) q) }
+        ensures reads { OnOk result (Becomes self.old self.new (changed_in anchor.made.0 (with_groups (picked order.now)))) }
+        ensures stays { Stays self.old self.new }
+        ensures refused { IfErr result (λ e. e ≡ Memory.Refused) }
+    {
+        pick_groups(&mut self.nodes, self.alloc, anchor.made.0, order.as_slice())?;
+        Ok(())
+    }
+
+    /// Whether a node of this name is live.
+    pub fn has(&self, n: NodeId) -> bool
+        ensures { result ≡ (n.slot == 0 && is_some (rooms self.now n.made.0)) }
+    {
+        n.slot == 0 && self.nodes.contains_key(&n.made.0)
+    }
+
+    /// Whether a node is an element.
+    pub fn is_element(&self, n: NodeId) -> bool
+        ensures { result ≡ is_element_room (rooms self.now n.made.0) }
+    {
+        match self.nodes.get(&n.made.0) {
+            None => false,
+            Some(node) => is_element(node),
+        }
+    }
+
+    /// The value of an element's attribute.
+    pub fn attr(&self, n: NodeId, name: &Txt) -> Option<&Txt>
+        ensures { option_map (λ t. t.now) result ≡ attribute_in name.now (rooms self.now n.made.0) }
+    {
+        match self.nodes.get(&n.made.0) {
+            None => None,
+            Some(node) => attribute(node, name),
+        }
+    }
+
+    /// How many children an element has, or stand at the top. A block's anchor is one, with all its groups.
+    pub fn kids(&self, parent: Option<NodeId>) -> u32
+        ensures { result ≡ counted (children self.now parent) }
+    {
+        match parent {
+            None => count(&self.top),
+            Some(p) => self.kids_under(p.made.0),
+        }
+    }
+
+    fn kids_under(&self, n: u64) -> u32
+        ensures { result ≡ counted (kids_in (rooms self.now n)) }
+    {
+        match self.nodes.get(&n) {
+            None => 0,
+            Some(node) => kid_count(node),
+        }
     }
 }

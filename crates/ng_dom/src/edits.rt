@@ -1,8 +1,9 @@
 //! Changes of one node.
-ghost use Rattle.std.specs.Prelude.{ℕ, map, ◌≡◌, ◌≤◌, [], OnOk, OnErr, IfOk};
+ghost use Rattle.std.specs.Prelude.{ℕ, map, option_map, ◌≡◌, ◌≤◌, [], OnOk, OnErr, IfOk};
 ghost use Rattle.ng_dom.specs.Lists.{put_at, without_at, list_at, lists_at};
 ghost use Rattle.ng_dom.specs.Editing.{attribute_set, attribute_dropped};
 ghost use Rattle.ng_dom.specs.Rooms.{reshaped, shape_of, shape_told, shape_with_attributes, shape_with_kids, shape_with_groups};
+ghost use Rattle.ng_dom.specs.Asked.{shape_attribute, shape_kids, counted, is_element_shape};
 ghost use Rattle.ng_dom.specs.Making.{new_node, new_part};
 ghost use Rattle.ng_dom.specs.Kept.{room_kept, shape_kept};
 
@@ -96,6 +97,101 @@ pub fn cut_group(node: &mut Record, i: usize)
         Content::Text(_) => {}
         Content::Comment(_) => {}
         Content::Element { .. } => {}
+    }
+}
+
+fn copied(names: &Vec<u64>) -> Result<Vec<u64>, AllocError>
+    ensures { IfOk result (λ copy. copy.items ≡ names.now.items) }
+{
+    let copy = names.clone()?;
+    Ok(copy)
+}
+
+/// The i-th of some groups, copied.
+fn group_at(alloc: Global, groups: &[Vec<u64>], i: usize) -> Result<Vec<u64>, AllocError>
+    ensures { IfOk result (λ g. g.items ≡ list_at i (map (λ g. g.items) groups.now)) }
+{
+    match groups.get(i) {
+        None => Ok(Vec::new(alloc)),
+        Some(group) => copied(group),
+    }
+}
+
+/// The groups of these places, in this order.
+fn groups_at(
+    alloc: Global,
+    groups: &[Vec<u64>],
+    order: &[u32],
+) -> Result<Vec<Vec<u64>>, AllocError>
+    ensures { IfOk result (λ l. map (λ g. g.items) l.items ≡ lists_at order.now (map (λ g. g.items) groups.now)) }
+{
+    let mut picked = Vec::new(alloc);
+    for i in order {
+        picked.push(group_at(alloc, groups, *i as usize)?)?;
+    }
+    Ok(picked)
+}
+
+/// An anchor has the groups of these places, in this order.
+pub fn pick_groups(node: &mut Record, alloc: Global, order: &[u32]) -> Result<(), AllocError>
+    ensures room { OnOk result (room_kept node.new ≡ reshaped (shape_with_groups (lists_at order.now)) (room_kept node.old)) }
+    ensures home { node.new.home ≡ node.old.home }
+{
+    match &mut node.content {
+        Content::Anchor(groups) => {
+            *groups = groups_at(alloc, groups.as_slice(), order)?;
+            Ok(())
+        }
+        Content::Text(_) => Ok(()),
+        Content::Comment(_) => Ok(()),
+        Content::Element { .. } => Ok(()),
+    }
+}
+
+/// The value of an element's attribute.
+pub fn attribute<'a>(node: &'a Record, name: &Txt) -> Option<&'a Txt>
+    ensures { option_map (λ t. t.now) result ≡ shape_attribute name.now (shape_kept node.now.content) }
+{
+    match &node.content {
+        Content::Element { attributes, .. } => attributes.get(name),
+        Content::Text(_) => None,
+        Content::Comment(_) => None,
+        Content::Anchor(_) => None,
+    }
+}
+
+/// How many children an element has, as far as a `u32` counts.
+pub fn kid_count(node: &Record) -> u32
+    ensures { result ≡ counted (shape_kids (shape_kept node.now.content)) }
+{
+    match &node.content {
+        Content::Element { kids, .. } => count(kids),
+        Content::Text(_) => 0,
+        Content::Comment(_) => 0,
+        Content::Anchor(_) => 0,
+    }
+}
+
+/// How many names there are, as far as a `u32` counts.
+pub fn count(names: &Vec<u64>) -> u32
+    ensures { result ≡ counted names.now.items }
+{
+    if names.len() < u32::MAX as usize {
+        names.len() as u32
+    } else {
+        u32::MAX
+    }
+}
+
+/// Whether a node is an element.
+pub fn is_element(node: &Record) -> bool
+    ensures { result ≡ is_element_shape (shape_kept node.now.content) }
+{
+    match &node.content {
+        Content::Element { .. } => true,
+        Content::Text(_) => false,
+        Content::Comment(_) => false,
+        Content::Anchor(_) => false,
     }
 }
 

@@ -4,5 +4,6 @@
 pub mod dom;
 pub mod edits;
 pub mod fault;
+pub mod laws;
 pub mod nodes;
 pub mod record;

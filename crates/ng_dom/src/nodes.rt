@@ -2,7 +2,7 @@
 ghost use Rattle.std.specs.Prelude.{◌≡◌, ◌+◌, ℕ, ◌==◌, is_some, Some, None, OnOk, OnErr, IfOk, if◌then◌else◌};
 ghost use Rattle.std.specs.BTreeMap.{get, btree_map_len};
 ghost use Rattle.std.specs.Ordering.{nat_cmp};
-ghost use Rattle.ng_dom.specs.Lists.{put_at, without_at};
+ghost use Rattle.ng_dom.specs.Lists.{put_at, without_at, lists_at};
 ghost use Rattle.ng_dom.specs.Editing.{attribute_set, attribute_dropped};
 ghost use Rattle.ng_dom.specs.Rooms.{room_changed, room_added, shape_told, shape_with_attributes, shape_with_kids, shape_with_groups};
 ghost use Rattle.ng_dom.specs.Kept.{rooms_of, homes_of, room_kept, SameNodes};
@@ -10,7 +10,7 @@ ghost use Rattle.ng_dom.specs.Kept.{rooms_of, homes_of, room_kept, SameNodes};
 use crate::edits;
 use crate::record::Record;
 use ng_base::txt::Txt;
-use std::alloc::AllocError;
+use std::alloc::{AllocError, Global};
 use std::collections::BTreeMap;
 
 /// A new node under a name that no node has.
@@ -103,5 +103,21 @@ pub fn cut_group(nodes: &mut BTreeMap<u64, Record>, anchor: u64, i: usize)
     match nodes.get_mut(&anchor) {
         None => {}
         Some(node) => edits::cut_group(node, i),
+    }
+}
+
+/// An anchor has the groups of these places, in this order.
+pub fn pick_groups(
+    nodes: &mut BTreeMap<u64, Record>,
+    alloc: Global,
+    anchor: u64,
+    order: &[u32],
+) -> Result<(), AllocError>
+    ensures rooms { OnOk result ((q : ℕ) → rooms_of nodes.new q ≡ room_changed anchor (shape_with_groups (lists_at order.now)) (rooms_of nodes.old) q) }
+    ensures same { SameNodes nodes.old nodes.new }
+{
+    match nodes.get_mut(&anchor) {
+        None => Ok(()),
+        Some(node) => edits::pick_groups(node, alloc, order),
     }
 }

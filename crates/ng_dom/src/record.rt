@@ -1,7 +1,10 @@
 //! What is kept of a node.
+ghost use Rattle.std.specs.Prelude.{◌≡◌, ◌++◌, ◌∷◌, [], OnOk, OnErr};
 
+use ng_base::name::NodeId;
 use ng_base::path::Key;
 use ng_base::txt::Txt;
+use std::alloc::{AllocError, Global};
 use std::collections::BTreeMap;
 
 /// A part of what a text or an attribute is drawn from: plain words, or a hole with the key of its watcher
@@ -61,4 +64,30 @@ pub struct Record {
     pub parent: Option<u64>,
     pub home: Home,
     pub content: Content,
+}
+
+/// The nodes of a group, by name and in order: what a block's body or row brought.
+#[derive(Drop)]
+pub struct Group {
+    pub nodes: Vec<u64>,
+}
+
+impl Group {
+    /// No node.
+    pub fn new(alloc: Global) -> Group
+        ensures { result.nodes.items ≡ [] }
+    {
+        Group {
+            nodes: Vec::new(alloc),
+        }
+    }
+
+    /// Adds a node at the end.
+    pub fn push(&mut self, n: NodeId) -> Result<(), AllocError>
+        ensures ok { OnOk result (self.new.nodes.items ≡ self.old.nodes.items ++ n.made.0 ∷ []) }
+        ensures err { OnErr result (self.new.nodes.items ≡ self.old.nodes.items) }
+    {
+        self.nodes.push(n.made.0)?;
+        Ok(())
+    }
 }

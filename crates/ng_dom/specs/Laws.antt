@@ -1,0 +1,27 @@
+-- The laws of the drawing: an edit of one node is a change at one place of what stands.
+use Rattle.std.specs.Prelude.{ℕ, ◌≡◌, List, Option, Some}
+use Rattle.ng_base.specs.declared.path.Key.{Key}
+use Rattle.ng_dom.specs.Nodes.{NamedForest, NamedGroups, names_of, group_names}
+use Rattle.ng_dom.specs.Editing.{changed_in, with_text, with_groups}
+use Rattle.ng_dom.specs.Rooms.{Rooms, Room, ReadsIn, anchor_shape}
+use Rattle.ng_dom.specs.Drawing.{Stands, Bodies, Place, Source, in_text, of_text, HeldAll, DifferAt, joined, shows, show_bodies, at_block_all}
+use Rattle.ng_dom.specs.declared.record.Piece.{Piece}
+
+-- a table has one forest under these names
+abbrev pub OneReading : Type 0
+OneReading = (r : Rooms) (p : Option ℕ) (f g : NamedForest) → ReadsIn r p f → ReadsIn r p g → names_of f ≡ names_of g → f ≡ g
+
+-- a key has a new text: to write the text of its node is to draw what stands anew
+abbrev pub TextWritten : Type 0
+TextWritten =
+    (site : Key → Option Place) (home : ℕ → Option Source) (k : Key) (n : ℕ) (ps : List Piece) (v w : Key → List ℕ) (ms : Stands)
+    → site k ≡ Some (in_text n) → home n ≡ Some (of_text ps) → HeldAll site home ms → DifferAt k v w
+    → changed_in n (with_text (joined w ps)) (shows v ms) ≡ shows w ms
+
+-- a block has other bodies: to change the groups of its anchor, which have these names, is to draw what stands then
+abbrev pub GroupsChanged : Type 0
+GroupsChanged =
+    (r : Rooms) (p : Option ℕ) (a : ℕ) (x : Room) (gs : List (List ℕ)) (v : Key → List ℕ) (ms : Stands) (f : NamedGroups → NamedGroups) (h : Bodies → Bodies)
+    → ReadsIn r p (shows v ms) → r a ≡ Some x → x.shape ≡ anchor_shape gs
+    → ((bs : Bodies) → group_names (show_bodies v bs) ≡ gs → f (show_bodies v bs) ≡ show_bodies v (h bs))
+    → changed_in a (with_groups f) (shows v ms) ≡ shows v (at_block_all a h ms)

@@ -1,0 +1,12 @@
+//! The laws of the drawing: an edit of one node is a change at one place of what stands.
+ghost use Rattle.ng_dom.specs.Laws.{TextWritten, GroupsChanged};
+
+/// A key has a new text: to write the text of its node is to draw what stands anew.
+pub fn text_written()
+    ensures { TextWritten }
+{}
+
+/// A block has other bodies: to change the groups of its anchor is to draw what stands then.
+pub fn groups_changed()
+    ensures { GroupsChanged }
+{}
