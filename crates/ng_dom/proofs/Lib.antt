@@ -4,3 +4,4 @@ pub mod Changes
 pub mod Adding
 pub mod Groups
 pub mod Focus
+pub mod Telling

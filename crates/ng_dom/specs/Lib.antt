@@ -6,5 +6,6 @@ pub mod Kept
 pub mod Making
 pub mod Asked
 pub mod Document
+pub mod Walks
 pub mod Drawing
 pub mod Laws

@@ -6,4 +6,5 @@ pub mod edits;
 pub mod fault;
 pub mod laws;
 pub mod nodes;
+pub mod printing;
 pub mod record;
