@@ -5,3 +5,4 @@ pub mod Adding
 pub mod Groups
 pub mod Focus
 pub mod Telling
+pub mod WithId

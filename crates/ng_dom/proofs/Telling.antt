@@ -3,6 +3,12 @@ use Rattle.std.proofs.Common.{◌≡◌, ◌<◌, ◌≤◌, ◌+◌, ◌-◌, �
 use Rattle.ng_markup.specs.Forest.{Forest, Attributes, element, comment, no_nodes, node, with_node, Node}
 use Rattle.ng_dom.specs.Nodes.{NamedNode, NamedForest, NamedGroups, named_text, named_comment, named_element, named_anchor, nothing_named, named_then, no_groups, group_then, name_of, names_of, group_names, followed_by, plain_node, plain, plain_groups}
 use Rattle.ng_dom.specs.Rooms.{Room, Rooms, shape_of, HasRoom, ReadsInside, ReadsIn, ReadsGroups}
+use Rattle.std.specs.Prelude.{is_some, Bool, false}
+use Rattle.std.specs.BTreeMap.{BTreeMap, get}
+use Rattle.std.specs.Ordering.{nat_cmp}
+use Rattle.ng_dom.specs.Kept.{rooms_of}
+use Rattle.ng_dom.specs.declared.record.Record.{Record}
+use Rattle.ng_dom.proofs.Adding.{standing_below}
 use Rattle.ng_dom.specs.Walks.{told, told_all, told_groups, told_shape, told_room}
 
 pub followed-none : (f : Forest) → followed_by f no_nodes ≡ f
@@ -49,3 +55,12 @@ module _ (r : Rooms) (top : ℕ) (below : (p : Option ℕ) (x : NamedNode) → H
   told_top k (named_then x f) le h =
       ap (λ (g : Forest). followed_by g (told_all (told k r) (names_of f))) (told_at k None x (omega arith) h.0 (λ j lj. told_inside j x lj h.1))
       ∙ ap (followed_by (plain_node x)) (told_top k f le h.2)
+
+-- the document's plain forest
+pub told_document : (nodes : BTreeMap ℕ Record) (next : ℕ) (names : List ℕ) (old new : Forest) (f : NamedForest) → ((q : ℕ) → next ≤ q → is_some (get nat_cmp nodes q) ≡ false)
+    → old ≡ no_nodes → names ≡ names_of f → ReadsIn (rooms_of nodes) None f
+    → new ≡ followed_by old (told_all (told next (rooms_of nodes)) names) → new ≡ plain f
+told_document nodes next names old new f fresh e was reads is =
+    let below : (p : Option ℕ) (x : NamedNode) → HasRoom (rooms_of nodes) p x → name_of x < next = λ p x has. standing_below nodes next (name_of x) fresh (rw has.1 refl) in
+    is ∙ (ap (λ (g : Forest). followed_by g (told_all (told next (rooms_of nodes)) names)) e
+    ∙ (ap (told_all (told next (rooms_of nodes))) was ∙ told_top (rooms_of nodes) next below next f (omega arith) reads))

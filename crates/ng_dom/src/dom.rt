@@ -1,22 +1,28 @@
 //! The document.
-ghost use Rattle.std.specs.Prelude.{◌≡◌, ◌≤◌, ◌<◌, ◌+◌, ◌==◌, ◌&&◌, ℕ, List, Some, None, false, is_some, OnOk, OnErr, IfOk, IfErr, IfSome, [], ◌∷◌, IsOk, nat_lt, option_map, if◌then◌else◌};
+ghost use Rattle.std.specs.Prelude.{◌≡◌, ◌≤◌, ◌<◌, ◌+◌, ◌==◌, ◌&&◌, ◌++◌, encode_utf8_all, ℕ, List, Some, None, false, is_some, OnOk, OnErr, IfOk, IfErr, IfSome, [], ◌∷◌, IsOk, nat_lt, option_map, if◌then◌else◌};
 ghost use Rattle.std.specs.BTreeMap.{get, btree_map_len};
 ghost use Rattle.std.specs.Ordering.{nat_cmp};
 ghost use Rattle.ng_base.specs.Meets.{Meets};
 ghost use Rattle.ng_dom.specs.Lists.{put_at, without_at, lists_at};
 ghost use Rattle.ng_dom.specs.Editing.{changed_in, with_text, with_attributes, attribute_set, attribute_dropped, with_groups, group_inserted, group_removed, picked};
-ghost use Rattle.ng_dom.specs.Nodes.{NamedForest, names_of};
-ghost use Rattle.ng_dom.specs.Asked.{is_element_room, attribute_in, kids_in, counted};
+ghost use Rattle.ng_dom.specs.Nodes.{NamedForest, names_of, plain};
+ghost use Rattle.ng_markup.specs.Forest.{print};
+ghost use Rattle.ng_html.specs.Seen.{forest_of};
+ghost use Rattle.ng_dom.specs.Asked.{is_element_room, attribute_in, kids_in, counted, first_with_id};
 ghost use Rattle.ng_dom.specs.Rooms.{room_changed, room_added, shape_of, shape_told, shape_with_attributes, shape_with_kids, shape_with_groups, ReadsIn};
 ghost use Rattle.ng_dom.specs.Making.{new_name, new_node, new_part, is_want};
 ghost use Rattle.ng_dom.specs.Kept.{shape_kept};
 
 use crate::edits::{attribute, content_of, count, is_element, kid_count, put};
 use crate::fault::DomFault;
+use crate::finding::find_all;
+use crate::printing::add_all;
 use crate::nodes::{
     add, cut_group, drop_attribute, pick_groups, put_group, put_kid, set_attribute, tell,
 };
 use crate::record::{Content, Group, Home, NewNode, Part, Record};
+use ng_html::forest::Forest;
+use ng_html::writing::write;
 use ng_base::fault::Memory;
 use ng_base::lists::Numbers;
 use ng_base::name::{NodeId, Serial};
@@ -299,5 +305,45 @@ impl Dom {
             None => 0,
             Some(node) => kid_count(node),
         }
+    }
+
+    /// The document without names: an anchor is an empty comment, and its groups stand after it.
+    pub fn forest(&self) -> Result<Forest, Memory>
+        ensures read { (f : NamedForest) → Shows self.now f → IfOk result (λ g. forest_of g ≡ plain f) }
+        ensures refused { IfErr result (λ e. e ≡ Memory.Refused) }
+    {
+        let mut forest = Forest::new(self.alloc);
+        add_all(&self.nodes, self.alloc, self.next, self.top.as_slice(), &mut forest)?;
+        Ok(forest)
+    }
+
+    /// Adds the document's print at the end.
+    pub fn print(&self, into: &mut Vec<u8>) -> Result<(), Memory>
+        ensures printed { (f : NamedForest) → Shows self.now f → OnOk result (into.new.items ≡ into.old.items ++ encode_utf8_all (print (plain f))) }
+        ensures refused { IfErr result (λ e. e ≡ Memory.Refused) }
+    {
+        let forest = self.forest()?;
+        write(&forest, into)
+    }
+
+    /// The first element with an id, in document order.
+    pub fn by_id(&self, id: &Txt) -> Option<NodeId>
+        ensures found { (f : NamedForest) → Shows self.now f → option_map (λ n. n.made.0) result ≡ first_with_id id.now f }
+        ensures slot { IfSome result (λ n. n.slot ≡ 0) }
+    {
+        match self.find(id) {
+            None => None,
+            Some(n) => Some(NodeId {
+                slot: 0,
+                made: Serial(n),
+            }),
+        }
+    }
+
+    /// The name of the first element with an id.
+    fn find(&self, id: &Txt) -> Option<u64>
+        ensures { (f : NamedForest) → Shows self.now f → result ≡ first_with_id id.now f }
+    {
+        find_all(&self.nodes, self.next, self.top.as_slice(), id)
     }
 }

@@ -4,6 +4,7 @@
 pub mod dom;
 pub mod edits;
 pub mod fault;
+pub mod finding;
 pub mod laws;
 pub mod nodes;
 pub mod printing;
