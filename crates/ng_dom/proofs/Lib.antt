@@ -6,3 +6,4 @@ pub mod Groups
 pub mod Focus
 pub mod Telling
 pub mod WithId
+pub mod Moving

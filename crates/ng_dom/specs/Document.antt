@@ -3,7 +3,7 @@ use Rattle.std.specs.Prelude.{ℕ, ◌≡◌, ◌+◌, ◌==◌, List, Option, S
 use Rattle.std.specs.BTreeMap.{btree_map_len}
 use Rattle.ng_base.specs.declared.name.NodeId.{NodeId}
 use Rattle.ng_dom.specs.Nodes.{NamedNode, NamedForest, names_of, nothing_named, named_then}
-use Rattle.ng_dom.specs.Editing.{changed_in, with_kids, node_inserted}
+use Rattle.ng_dom.specs.Editing.{changed_in, with_kids, node_inserted, node_moved}
 use Rattle.ng_dom.specs.Rooms.{Rooms, ReadsIn}
 use Rattle.ng_dom.specs.Kept.{rooms_of, homes_of}
 use Rattle.ng_dom.specs.Asked.{kids_in}
@@ -89,3 +89,18 @@ IsApart anchor x d e = Remains d e × ReadsIn (rooms e) (Some anchor) (named_the
 abbrev pub children : Dom → Option NodeId → List ℕ
 children d None = top d
 children d (Some p) = kids_in (rooms d p.made.0)
+
+abbrev pub IsMovedUnder : Option ℕ → ℕ → ℕ → Dom → Dom → Type 0
+IsMovedUnder None i n d e = ((q : ℕ) → rooms e q ≡ rooms d q) × ((f : NamedForest) → Shows d f → Shows e (node_moved i n f))
+IsMovedUnder (Some p) i n d e = Becomes d e (changed_in p (with_kids (node_moved i n))) × (top e ≡ top d)
+
+-- a node is moved among the children of its parent, or at the top, and all else is as it was; one that isn't live isn't moved
+abbrev pub IsMoved : Option (Option ℕ) → ℕ → ℕ → Dom → Dom → Type 0
+IsMoved None i n d e = Unchanged d e
+IsMoved (Some p) i n d e = IsMovedUnder p i n d e
+
+-- no node comes or goes, and each is drawn from what it was
+pub record Keeps (d e : Dom) : Type 0 where
+  pub homes : (q : ℕ) → homes e q ≡ homes d q
+  pub next : next_name e ≡ next_name d
+  pub live : live_count e ≡ live_count d

@@ -1,5 +1,5 @@
 -- Changes of a document: one function for a node, everywhere where the node's name stands.
-use Rattle.std.specs.Prelude.{ℕ, zero, suc, ◌==◌, List, [], ◌∷◌, ◌++◌, if◌then◌else◌}
+use Rattle.std.specs.Prelude.{ℕ, zero, suc, Option, Some, None, ◌==◌, List, [], ◌∷◌, ◌++◌, if◌then◌else◌}
 use Rattle.std.specs.BTreeMap.{insert_entry, is_at}
 use Rattle.std.specs.Map.{remove_entry}
 use Rattle.ng_base.specs.Order.{txt_cmp}
@@ -87,3 +87,21 @@ group_at (suc i) (group_then g gs) = group_at i gs
 abbrev pub picked : List ℕ → NamedGroups → NamedGroups
 picked [] gs = no_groups
 picked (i ∷ is) gs = group_then (group_at i gs) (picked is gs)
+
+-- the first node of a name
+abbrev pub node_named : ℕ → NamedForest → Option NamedNode
+node_named n nothing_named = None
+node_named n (named_then x f) = if name_of x == n then Some x else node_named n f
+
+-- the first node of a name is taken out
+abbrev pub node_cut : ℕ → NamedForest → NamedForest
+node_cut n nothing_named = nothing_named
+node_cut n (named_then x f) = if name_of x == n then f else named_then x (node_cut n f)
+
+abbrev pub placed_again : ℕ → ℕ → Option NamedNode → NamedForest → NamedForest
+placed_again i n None f = f
+placed_again i n (Some x) f = node_inserted i x (node_cut n f)
+
+-- a node is taken out, and put before the i-th of the others
+abbrev pub node_moved : ℕ → ℕ → NamedForest → NamedForest
+node_moved i n f = placed_again i n (node_named n f) f

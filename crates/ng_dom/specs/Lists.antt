@@ -1,5 +1,5 @@
 -- Places in lists.
-use Rattle.std.specs.Prelude.{ℕ, zero, suc, List, [], ◌∷◌}
+use Rattle.std.specs.Prelude.{ℕ, zero, suc, ◌==◌, Bool, true, false, if◌then◌else◌, List, [], ◌∷◌}
 
 -- put before the i-th, or at the end where there are fewer
 abbrev pub put_at : {X : Type 0} → ℕ → X → List X → List X
@@ -23,3 +23,16 @@ list_at (suc i) (y ∷ ys) = list_at i ys
 abbrev pub lists_at : {X : Type 0} → List ℕ → List (List X) → List (List X)
 lists_at [] ys = []
 lists_at (i ∷ is) ys = list_at i ys ∷ lists_at is ys
+
+abbrev pub among : ℕ → List ℕ → Bool
+among n [] = false
+among n (k ∷ ks) = if k == n then true else among n ks
+
+-- the first of these is taken out
+abbrev pub without_first : ℕ → List ℕ → List ℕ
+without_first n [] = []
+without_first n (k ∷ ks) = if k == n then ks else k ∷ without_first n ks
+
+-- taken out, and put before the i-th of the others
+abbrev pub moved_to : ℕ → ℕ → List ℕ → List ℕ
+moved_to i n ks = if among n ks then put_at i n (without_first n ks) else ks

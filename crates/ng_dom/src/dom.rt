@@ -13,12 +13,12 @@ ghost use Rattle.ng_dom.specs.Rooms.{room_changed, room_added, shape_of, shape_t
 ghost use Rattle.ng_dom.specs.Making.{new_name, new_node, new_part, is_want};
 ghost use Rattle.ng_dom.specs.Kept.{shape_kept};
 
-use crate::edits::{attribute, content_of, count, is_element, kid_count, put};
+use crate::edits::{attribute, content_of, count, is_element, kid_count, move_name, put};
 use crate::fault::DomFault;
 use crate::finding::find_all;
 use crate::printing::add_all;
 use crate::nodes::{
-    add, cut_group, drop_attribute, pick_groups, put_group, put_kid, set_attribute, tell,
+    add, cut_group, drop_attribute, move_kid, parent_of, pick_groups, put_group, put_kid, set_attribute, tell,
 };
 use crate::record::{Content, Group, Home, NewNode, Part, Record};
 use ng_html::forest::Forest;
@@ -46,7 +46,7 @@ pub struct Dom {
 }
 
 impl Dom {
-    ghost use Rattle.ng_dom.specs.Document.{rooms, homes, top, next_name, live_count, IsElement, IsAnchor, IsLive, IsParent, Shows, Becomes, Stays, Unchanged, Gains, IsPlaced, IsApart, children};
+    ghost use Rattle.ng_dom.specs.Document.{rooms, homes, top, next_name, live_count, IsElement, IsAnchor, IsLive, IsParent, Shows, Becomes, Stays, Unchanged, Gains, IsPlaced, IsApart, IsMoved, IsMovedUnder, Keeps, children};
 
     /// No node.
     pub fn new(alloc: Global) -> Dom
@@ -194,6 +194,31 @@ impl Dom {
     {
         let content = content_of(self.alloc, part);
         self.make(Some(anchor.made.0), home, content)
+    }
+
+    /// A node is put before the i-th of the other children of its parent, or at the top.
+    pub fn move_to(&mut self, n: NodeId, at: u32) -> Result<(), Memory>
+        ensures moved { OnOk result (IsMoved (option_map (λ x. x.parent) (rooms self.old n.made.0)) at n.made.0 self.old self.new) }
+        ensures keeps { Keeps self.old self.new }
+        ensures refused { IfErr result (λ e. e ≡ Memory.Refused) }
+    {
+        match parent_of(&self.nodes, n.made.0) {
+            None => Ok(()),
+            Some(parent) => {
+                self.move_under(parent, n.made.0, at as usize)?;
+                Ok(())
+            }
+        }
+    }
+
+    fn move_under(&mut self, parent: Option<u64>, n: u64, i: usize) -> Result<(), AllocError>
+        ensures moved { OnOk result (IsMovedUnder parent i n self.old self.new) }
+        ensures keeps { Keeps self.old self.new }
+    {
+        match parent {
+            None => move_name(&mut self.top, n, i),
+            Some(p) => move_kid(&mut self.nodes, p, n, i),
+        }
     }
 
     /// A text or comment shows another text.

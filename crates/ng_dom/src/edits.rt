@@ -1,6 +1,7 @@
 //! Changes of one node.
-ghost use Rattle.std.specs.Prelude.{ℕ, map, option_map, ◌≡◌, ◌≤◌, [], OnOk, OnErr, IfOk};
-ghost use Rattle.ng_dom.specs.Lists.{put_at, without_at, list_at, lists_at};
+ghost use Rattle.std.specs.Prelude.{ℕ, map, option_map, ◌≡◌, ◌≤◌, ◌<◌, length, true, false, MatchOption, [], OnOk, OnErr, IfOk};
+ghost use Rattle.std.specs.List.{remove};
+ghost use Rattle.ng_dom.specs.Lists.{put_at, without_at, list_at, lists_at, among, without_first, moved_to};
 ghost use Rattle.ng_dom.specs.Editing.{attribute_set, attribute_dropped};
 ghost use Rattle.ng_dom.specs.Rooms.{reshaped, shape_of, shape_told, shape_with_attributes, shape_with_kids, shape_with_groups};
 ghost use Rattle.ng_dom.specs.Asked.{shape_attribute, shape_kids, counted, is_element_shape};
@@ -192,6 +193,55 @@ pub fn is_element(node: &Record) -> bool
         Content::Text(_) => false,
         Content::Comment(_) => false,
         Content::Anchor(_) => false,
+    }
+}
+
+/// The place of the first of a name.
+fn place_of(names: &[u64], n: u64) -> Option<usize>
+    ensures { MatchOption result ((among n names.now ≡ false) × (without_first n names.now ≡ names.now)) (λ i. (i < length names.now) × (among n names.now ≡ true) × (remove names.now i ≡ without_first n names.now)) }
+{
+    for i in 0..names.len() {
+        if names[i] == n {
+            return Some(i);
+        }
+    }
+    None
+}
+
+/// The first of a name is taken out, where there is one.
+fn take_name(names: &mut Vec<u64>, n: u64) -> bool
+    ensures was { result ≡ among n names.old.items }
+    ensures names { names.new.items ≡ without_first n names.old.items }
+{
+    match place_of(names.as_slice(), n) {
+        None => false,
+        Some(i) => {
+            let _ = names.remove(i);
+            true
+        }
+    }
+}
+
+/// The first of a name is put before the i-th of the others.
+pub fn move_name(names: &mut Vec<u64>, n: u64, i: usize) -> Result<(), AllocError>
+    ensures { OnOk result (names.new.items ≡ moved_to i n names.old.items) }
+{
+    if take_name(names, n) {
+        put(names, i, n)?;
+    }
+    Ok(())
+}
+
+/// A child is put before the i-th of the others.
+pub fn move_kid(node: &mut Record, n: u64, i: usize) -> Result<(), AllocError>
+    ensures room { OnOk result (room_kept node.new ≡ reshaped (shape_with_kids (moved_to i n)) (room_kept node.old)) }
+    ensures home { node.new.home ≡ node.old.home }
+{
+    match &mut node.content {
+        Content::Element { kids, .. } => move_name(kids, n, i),
+        Content::Text(_) => Ok(()),
+        Content::Comment(_) => Ok(()),
+        Content::Anchor(_) => Ok(()),
     }
 }
 

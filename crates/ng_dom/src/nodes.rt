@@ -1,8 +1,8 @@
 //! The nodes by name.
-ghost use Rattle.std.specs.Prelude.{◌≡◌, ◌+◌, ℕ, ◌==◌, is_some, Some, None, OnOk, OnErr, IfOk, if◌then◌else◌};
+ghost use Rattle.std.specs.Prelude.{◌≡◌, ◌+◌, option_map, ℕ, ◌==◌, is_some, Some, None, OnOk, OnErr, IfOk, if◌then◌else◌};
 ghost use Rattle.std.specs.BTreeMap.{get, btree_map_len};
 ghost use Rattle.std.specs.Ordering.{nat_cmp};
-ghost use Rattle.ng_dom.specs.Lists.{put_at, without_at, lists_at};
+ghost use Rattle.ng_dom.specs.Lists.{put_at, without_at, lists_at, moved_to};
 ghost use Rattle.ng_dom.specs.Editing.{attribute_set, attribute_dropped};
 ghost use Rattle.ng_dom.specs.Rooms.{room_changed, room_added, shape_told, shape_with_attributes, shape_with_kids, shape_with_groups};
 ghost use Rattle.ng_dom.specs.Kept.{rooms_of, homes_of, room_kept, SameNodes};
@@ -119,5 +119,31 @@ pub fn pick_groups(
     match nodes.get_mut(&anchor) {
         None => Ok(()),
         Some(node) => edits::pick_groups(node, alloc, order),
+    }
+}
+
+/// A child is put before the i-th of the others.
+pub fn move_kid(
+    nodes: &mut BTreeMap<u64, Record>,
+    parent: u64,
+    n: u64,
+    i: usize,
+) -> Result<(), AllocError>
+    ensures rooms { OnOk result ((q : ℕ) → rooms_of nodes.new q ≡ room_changed parent (shape_with_kids (moved_to i n)) (rooms_of nodes.old) q) }
+    ensures same { SameNodes nodes.old nodes.new }
+{
+    match nodes.get_mut(&parent) {
+        None => Ok(()),
+        Some(node) => edits::move_kid(node, n, i),
+    }
+}
+
+/// The parent of a node, where it is live.
+pub fn parent_of(nodes: &BTreeMap<u64, Record>, n: u64) -> Option<Option<u64>>
+    ensures { result ≡ option_map (λ x. x.parent) (rooms_of nodes.now n) }
+{
+    match nodes.get(&n) {
+        None => None,
+        Some(node) => Some(node.parent),
     }
 }
