@@ -10,6 +10,7 @@ use Rattle.ng_dom.specs.Nodes.{NamedNode, NamedForest, NamedGroups, named_text, 
 use Rattle.ng_dom.specs.Editing.{changed_in, node_inserted, with_kids}
 use Rattle.ng_dom.specs.Rooms.{Shape, Room, Rooms, shape_of, room_of, HasRoom, ReadsInside, ReadsIn, ReadsGroups, room_changed, room_added, shape_with_kids}
 use Rattle.ng_dom.specs.Kept.{rooms_of, room_kept}
+use Rattle.ng_dom.specs.Asked.{is_element_room}
 use Rattle.ng_dom.specs.Making.{new_node, new_part}
 use Rattle.ng_dom.specs.declared.record.Record.{Record}
 use Rattle.ng_dom.specs.declared.record.NewNode.{NewNode}
@@ -156,3 +157,11 @@ part_apart r s p k x shape e above rooms =
 -- the names at the top, where a new part is among them
 pub names_placed : (i k : ℕ) (x : Part) (old new : List ℕ) (f : NamedForest) → old ≡ names_of f → new ≡ put_at i k old → new ≡ names_of (node_inserted i (new_part k x) f)
 names_placed i k x old new f was is = is ∙ (ap (put_at i k) was ∙ (ap (λ n. put_at i n (names_of f)) (sym (name_part k x)) ∙ sym (names_inserted i (new_part k x) f)))
+
+element_shape_room : (o : Option Room) → is_element_room o ≡ true → IsSome o
+element_shape_room None e = absurd (cc)
+element_shape_room (Some x) e = refl
+
+-- an element is live
+pub element_lives : (nodes : BTreeMap ℕ Record) (n : ℕ) → is_element_room (rooms_of nodes n) ≡ true → IsSome (rooms_of nodes n)
+element_lives nodes n e = element_shape_room (rooms_of nodes n) e

@@ -20,14 +20,14 @@ is_text (in_text n) = true
 is_text (in_attribute n a) = false
 
 -- pieces at another place have no hole of this key
-other : (site : Key → Option Place) (k : Key) (at p : Place) (v w : Key → List ℕ) → site k ≡ Some at → (p ≡ at → ⊥) → DifferAt k v w → (ps : List Piece) → HolesAt site p ps → joined v ps ≡ joined w ps
+pub other : (site : Key → Option Place) (k : Key) (at p : Place) (v w : Key → List ℕ) → site k ≡ Some at → (p ≡ at → ⊥) → DifferAt k v w → (ps : List Piece) → HolesAt site p ps → joined v ps ≡ joined w ps
 other site k at p v w here apart off [] h = refl
 other site k at p v w here apart off (Words t ∷ ps) h = ap (λ (r : List ℕ). t ++ r) (other site k at p v w here apart off ps h)
 other site k at p v w here apart off (Hole q ∷ ps) h =
     let ne : q ≡ k → ⊥ = λ e. apart (let two : Some p ≡ Some at = sym h.0 ∙ (ap site e ∙ here) in cc) in
     ap (λ (x : List ℕ). x ++ joined v ps) (off q ne) ∙ ap (λ (r : List ℕ). w q ++ r) (other site k at p v w here apart off ps h.1)
 
-others : (site : Key → Option Place) (k : Key) (at : Place) (m : ℕ) (v w : Key → List ℕ) → site k ≡ Some at → ((a : List ℕ) → in_attribute m a ≡ at → ⊥) → DifferAt k v w → (ats : DrawnAttributes) → AttributesAt site m ats → drawn_attributes v ats ≡ drawn_attributes w ats
+pub others : (site : Key → Option Place) (k : Key) (at : Place) (m : ℕ) (v w : Key → List ℕ) → site k ≡ Some at → ((a : List ℕ) → in_attribute m a ≡ at → ⊥) → DifferAt k v w → (ats : DrawnAttributes) → AttributesAt site m ats → drawn_attributes v ats ≡ drawn_attributes w ats
 others site k at m v w here apart off [] h = refl
 others site k at m v w here apart off (a ∷ ats) h =
     ap (λ (t : List ℕ). (a.0, t) ∷ drawn_attributes v ats) (other site k at (in_attribute m a.0) v w here (apart a.0) off a.1 h.0)

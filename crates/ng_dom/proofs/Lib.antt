@@ -7,3 +7,4 @@ pub mod Focus
 pub mod Telling
 pub mod WithId
 pub mod Moving
+pub mod Attributes

@@ -1,13 +1,12 @@
 -- The document that a `Dom` keeps.
-use Rattle.std.specs.Prelude.{ℕ, ◌≡◌, ◌+◌, ◌==◌, List, Option, Some, None, IfSome, IsSome, if◌then◌else◌}
+use Rattle.std.specs.Prelude.{ℕ, ◌≡◌, ◌+◌, ◌==◌, List, Option, Some, None, true, IsSome, if◌then◌else◌}
 use Rattle.std.specs.BTreeMap.{btree_map_len}
 use Rattle.ng_base.specs.declared.name.NodeId.{NodeId}
 use Rattle.ng_dom.specs.Nodes.{NamedNode, NamedForest, names_of, nothing_named, named_then}
 use Rattle.ng_dom.specs.Editing.{changed_in, with_kids, node_inserted, node_moved}
 use Rattle.ng_dom.specs.Rooms.{Rooms, ReadsIn}
 use Rattle.ng_dom.specs.Kept.{rooms_of, homes_of}
-use Rattle.ng_dom.specs.Asked.{kids_in}
-use Rattle.ng_dom.specs.Making.{IsElementShape, IsAnchorShape}
+use Rattle.ng_dom.specs.Asked.{kids_in, is_element_room}
 use Rattle.ng_dom.specs.declared.dom.Dom.{Dom}
 use Rattle.ng_dom.specs.declared.record.Home.{Home}
 
@@ -31,15 +30,12 @@ next_name d = d.next
 abbrev pub live_count : Dom → ℕ
 live_count d = btree_map_len d.nodes
 
--- a node of this name is live, an element, an anchor
+-- a node of this name is live, or an element
 abbrev pub IsLive : Dom → ℕ → Type 0
 IsLive d n = IsSome (rooms d n)
 
 abbrev pub IsElement : Dom → ℕ → Type 0
-IsElement d n = IfSome (rooms d n) (λ x. IsElementShape x.shape) × IsLive d n
-
-abbrev pub IsAnchor : Dom → ℕ → Type 0
-IsAnchor d n = IfSome (rooms d n) (λ x. IsAnchorShape x.shape) × IsLive d n
+IsElement d n = is_element_room (rooms d n) ≡ true
 
 -- a parent is the top or an element
 abbrev pub IsParent : Dom → Option NodeId → Type 0

@@ -1,5 +1,7 @@
 -- The drawing: what stands of a template, with the text of each hole, gives the document.
-use Rattle.std.specs.Prelude.{ℕ, ◌≡◌, ◌==◌, List, [], ◌∷◌, ◌++◌, map, Option, Some, if◌then◌else◌}
+use Rattle.std.specs.Prelude.{ℕ, ◌≡◌, ◌⊎◌, ◌==◌, List, [], ◌∷◌, ◌++◌, map, Option, Some, if◌then◌else◌}
+use Rattle.std.specs.declared.cmp.Ordering.TheVariants.{Greater}
+use Rattle.ng_base.specs.Order.{txt_cmp}
 use Rattle.ng_base.specs.declared.path.Key.{Key}
 use Rattle.ng_markup.specs.Forest.{Attributes}
 use Rattle.ng_dom.specs.Nodes.{NamedNode, NamedForest, NamedGroups, named_text, named_comment, named_element, named_anchor, nothing_named, named_then, no_groups, group_then}
@@ -107,3 +109,13 @@ abbrev mutual
   pub at_block_bodies : ℕ → (Bodies → Bodies) → Bodies → Bodies
   at_block_bodies a h no_bodies = no_bodies
   at_block_bodies a h (body_then ms bs) = body_then (at_block_all a h ms) (at_block_bodies a h bs)
+
+-- none of these has this name
+abbrev pub NoneNamed : List ℕ → DrawnAttributes → Type 0
+NoneNamed a [] = Unit {0}
+NoneNamed a (x ∷ ats) = (x.0 ≡ a → ⊥) × NoneNamed a ats
+
+-- an attribute stands at its place: those before it have lower names, those after it have other names
+abbrev pub AtPlace : List ℕ → List Piece → DrawnAttributes → Type 0
+AtPlace a ps [] = ⊥
+AtPlace a ps (x ∷ ats) = ((x.0 ≡ a) × (x.1 ≡ ps) × NoneNamed a ats) ⊎ ((txt_cmp a x.0 ≡ Greater) × AtPlace a ps ats)

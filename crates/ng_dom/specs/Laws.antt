@@ -2,9 +2,9 @@
 use Rattle.std.specs.Prelude.{ℕ, ◌≡◌, List, Option, Some}
 use Rattle.ng_base.specs.declared.path.Key.{Key}
 use Rattle.ng_dom.specs.Nodes.{NamedForest, NamedGroups, names_of, group_names}
-use Rattle.ng_dom.specs.Editing.{changed_in, with_text, with_groups}
+use Rattle.ng_dom.specs.Editing.{changed_in, with_text, with_groups, with_attributes, attribute_set}
 use Rattle.ng_dom.specs.Rooms.{Rooms, Room, ReadsIn, anchor_shape}
-use Rattle.ng_dom.specs.Drawing.{Stands, Bodies, Place, Source, in_text, of_text, HeldAll, DifferAt, joined, shows, show_bodies, at_block_all}
+use Rattle.ng_dom.specs.Drawing.{Stands, Bodies, Place, Source, DrawnAttributes, AtPlace, in_text, in_attribute, of_text, of_element, HeldAll, DifferAt, joined, shows, show_bodies, at_block_all}
 use Rattle.ng_dom.specs.declared.record.Piece.{Piece}
 
 -- a table has one forest under these names
@@ -25,3 +25,10 @@ GroupsChanged =
     → ReadsIn r p (shows v ms) → r a ≡ Some x → x.shape ≡ anchor_shape gs
     → ((bs : Bodies) → group_names (show_bodies v bs) ≡ gs → f (show_bodies v bs) ≡ show_bodies v (h bs))
     → changed_in a (with_groups f) (shows v ms) ≡ shows v (at_block_all a h ms)
+
+-- an attribute has a new text: to set it is to draw what stands anew
+abbrev pub AttributeWritten : Type 0
+AttributeWritten =
+    (site : Key → Option Place) (home : ℕ → Option Source) (k : Key) (n : ℕ) (a : List ℕ) (ps : List Piece) (ats : DrawnAttributes) (v w : Key → List ℕ) (ms : Stands)
+    → site k ≡ Some (in_attribute n a) → home n ≡ Some (of_element ats) → AtPlace a ps ats → HeldAll site home ms → DifferAt k v w
+    → changed_in n (with_attributes (attribute_set a (joined w ps))) (shows v ms) ≡ shows w ms

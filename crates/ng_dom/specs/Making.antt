@@ -37,16 +37,3 @@ new_node n (Comment t) = named_comment n t
 abbrev pub new_part : ℕ → Part → NamedNode
 new_part n (Node x) = new_node n x
 new_part n Anchor = named_anchor n no_groups
-
--- the table has an element of this name
-abbrev pub IsElementShape : Shape → Type 0
-IsElementShape (text_shape t) = ⊥
-IsElementShape (comment_shape t) = ⊥
-IsElementShape (element_shape e ats ks) = Unit {0}
-IsElementShape (anchor_shape gs) = ⊥
-
-abbrev pub IsAnchorShape : Shape → Type 0
-IsAnchorShape (text_shape t) = ⊥
-IsAnchorShape (comment_shape t) = ⊥
-IsAnchorShape (element_shape e ats ks) = ⊥
-IsAnchorShape (anchor_shape gs) = Unit {0}

@@ -1,4 +1,4 @@
-//! The document.
+//! The document: its calls.
 ghost use Rattle.std.specs.Prelude.{◌≡◌, ◌≤◌, ◌<◌, ◌+◌, ◌==◌, ◌&&◌, ◌++◌, encode_utf8_all, ℕ, List, Some, None, false, is_some, OnOk, OnErr, IfOk, IfErr, IfSome, [], ◌∷◌, IsOk, nat_lt, option_map, if◌then◌else◌};
 ghost use Rattle.std.specs.BTreeMap.{get, btree_map_len};
 ghost use Rattle.std.specs.Ordering.{nat_cmp};
@@ -46,7 +46,7 @@ pub struct Dom {
 }
 
 impl Dom {
-    ghost use Rattle.ng_dom.specs.Document.{rooms, homes, top, next_name, live_count, IsElement, IsAnchor, IsLive, IsParent, Shows, Becomes, Stays, Unchanged, Gains, IsPlaced, IsApart, IsMoved, IsMovedUnder, Keeps, children};
+    ghost use Rattle.ng_dom.specs.Document.{rooms, homes, top, next_name, live_count, IsElement, IsLive, IsParent, Shows, Becomes, Stays, Unchanged, Gains, IsPlaced, IsApart, IsMoved, IsMovedUnder, Keeps, children};
 
     /// No node.
     pub fn new(alloc: Global) -> Dom

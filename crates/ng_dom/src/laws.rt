@@ -1,5 +1,5 @@
 //! The laws of the drawing: an edit of one node is a change at one place of what stands.
-ghost use Rattle.ng_dom.specs.Laws.{TextWritten, GroupsChanged};
+ghost use Rattle.ng_dom.specs.Laws.{AttributeWritten, GroupsChanged, TextWritten};
 
 /// A key has a new text: to write the text of its node is to draw what stands anew.
 pub fn text_written()
@@ -9,4 +9,9 @@ pub fn text_written()
 /// A block has other bodies: to change the groups of its anchor is to draw what stands then.
 pub fn groups_changed()
     ensures { GroupsChanged }
+{}
+
+/// An attribute has a new text: to set it is to draw what stands anew.
+pub fn attribute_written()
+    ensures { AttributeWritten }
 {}

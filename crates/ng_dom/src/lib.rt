@@ -1,4 +1,30 @@
 //! The document of a page, as nodes by name.
+//!
+//! A compiled template is linked to a document that lives on: a watch that fires changes one text or attribute of it, a block
+//! brings and takes nodes (guide: HTML Compiler, "How directives are compiled"). [`dom::Dom`] keeps the nodes in one map by
+//! name, and a name is never given twice. A text or comment has its text, an element its attributes in order of their names and
+//! its children by name, and an anchor, which stands for a block, the groups of nodes that the block brought, one for each body
+//! or row. With each node stands what it is drawn from: plain words, and holes by the key of their watcher.
+//!
+//! What the crates above use:
+//!
+//! - `Nodes` says what a document is: a forest whose nodes have names. `Rooms` says when the map has such a forest: a relation of
+//!   local look-ups, which holds of the document (`Shows`) and of each piece that is built apart. A map has one forest at most
+//!   under given names.
+//! - Each call that changes something says what becomes of every forest that was there: `changed_in n g`, the forest with the node
+//!   n changed by g wherever it stands. `set_text`, `set_attr` and `drop_attr` look one node up; `insert_group`, `cut_group` and
+//!   `pick_groups` change the list of one anchor. None of them depends on the size of the document.
+//! - A piece for a block is built apart: `make_part` makes its first nodes, `add_part` what they hold, and `insert_group` puts it
+//!   under the anchor by one edit. A fault in the middle leaves the document as it was.
+//! - `insert` and the other calls that make a node answer `NodeLimit` exactly where 200,000 nodes are live.
+//! - `forest`, `print` and `by_id` walk the document from the top. No walk goes deeper than names were given, as a child has a later
+//!   name than its parent.
+//!
+//! `Drawing` says what is drawn for what stands of a template, given the text of each hole, and [`laws`] what carries linking and
+//! firing: to write a text is to draw with the new text of its key, to change an anchor's groups is to change the bodies of its
+//! block.
+//!
+//! Not here: what is registered for a node, which values its holes have, and when a block fires.
 #![tactic(auto)]
 
 pub mod dom;
