@@ -8,3 +8,4 @@ pub mod Telling
 pub mod WithId
 pub mod Moving
 pub mod Attributes
+pub mod Once

@@ -1,5 +1,5 @@
 //! The laws of the drawing: an edit of one node is a change at one place of what stands.
-ghost use Rattle.ng_dom.specs.Laws.{AttributeWritten, GroupsChanged, TextWritten};
+ghost use Rattle.ng_dom.specs.Laws.{AttributeWritten, GroupsChanged, OneReading, TextWritten};
 
 /// A key has a new text: to write the text of its node is to draw what stands anew.
 pub fn text_written()
@@ -14,4 +14,9 @@ pub fn groups_changed()
 /// An attribute has a new text: to set it is to draw what stands anew.
 pub fn attribute_written()
     ensures { AttributeWritten }
+{}
+
+/// A table has one forest under given names.
+pub fn one_reading()
+    ensures { OneReading }
 {}
