@@ -1,18 +1,17 @@
 -- An attribute that is set is drawn anew.
-use Rattle.std.proofs.Common.{◌≡◌, ◌⊎◌, inl, inr, ℕ, Bool, true, false, List, [], ◌∷◌, ◌++◌, Option, Some, None, refl, ap, ◌∙◌, sym, cond}
+use Rattle.std.proofs.Common.{◌≡◌, inl, inr, ℕ, Bool, true, false, List, [], ◌∷◌, Option, Some, refl, ap, ◌∙◌, sym, cond}
 use Rattle.std.specs.Prelude.{◌==◌}
-use Rattle.std.specs.Str.{bytes_eq}
 use Rattle.std.specs.BTreeMap.{insert_entry}
-use Rattle.std.specs.Ordering.{is_eq, match_ordering}
+use Rattle.std.specs.Ordering.{is_eq}
 use Rattle.std.specs.declared.cmp.Ordering.{Ordering}
 use Rattle.std.specs.declared.cmp.Ordering.TheVariants.{Less, Equal, Greater}
 use Rattle.std.proofs.lemmas.Slice.Eq.{bytes_eq-Decides}
 use Rattle.std.proofs.lemmas.Bool.{eqb-true, eqb-false}
 use Rattle.ng_base.specs.Order.{txt_cmp, txt_cmp-eq}
 use Rattle.ng_base.specs.declared.path.Key.{Key}
-use Rattle.ng_dom.specs.Nodes.{NamedNode, NamedForest, NamedGroups, named_text, named_comment, named_element, named_anchor, nothing_named, named_then, no_groups, group_then, name_of}
+use Rattle.ng_dom.specs.Nodes.{NamedNode, NamedForest, named_text, named_comment, named_element, named_anchor, named_then, group_then, name_of}
 use Rattle.ng_dom.specs.Editing.{changed, changed_in, changed_groups, at_name, with_attributes, attribute_set}
-use Rattle.ng_dom.specs.Drawing.{Stand, Stands, Bodies, Place, Source, DrawnAttributes, AtPlace, NoneNamed, text_stands, comment_stands, element_stands, block_stands, none_stand, stand_then, no_bodies, body_then, in_text, in_attribute, of_text, of_comment, of_element, joined, drawn_attributes, show, shows, show_bodies, HolesAt, AttributesAt, Held, HeldAll, HeldBodies, DifferAt}
+use Rattle.ng_dom.specs.Drawing.{Stand, Stands, Bodies, Place, Source, DrawnAttributes, AtPlace, NoneNamed, text_stands, comment_stands, element_stands, block_stands, none_stand, stand_then, no_bodies, body_then, in_text, in_attribute, of_element, joined, drawn_attributes, show, shows, show_bodies, AttributesAt, Held, HeldAll, HeldBodies, DifferAt}
 use Rattle.ng_dom.specs.Laws.{AttributeWritten}
 use Rattle.ng_dom.specs.declared.record.Piece.{Piece}
 use Rattle.ng_dom.proofs.Focus.{other, others}

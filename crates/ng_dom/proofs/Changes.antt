@@ -1,9 +1,9 @@
 -- Each change of the document by its room.
-use Rattle.std.proofs.Common.{◌≡◌, ◌<◌, ℕ, Bool, true, false, List, [], ◌∷◌, Option, Some, None, refl, ap, ◌∙◌, sym, cond}
+use Rattle.std.proofs.Common.{◌≡◌, ℕ, List, Option, refl}
 use Rattle.ng_markup.specs.Forest.{Attributes}
-use Rattle.ng_dom.specs.Nodes.{NamedNode, NamedForest, NamedGroups, named_text, named_comment, named_element, named_anchor, name_of}
+use Rattle.ng_dom.specs.Nodes.{NamedNode, NamedForest, named_text, named_comment, named_element, named_anchor, name_of}
 use Rattle.ng_dom.specs.Editing.{changed_in, with_text, with_attributes}
-use Rattle.ng_dom.specs.Rooms.{Shape, Rooms, shape_of, ReadsInside, ReadsIn, room_changed, shape_told, shape_with_attributes}
+use Rattle.ng_dom.specs.Rooms.{Rooms, shape_of, ReadsInside, ReadsIn, room_changed, shape_told, shape_with_attributes}
 use Rattle.ng_dom.proofs.Reading.{reads_changed}
 
 name-text : (t : List ℕ) (x : NamedNode) → name_of (with_text t x) ≡ name_of x

@@ -1,12 +1,12 @@
 -- An edit of one node is a change at one place of what stands.
-use Rattle.std.proofs.Common.{◌≡◌, ℕ, Bool, true, false, List, [], ◌∷◌, ◌++◌, Option, Some, None, refl, ap, ◌∙◌, sym, cond}
+use Rattle.std.proofs.Common.{◌≡◌, ℕ, Bool, true, false, List, [], ◌∷◌, ◌++◌, Option, Some, refl, ap, ◌∙◌, sym, cond}
 use Rattle.std.specs.Prelude.{◌==◌}
 use Rattle.std.proofs.lemmas.Bool.{eqb-true, eqb-false}
 use Rattle.ng_base.specs.declared.path.Key.{Key}
-use Rattle.ng_dom.specs.Nodes.{NamedNode, NamedForest, NamedGroups, named_text, named_comment, named_element, named_anchor, nothing_named, named_then, no_groups, group_then, name_of, names_of, group_names}
+use Rattle.ng_dom.specs.Nodes.{NamedNode, NamedForest, NamedGroups, named_text, named_comment, named_element, named_anchor, named_then, group_then, name_of, names_of, group_names}
 use Rattle.ng_dom.specs.Editing.{changed, changed_in, changed_groups, at_name, with_text, with_groups}
-use Rattle.ng_dom.specs.Rooms.{Shape, Room, Rooms, anchor_shape, element_shape, shape_of, room_of, HasRoom, ReadsInside, ReadsIn, ReadsGroups}
-use Rattle.ng_dom.specs.Drawing.{Stand, Stands, Bodies, Place, Source, DrawnAttributes, text_stands, comment_stands, element_stands, block_stands, none_stand, stand_then, no_bodies, body_then, in_text, in_attribute, of_text, of_comment, of_element, joined, drawn_attributes, show, shows, show_bodies, HolesAt, AttributesAt, Held, HeldAll, HeldBodies, DifferAt, at_block, at_block_all, at_block_bodies}
+use Rattle.ng_dom.specs.Rooms.{Room, Rooms, anchor_shape, room_of, HasRoom, ReadsInside, ReadsIn, ReadsGroups}
+use Rattle.ng_dom.specs.Drawing.{Stand, Stands, Bodies, Place, Source, DrawnAttributes, text_stands, comment_stands, element_stands, block_stands, none_stand, stand_then, no_bodies, body_then, in_text, in_attribute, of_text, of_comment, joined, drawn_attributes, show, shows, show_bodies, HolesAt, AttributesAt, Held, HeldAll, HeldBodies, DifferAt, at_block, at_block_all, at_block_bodies}
 use Rattle.ng_dom.specs.Laws.{TextWritten, GroupsChanged}
 use Rattle.ng_dom.specs.declared.record.Piece.{Piece}
 use Rattle.ng_dom.specs.declared.record.Piece.TheVariants.{Words, Hole}

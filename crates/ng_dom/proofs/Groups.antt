@@ -1,11 +1,10 @@
 -- The groups of an anchor change.
-use Rattle.std.proofs.Common.{◌≡◌, ◌<◌, ◌≤◌, ℕ, zero, suc, Bool, true, false, List, [], ◌∷◌, Option, Some, None, refl, ap, ◌∙◌, sym, cond, arith}
-use Rattle.std.specs.Prelude.{◌==◌}
+use Rattle.std.proofs.Common.{◌≡◌, ◌≤◌, ℕ, zero, suc, List, [], ◌∷◌, Option, Some, refl, ap, ◌∙◌, sym, arith}
 use Rattle.std.proofs.lemmas.Bool.{ne_eqb}
 use Rattle.ng_dom.specs.Lists.{put_at, without_at, list_at, lists_at}
 use Rattle.ng_dom.specs.Nodes.{NamedNode, NamedForest, NamedGroups, named_text, named_comment, named_element, named_anchor, nothing_named, named_then, no_groups, group_then, name_of, names_of, group_names}
 use Rattle.ng_dom.specs.Editing.{changed_in, with_groups, group_inserted, group_removed, group_at, picked}
-use Rattle.ng_dom.specs.Rooms.{Shape, Room, Rooms, anchor_shape, shape_of, room_of, HasRoom, ReadsInside, ReadsIn, ReadsGroups, room_changed, shape_with_groups}
+use Rattle.ng_dom.specs.Rooms.{Shape, Rooms, anchor_shape, shape_of, HasRoom, ReadsInside, ReadsIn, ReadsGroups, room_changed, shape_with_groups}
 use Rattle.ng_dom.proofs.Reading.{reads_changed}
 
 -- what stands below a later node than a isn't a, and is read as before

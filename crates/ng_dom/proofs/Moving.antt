@@ -1,12 +1,12 @@
 -- A node is moved among others.
-use Rattle.std.proofs.Common.{◌≡◌, ◌<◌, ◌≤◌, ◌+◌, ℕ, zero, suc, Bool, true, false, List, [], ◌∷◌, ◌++◌, length, take, drop, get_or, Option, Some, None, refl, ap, ◌∙◌, sym, cond, arith}
+use Rattle.std.proofs.Common.{◌≡◌, ◌<◌, ℕ, zero, suc, Bool, true, false, List, [], ◌∷◌, ◌++◌, length, take, drop, get_or, Option, Some, None, refl, ap, ◌∙◌, sym, cond, arith}
 use Rattle.std.specs.Prelude.{◌==◌}
 use Rattle.std.specs.List.{remove}
 use Rattle.std.proofs.lemmas.Bool.{eqb-true, eq-eqb}
 use Rattle.ng_dom.specs.Lists.{put_at, among, without_first, moved_to}
-use Rattle.ng_dom.specs.Nodes.{NamedNode, NamedForest, NamedGroups, named_text, named_comment, named_element, named_anchor, nothing_named, named_then, name_of, names_of}
-use Rattle.ng_dom.specs.Editing.{changed_in, with_kids, node_inserted, node_named, node_cut, placed_again, node_moved}
-use Rattle.ng_dom.specs.Rooms.{Shape, Room, Rooms, element_shape, shape_of, HasRoom, ReadsInside, ReadsIn, room_changed, shape_with_kids}
+use Rattle.ng_dom.specs.Nodes.{NamedNode, NamedForest, named_text, named_comment, named_element, named_anchor, nothing_named, named_then, name_of, names_of}
+use Rattle.ng_dom.specs.Editing.{changed_in, with_kids, node_named, node_cut, placed_again, node_moved}
+use Rattle.ng_dom.specs.Rooms.{Rooms, element_shape, shape_of, HasRoom, ReadsInside, ReadsIn, room_changed, shape_with_kids}
 use Rattle.ng_dom.proofs.Reading.{reads_changed}
 use Rattle.ng_dom.proofs.Adding.{names_inserted, reads_inserted}
 

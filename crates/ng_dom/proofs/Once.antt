@@ -1,8 +1,8 @@
 -- A table has one forest under given names.
-use Rattle.std.proofs.Common.{◌≡◌, ℕ, List, [], ◌∷◌, Option, Some, None, refl, ap, ◌∙◌, sym}
+use Rattle.std.proofs.Common.{◌≡◌, ℕ, List, Option, Some, refl, ap, ◌∙◌, sym}
 use Rattle.ng_markup.specs.Forest.{Attributes}
 use Rattle.ng_dom.specs.Nodes.{NamedNode, NamedForest, NamedGroups, named_text, named_comment, named_element, named_anchor, nothing_named, named_then, no_groups, group_then, name_of, names_of, group_names}
-use Rattle.ng_dom.specs.Rooms.{Shape, Room, Rooms, text_shape, comment_shape, element_shape, anchor_shape, shape_of, room_of, HasRoom, ReadsInside, ReadsIn, ReadsGroups}
+use Rattle.ng_dom.specs.Rooms.{Room, Rooms, shape_of, room_of, HasRoom, ReadsInside, ReadsIn, ReadsGroups}
 use Rattle.ng_dom.specs.Laws.{OneReading}
 
 module _ (r : Rooms) where

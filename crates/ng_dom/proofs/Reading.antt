@@ -1,10 +1,10 @@
 -- A change of one room is a change of the document.
-use Rattle.std.proofs.Common.{◌≡◌, ◌<◌, ℕ, Bool, true, false, List, [], ◌∷◌, Option, Some, None, refl, ap, ◌∙◌, sym, cond}
+use Rattle.std.proofs.Common.{◌≡◌, ℕ, Bool, true, false, List, ◌∷◌, Option, Some, refl, ap, ◌∙◌, cond}
 use Rattle.std.specs.Prelude.{◌==◌}
 use Rattle.std.proofs.lemmas.Bool.{eqb-true}
 use Rattle.ng_dom.specs.Nodes.{NamedNode, NamedForest, NamedGroups, named_text, named_comment, named_element, named_anchor, nothing_named, named_then, no_groups, group_then, name_of, names_of, group_names}
 use Rattle.ng_dom.specs.Editing.{at_name, changed, changed_in, changed_groups}
-use Rattle.ng_dom.specs.Rooms.{Shape, Room, Rooms, element_shape, anchor_shape, shape_of, room_of, IsAfter, HasRoom, ReadsInside, ReadsIn, ReadsGroups, reshaped, room_changed}
+use Rattle.ng_dom.specs.Rooms.{Shape, Rooms, element_shape, anchor_shape, shape_of, room_of, IsAfter, HasRoom, ReadsInside, ReadsIn, ReadsGroups, room_changed}
 
 module _ (n : ℕ) (g : NamedNode → NamedNode) (named : (x : NamedNode) → name_of (g x) ≡ name_of x) where
   name_at : (x : NamedNode) → name_of (at_name n g x) ≡ name_of x

@@ -1,9 +1,9 @@
 -- The plain forest of a name is that of the node that is read there.
-use Rattle.std.proofs.Common.{◌≡◌, ◌<◌, ◌≤◌, ◌+◌, ◌-◌, ℕ, zero, suc, List, [], ◌∷◌, Option, Some, None, refl, ap, ◌∙◌, sym, arith}
-use Rattle.ng_markup.specs.Forest.{Forest, Attributes, element, comment, no_nodes, node, with_node, Node}
+use Rattle.std.proofs.Common.{◌≡◌, ◌<◌, ◌≤◌, ◌+◌, ℕ, zero, suc, List, [], Option, Some, None, refl, ap, ◌∙◌, arith}
+use Rattle.ng_markup.specs.Forest.{Forest, element, comment, no_nodes, node, with_node, Node}
 use Rattle.ng_dom.specs.Nodes.{NamedNode, NamedForest, NamedGroups, named_text, named_comment, named_element, named_anchor, nothing_named, named_then, no_groups, group_then, name_of, names_of, group_names, followed_by, plain_node, plain, plain_groups}
-use Rattle.ng_dom.specs.Rooms.{Room, Rooms, shape_of, HasRoom, ReadsInside, ReadsIn, ReadsGroups}
-use Rattle.std.specs.Prelude.{is_some, Bool, false}
+use Rattle.ng_dom.specs.Rooms.{Rooms, shape_of, HasRoom, ReadsInside, ReadsIn, ReadsGroups}
+use Rattle.std.specs.Prelude.{is_some, false}
 use Rattle.std.specs.BTreeMap.{BTreeMap, get}
 use Rattle.std.specs.Ordering.{nat_cmp}
 use Rattle.ng_dom.specs.Kept.{rooms_of}

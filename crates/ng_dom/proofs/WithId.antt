@@ -1,11 +1,11 @@
 -- The node that is read under a name is the one that the table has.
-use Rattle.std.proofs.Common.{◌≡◌, ◌<◌, ◌≤◌, ◌+◌, ◌-◌, ℕ, zero, suc, List, [], ◌∷◌, ◌++◌, Option, Some, None, refl, ap, ◌∙◌, sym, arith}
-use Rattle.std.specs.Prelude.{is_some, Bool, false}
+use Rattle.std.proofs.Common.{◌≡◌, ◌<◌, ◌≤◌, ◌+◌, ℕ, zero, suc, List, Option, Some, None, refl, ap, ◌∙◌, sym, arith}
+use Rattle.std.specs.Prelude.{is_some, false}
 use Rattle.std.specs.BTreeMap.{BTreeMap, get}
 use Rattle.std.specs.Ordering.{nat_cmp}
 use Rattle.ng_dom.specs.Nodes.{NamedNode, NamedForest, NamedGroups, named_text, named_comment, named_element, named_anchor, nothing_named, named_then, no_groups, group_then, name_of, names_of, group_names}
-use Rattle.ng_dom.specs.Rooms.{Room, Rooms, shape_of, HasRoom, ReadsInside, ReadsIn, ReadsGroups}
-use Rattle.ng_dom.specs.Asked.{node_with_id, first_with_id, group_with_id, first_of_two}
+use Rattle.ng_dom.specs.Rooms.{Rooms, shape_of, HasRoom, ReadsInside, ReadsIn, ReadsGroups}
+use Rattle.ng_dom.specs.Asked.{node_with_id, first_with_id, first_of_two}
 use Rattle.ng_dom.specs.Walks.{named_followed, read, read_all, read_groups, read_shape, read_room}
 use Rattle.ng_dom.specs.Kept.{rooms_of}
 use Rattle.ng_dom.specs.declared.record.Record.{Record}

@@ -1,5 +1,5 @@
 -- Changes of a document: one function for a node, everywhere where the node's name stands.
-use Rattle.std.specs.Prelude.{ℕ, zero, suc, Option, Some, None, ◌==◌, List, [], ◌∷◌, ◌++◌, if◌then◌else◌}
+use Rattle.std.specs.Prelude.{ℕ, zero, suc, Option, Some, None, ◌==◌, List, [], ◌∷◌, if◌then◌else◌}
 use Rattle.std.specs.BTreeMap.{insert_entry, is_at}
 use Rattle.std.specs.Map.{remove_entry}
 use Rattle.ng_base.specs.Order.{txt_cmp}

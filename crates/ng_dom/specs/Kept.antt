@@ -1,8 +1,7 @@
 -- What the code's record of a node stands for.
-use Rattle.std.specs.Prelude.{ℕ, List, [], ◌∷◌, map, Option, option_map, is_some, ◌≡◌}
+use Rattle.std.specs.Prelude.{ℕ, map, Option, option_map, is_some, ◌≡◌}
 use Rattle.std.specs.BTreeMap.{BTreeMap, get, btree_map_len}
 use Rattle.std.specs.Ordering.{nat_cmp}
-use Rattle.ng_markup.specs.Forest.{Attributes}
 use Rattle.ng_dom.specs.Rooms.{Shape, Room, Rooms, text_shape, comment_shape, element_shape, anchor_shape}
 use Rattle.ng_dom.specs.declared.record.Content.{Content}
 use Rattle.ng_dom.specs.declared.record.Content.TheVariants.{Text, Comment, Element, Anchor}

@@ -1,9 +1,8 @@
 -- New nodes.
-use Rattle.std.specs.Prelude.{ℕ, nat_lt, ◌≡◌, ◌==◌, Bool, true, false, List, [], ◌∷◌, Option, Some, None, Result, Ok, Err, if◌then◌else◌}
+use Rattle.std.specs.Prelude.{ℕ, nat_lt, Bool, true, false, [], Result, Ok, Err, if◌then◌else◌}
 use Rattle.ng_base.specs.declared.name.NodeId.{NodeId}
 use Rattle.ng_base.specs.declared.fault.Memory.TheVariants.{Refused, Worn}
-use Rattle.ng_dom.specs.Nodes.{NamedNode, NamedForest, named_text, named_comment, named_element, named_anchor, nothing_named, named_then, no_groups}
-use Rattle.ng_dom.specs.Rooms.{Shape, Room, Rooms, text_shape, comment_shape, element_shape, anchor_shape}
+use Rattle.ng_dom.specs.Nodes.{NamedNode, named_text, named_comment, named_element, named_anchor, nothing_named, no_groups}
 use Rattle.ng_dom.specs.declared.fault.DomFault.{DomFault}
 use Rattle.ng_dom.specs.declared.fault.DomFault.TheVariants.{NodeLimit, Memory}
 use Rattle.ng_dom.specs.declared.record.NewNode.{NewNode}

@@ -1,7 +1,7 @@
 -- A document whose nodes have names. An anchor stands for a block of the template: it holds what the block brought, a group
 -- for each body or row.
-use Rattle.std.specs.Prelude.{ℕ, List, [], ◌∷◌, ◌++◌}
-use Rattle.ng_markup.specs.Forest.{Attributes, Node, Forest, element, text, comment, no_nodes, node}
+use Rattle.std.specs.Prelude.{ℕ, List, [], ◌∷◌}
+use Rattle.ng_markup.specs.Forest.{Attributes, Forest, element, text, comment, no_nodes, node}
 
 mutual
   pub data NamedNode : Type 0 where

@@ -1,5 +1,5 @@
 -- Walks of the document from a name downwards, so many levels deep at the most.
-use Rattle.std.specs.Prelude.{ℕ, zero, suc, List, [], ◌∷◌, Option, Some, None, if◌then◌else◌}
+use Rattle.std.specs.Prelude.{ℕ, zero, suc, List, [], ◌∷◌, Option, Some, None}
 use Rattle.ng_markup.specs.Forest.{Forest, element, text, comment, no_nodes, node}
 use Rattle.ng_dom.specs.Nodes.{NamedForest, NamedGroups, named_text, named_comment, named_element, named_anchor, nothing_named, named_then, no_groups, group_then, followed_by}
 use Rattle.ng_dom.specs.Rooms.{Shape, Room, Rooms, text_shape, comment_shape, element_shape, anchor_shape}

@@ -16,17 +16,18 @@ ghost use Rattle.ng_dom.specs.Kept.{shape_kept};
 use crate::edits::{attribute, content_of, count, is_element, kid_count, move_name, put};
 use crate::fault::DomFault;
 use crate::finding::find_all;
-use crate::printing::add_all;
 use crate::nodes::{
-    add, cut_group, drop_attribute, move_kid, parent_of, pick_groups, put_group, put_kid, set_attribute, tell,
+    add, cut_group, drop_attribute, move_kid, parent_of, pick_groups, put_group, put_kid,
+    set_attribute, tell,
 };
+use crate::printing::add_all;
 use crate::record::{Content, Group, Home, NewNode, Part, Record};
-use ng_html::forest::Forest;
-use ng_html::writing::write;
 use ng_base::fault::Memory;
 use ng_base::lists::Numbers;
 use ng_base::name::{NodeId, Serial};
 use ng_base::txt::Txt;
+use ng_html::forest::Forest;
+use ng_html::writing::write;
 use std::alloc::{AllocError, Global};
 use std::collections::BTreeMap;
 
@@ -106,12 +107,7 @@ impl Dom {
 
     /// A new node is the i-th at the top.
     #[tactic(auto, using(crate::proofs::Adding::free_name))]
-    fn put_top(
-        &mut self,
-        i: usize,
-        home: Home,
-        content: Content,
-    ) -> Result<NodeId, DomFault>
+    fn put_top(&mut self, i: usize, home: Home, content: Content) -> Result<NodeId, DomFault>
         ensures answer { Meets is_want (new_name (live_count self.old) (next_name self.old)) result }
         ensures placed { OnOk result (((q : ℕ) → rooms self.new q ≡ room_added (next_name self.old) (record { parent = None; shape = shape_kept content }) (rooms self.old) q) × (top self.new ≡ put_at i (next_name self.old) (top self.old))) }
         ensures gains { OnOk result (Gains home self.old self.new) }
@@ -180,12 +176,7 @@ impl Dom {
 
     /// A new part is made for a group of an anchor, and stands apart until the group is inserted.
     #[tactic(auto, using(crate::proofs::Adding::free_name))]
-    pub fn make_part(
-        &mut self,
-        anchor: NodeId,
-        part: Part,
-        home: Home,
-    ) -> Result<NodeId, DomFault>
+    pub fn make_part(&mut self, anchor: NodeId, part: Part, home: Home) -> Result<NodeId, DomFault>
         requires { IsLive self.old anchor.made.0 }
         ensures answer { Meets is_want (new_name (live_count self.old) (next_name self.old)) result }
         ensures apart { OnOk result (IsApart anchor.made.0 (new_part (next_name self.old) part) self.old self.new) }
@@ -338,7 +329,13 @@ impl Dom {
         ensures refused { IfErr result (λ e. e ≡ Memory.Refused) }
     {
         let mut forest = Forest::new(self.alloc);
-        add_all(&self.nodes, self.alloc, self.next, self.top.as_slice(), &mut forest)?;
+        add_all(
+            &self.nodes,
+            self.alloc,
+            self.next,
+            self.top.as_slice(),
+            &mut forest,
+        )?;
         Ok(forest)
     }
 

@@ -119,11 +119,7 @@ fn group_at(alloc: Global, groups: &[Vec<u64>], i: usize) -> Result<Vec<u64>, Al
 }
 
 /// The groups of these places, in this order.
-fn groups_at(
-    alloc: Global,
-    groups: &[Vec<u64>],
-    order: &[u32],
-) -> Result<Vec<Vec<u64>>, AllocError>
+fn groups_at(alloc: Global, groups: &[Vec<u64>], order: &[u32]) -> Result<Vec<Vec<u64>>, AllocError>
     ensures { IfOk result (λ l. map (λ g. g.items) l.items ≡ lists_at order.now (map (λ g. g.items) groups.now)) }
 {
     let mut picked = Vec::new(alloc);

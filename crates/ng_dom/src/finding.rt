@@ -50,7 +50,9 @@ fn find_content(
         Content::Text(_) => None,
         Content::Comment(_) => None,
         Content::Element {
-            attributes, kids, ..
+            attributes,
+            kids,
+            ..
         } => {
             if has_id(attributes, id) {
                 Some(n)
@@ -65,12 +67,7 @@ fn find_content(
 /// The first element with an id below some names.
 #[tactic(auto, using(crate::proofs::WithId::find_steps))]
 #[cycle(found)]
-pub fn find_all(
-    nodes: &BTreeMap<u64, Record>,
-    deep: u64,
-    names: &[u64],
-    id: &Txt,
-) -> Option<u64>
+pub fn find_all(nodes: &BTreeMap<u64, Record>, deep: u64, names: &[u64], id: &Txt) -> Option<u64>
     ensures { result ≡ first_with_id id.now (read_all (read deep (rooms_of nodes.now)) names.now) }
 {
     for n in names {

@@ -75,7 +75,10 @@ fn add_content(
         } => {
             let mut inner = Forest::new(alloc);
             add_all(nodes, alloc, deep, kids.as_slice(), &mut inner)?;
-            push(into, element_node(name.copied()?, attrs_of(alloc, attributes)?, inner))
+            push(
+                into,
+                element_node(name.copied()?, attrs_of(alloc, attributes)?, inner),
+            )
         }
         Content::Anchor(groups) => {
             push(into, comment_node(Txt::new(alloc)))?;

@@ -1,4 +1,4 @@
-use Rattle.std.proofs.Common.{◌≡◌, Option, None, Some, ap, ◌∙◌, sym}
+use Rattle.std.proofs.Common.{◌≡◌, Option, None, Some, sym}
 use Rattle.std.proofs.lemmas.Result.{on_ok_weaker}
 use Rattle.ng_dom.specs.Document.{rooms, next_name, IsParent, IsElement}
 use Rattle.ng_base.specs.declared.name.NodeId.{NodeId}
@@ -17,8 +17,10 @@ returns-in-None-clause-placed c =
     let free = free_room d.nodes d.next d.fresh in
     rw c.in-None.is
     (on_ok_weaker c.put_top.result
-    (λ told. (λ p f h. remains (rooms d) _ k _ free told.0 p f h,
-    λ f h. (names_placed c.args.at k c.args.part _ _ f h.0 told.1, part_at_top (rooms d) _ c.args.at k c.args.part _ (c.content_of-content.ensures k) free told.0 f h.1)))
+    (λ told. (
+      λ p f h. remains (rooms d) _ k _ free told.0 p f h,
+      λ f h. (names_placed c.args.at k c.args.part _ _ f h.0 told.1, part_at_top (rooms d) _ c.args.at k c.args.part _ (c.content_of-content.ensures k) free told.0 f h.1),
+    ))
     c.put_top.ensures.placed)
 
 pub returns-in-Some-clause-placed : goal.returns-in-Some-clause-placed

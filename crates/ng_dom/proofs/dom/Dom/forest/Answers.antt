@@ -1,4 +1,4 @@
-use Rattle.std.proofs.Common.{sym, ◌∙◌}
+use Rattle.std.proofs.Common.{◌∙◌}
 use Rattle.ng_dom.proofs.Telling.{told_document}
 use Rattle.ng_dom.proofs.dom.Dom.forest.Goals as goal
 
