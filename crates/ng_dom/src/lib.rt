@@ -15,7 +15,7 @@
 //!   n changed by g wherever it stands. `set_text`, `set_attr` and `drop_attr` look one node up; `insert_group`, `cut_group` and
 //!   `pick_groups` change the list of one anchor. None of them depends on the size of the document.
 //! - A piece for a block is built apart: `make_part` makes its first nodes, `add_part` what they hold, and `insert_group` puts it
-//!   under the anchor by one edit. A fault in the middle leaves the document as it was.
+//!   under the anchor by one edit. Until then the document is read as before; the nodes of the piece are live, though.
 //! - `insert` and the other calls that make a node answer `NodeLimit` exactly where 200,000 nodes are live.
 //! - `forest`, `print` and `by_id` walk the document from the top. No walk goes deeper than names were given, as a child has a later
 //!   name than its parent.
@@ -23,6 +23,9 @@
 //! `Drawing` says what is drawn for what stands of a template, given the text of each hole, and [`laws`] what carries linking and
 //! firing: to write a text is to draw with the new text of its key, to change an anchor's groups is to change the bodies of its
 //! block.
+//!
+//! Nothing takes nodes away yet: `cut_group` lets the nodes of a group stand apart, and they stay live. A node's path, and the
+//! node at a path, are not asked for yet.
 //!
 //! Not here: what is registered for a node, which values its holes have, and when a block fires.
 #![tactic(auto)]
