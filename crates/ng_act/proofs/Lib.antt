@@ -1,0 +1,4 @@
+pub mod SoundCores
+pub mod Targets
+pub mod Turns
+pub mod Steps

@@ -1,0 +1,7 @@
+pub mod State
+pub mod Calling
+pub mod Actions
+pub mod Frames
+pub mod EventOf
+pub mod PlaceOf
+pub mod Turns
