@@ -26,7 +26,10 @@ const PLACES: [(&str, &[u64]); 51] = [
     ("<dl><dt>a<dd>b<dt>c</dl>", &[0, 4, 8, 9, 13, 14, 18]),
     ("<dt><dt><dd><dd>", &[0, 4, 8, 12]),
     ("<select><option>a<option>b</select>", &[0, 8, 16, 17, 25]),
-    ("<table><tr><td>a<th>b<tr><td>c</table>", &[0, 7, 11, 15, 16, 20, 21, 25, 29]),
+    (
+        "<table><tr><td>a<th>b<tr><td>c</table>",
+        &[0, 7, 11, 15, 16, 20, 21, 25, 29],
+    ),
     ("<th><td><tr>", &[0, 4, 8]),
     ("<td><li><td>", &[0, 4, 8]),
     ("<li><dd><li>", &[0, 4, 8]),

@@ -41,7 +41,6 @@ fn kept(alloc: Global, name: &str, text: &str) -> Result<Kept, AllocError> {
     })
 }
 
-
 const GREETING: &str = "{\"data\":{\"name\":\"Ann\"}}";
 
 #[test]

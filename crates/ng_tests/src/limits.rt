@@ -147,10 +147,10 @@ fn what_holds_itself_is_too_big_where_it_is_unfolded(rt: HostRuntime) {
         panic!(rt; "memory");
     };
     for (o, asks, want) in [
-                (0, DEEP, "TooBig"),
+        (0, DEEP, "TooBig"),
         (0, COLLECTION, "ok"),
         (0, REFERENCE, "ok"),
-                (1, DEEP, "TooBig"),
+        (1, DEEP, "TooBig"),
         (1, COLLECTION, "ok"),
         (1, REFERENCE, "ok"),
     ] {
