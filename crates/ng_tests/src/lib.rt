@@ -1,5 +1,6 @@
 //! The few tests that only public calls can show: calls of a shelf or a sink that fail, real files, the places of a document's
-//! nodes, and snapshots, of which a template shows nothing.
+//! nodes and of tokens, why and where a text is no program, trees that no hole may have, locals, snapshots, digests over sheets
+//! of numbers, and walks over listeners and scopes that change on the way.
 //!
 //! What a run of the program shows is a row of data in `rows/`, which is run without a proof. The expected values were written by
 //! hand, from the rules of AngularJS and JavaScript where docs/DIFFERENCES.md doesn't say otherwise.
@@ -8,18 +9,32 @@
 #![tactic(auto)]
 
 #[cfg(test)]
+mod digests;
+#[cfg(test)]
 mod documents;
 #[cfg(test)]
 mod failing;
 #[cfg(test)]
 mod limits;
 #[cfg(test)]
+mod listeners;
+#[cfg(test)]
+mod locals;
+#[cfg(test)]
 mod numbers;
 #[cfg(test)]
 mod outside;
 #[cfg(test)]
+mod programs;
+#[cfg(test)]
+mod refused;
+#[cfg(test)]
+mod scopes;
+#[cfg(test)]
 mod snapshots;
 #[cfg(test)]
 mod texts;
+#[cfg(test)]
+mod tokens;
 #[cfg(test)]
 mod values;
