@@ -1,5 +1,5 @@
 //! The few tests that only public calls can show: calls of a shelf or a sink that fail, real files, the places of a document's
-//! nodes and of tokens, why and where a text is no program, trees that no hole may have, locals, snapshots, digests over sheets
+//! nodes and of tokens, why and where a text is no program, locals, snapshots, digests over sheets
 //! of numbers, and walks over chains, listeners and scopes that change on the way.
 //!
 //! What a run of the program shows is a row of data in `rows/`, which is run without a proof. The expected values were written by
@@ -27,15 +27,11 @@ mod numbers;
 #[cfg(test)]
 mod outside;
 #[cfg(test)]
-mod programs;
-#[cfg(test)]
 mod refused;
 #[cfg(test)]
 mod scopes;
 #[cfg(test)]
 mod snapshots;
-#[cfg(test)]
-mod texts;
 #[cfg(test)]
 mod tokens;
 #[cfg(test)]

@@ -1,57 +1,36 @@
-//! A text as its tokens with their places, and the first refusal of one that has none.
-use ng_lex::{LexFault, LexKind, Token, Tokens, lex};
-use std::alloc::{AllocError, Global};
+//! The places of the tokens of a text, and the first refusal of one that has none.
+use ng_lex::{LexFault, LexKind, lex};
 use std::test::Fail;
 
-/// The tokens in words, each with its place.
-fn words(alloc: Global, t: &Tokens) -> Result<String, AllocError> {
-    let mut out = String::new(alloc);
-    for (token, place) in t.tokens.iter().zip(t.places.iter()) {
-        let shown = match token {
-            Token::Name(n) => format!(in alloc; "{place}:{} ", n.as_str())?,
-            Token::Number(n) => format!(in alloc; "{place}:{n} ")?,
-            Token::Text(s) => format!(in alloc; "{place}:'{}' ", s.as_str())?,
-            Token::Sign(sign) => format!(in alloc; "{place}:{sign:?} ")?,
-        };
-        out.push_str(shown.as_str())?;
-    }
-    Ok(out)
-}
+/// A text, and the places of its tokens.
+const PLACES: [(&str, &[u64]); 20] = [
+    ("", &[]),
+    (" \t\r\n\u{b}\u{a0}", &[]),
+    ("a1_$ $b", &[0, 5]),
+    ("a===b", &[0, 1, 4]),
+    ("a==b", &[0, 1, 3]),
+    ("a=b", &[0, 1, 2]),
+    ("a!==b!=!c", &[0, 1, 4, 5, 7, 8]),
+    ("a====b", &[0, 1, 4, 5]),
+    ("<=<>=>", &[0, 2, 3, 5]),
+    ("a||b|c&&d", &[0, 1, 3, 4, 5, 6, 8]),
+    ("+-*/%?:;,.", &[0, 1, 2, 3, 4, 5, 6, 7, 8, 9]),
+    ("()[]{}", &[0, 1, 2, 3, 4, 5]),
+    ("9007199254740991", &[0]),
+    ("007", &[0]),
+    ("1x", &[0, 1]),
+    ("5 .a", &[0, 2, 3]),
+    ("\"it's\"", &[0]),
+    ("'\\n\\f\\r\\t\\v\\'\\q'", &[0]),
+    ("'\\u0041\\u00e9' b", &[0, 15]),
+    ("'\u{e9}'a", &[0, 4]),
+];
 
 #[test]
-fn a_text_is_its_tokens_with_their_places(rt: HostRuntime) -> Result<(), Fail> {
-    let rows = [
-        ("", ""),
-        (" \t\r\n\u{b}\u{a0}", ""),
-        ("a1_$ $b", "0:a1_$ 5:$b "),
-        ("a===b", "0:a 1:Same 4:b "),
-        ("a==b", "0:a 1:Equal 3:b "),
-        ("a=b", "0:a 1:Assign 2:b "),
-        ("a!==b!=!c", "0:a 1:NotSame 4:b 5:NotEqual 7:Not 8:c "),
-        ("a====b", "0:a 1:Same 4:Assign 5:b "),
-        ("<=<>=>", "0:AtMost 2:Less 3:AtLeast 5:Greater "),
-        ("a||b|c&&d", "0:a 1:Or 3:b 4:Bar 5:c 6:And 8:d "),
-        (
-            "+-*/%?:;,.",
-            "0:Plus 1:Minus 2:Star 3:Slash 4:Percent 5:Question 6:Colon 7:Semicolon 8:Comma 9:Dot ",
-        ),
-        (
-            "()[]{}",
-            "0:OpenRound 1:CloseRound 2:OpenSquare 3:CloseSquare 4:OpenCurly 5:CloseCurly ",
-        ),
-        ("9007199254740991", "0:9007199254740991 "),
-        ("007", "0:7 "),
-        ("1x", "0:1 1:x "),
-        ("5 .a", "0:5 2:Dot 3:a "),
-        ("\"it's\"", "0:'it's' "),
-        ("'\\n\\f\\r\\t\\v\\'\\q'", "0:'\n\u{c}\r\t\u{b}'q' "),
-        ("'\\u0041\\u00e9' b", "0:'A\u{e9}' 15:b "),
-        ("'\u{e9}'a", "0:'\u{e9}' 4:a "),
-    ];
-    for (text, want) in rows {
+fn each_token_has_the_place_where_it_begins(rt: HostRuntime) -> Result<(), Fail> {
+    for (text, places) in PLACES {
         let t = lex(rt.alloc(), text)?;
-        let got = words(rt.alloc(), &t)?;
-        assert_eq!(rt; got.as_str(), want, "at {text}");
+        assert!(rt; t.places.as_slice() == places, "at {text}");
         assert_eq!(rt; t.end, text.len() as u64);
     }
     Ok(())

@@ -1,32 +1,23 @@
-//! Values as rows name them, and as results are written down.
+//! Values as rows name them.
 ghost use Rattle.std.specs.Prelude.{length, IfSome};
 ghost use Rattle.ng_base.specs.Objects.{StandsAmong};
 ghost use Rattle.ng_base.specs.ViewOf.{view_of};
 ghost use Rattle.ng_language.specs.Views.{ViewStands};
 
-use ng_base::fault::Fault;
-use ng_base::name::{FunId, Oid};
+use ng_base::name::Oid;
 use ng_base::txt::Txt;
 use ng_base::value::Value;
 use ng_base::view::View;
 use ng_store::store::Store;
 use serde_json::Value as Json;
-use std::alloc::{AllocError, Global};
-
-/// The greatest number; its negative is the least.
-pub(crate) const MAX: i64 = 9_007_199_254_740_991;
+use std::alloc::Global;
 
 /// A value. An object is named by its place in the store.
 #[derive(Clone, Copy, Debug)]
 pub(crate) enum Of {
-    Undefined,
-    Null,
-    Bool(bool),
     Int(i64),
-    Nan,
     Text(&'static str),
     Object(u32),
-    Function,
 }
 
 /// The value, where memory is at hand and its object stands.
@@ -34,14 +25,9 @@ pub(crate) fn value(alloc: Global, store: &Store, of: Of) -> Option<Value>
     ensures { IfSome result (StandsAmong (length store.now)) }
 {
     match of {
-        Of::Undefined => Some(Value::Undefined),
-        Of::Null => Some(Value::Null),
-        Of::Bool(b) => Some(Value::Bool(b)),
         Of::Int(n) => Some(Value::Int(n)),
-        Of::Nan => Some(Value::Nan),
         Of::Text(t) => Some(Value::Text(Txt::from_str(alloc, t).ok()?)),
         Of::Object(o) => object(store, o),
-        Of::Function => Some(Value::Fun(FunId(7))),
     }
 }
 
@@ -96,28 +82,5 @@ pub(crate) fn push(alloc: Global, store: &mut Store, o: u32, of: Of) -> bool {
         store.push(Oid(o), value).is_ok()
     } else {
         false
-    }
-}
-
-/// A value in words: a text has quotes, an object no name.
-pub(crate) fn shown(alloc: Global, v: &View) -> Result<String, AllocError> {
-    match v {
-        View::Prim(Value::Undefined) => format!(in alloc; "undefined"),
-        View::Prim(Value::Null) => format!(in alloc; "null"),
-        View::Prim(Value::Bool(b)) => format!(in alloc; "{b}"),
-        View::Prim(Value::Int(n)) => format!(in alloc; "{n}"),
-        View::Prim(Value::Nan) => format!(in alloc; "NaN"),
-        View::Prim(Value::Text(t)) => format!(in alloc; "'{}'", t.as_str()),
-        View::Prim(Value::Obj(_)) => format!(in alloc; "object"),
-        View::Prim(Value::Fun(_)) => format!(in alloc; "function"),
-        _ => format!(in alloc; "fresh"),
-    }
-}
-
-/// A result in words: a value, or the fault's name.
-pub(crate) fn told(alloc: Global, r: &Result<View, Fault>) -> Result<String, AllocError> {
-    match r {
-        Ok(v) => shown(alloc, v),
-        Err(fault) => format!(in alloc; "{}", fault.name()),
     }
 }
