@@ -1,6 +1,6 @@
 //! The few tests that only public calls can show: calls of a shelf or a sink that fail, real files, the places of a document's
-//! nodes and of tokens, why and where a text is no program, locals, snapshots, digests over sheets
-//! of numbers, and walks over chains, listeners and scopes that change on the way.
+//! nodes and of tokens, why and where a text is no program, digests over sheets of numbers, and walks over chains, listeners and
+//! scopes that change on the way. Tables of cases for the calls of single crates stand in ng_tables.
 //!
 //! What a run of the program shows is a row of data in `rows/`, which is run without a proof. The expected values were written by
 //! hand, from the rules of AngularJS and JavaScript where docs/DIFFERENCES.md doesn't say otherwise.
@@ -17,13 +17,7 @@ mod documents;
 #[cfg(test)]
 mod failing;
 #[cfg(test)]
-mod limits;
-#[cfg(test)]
 mod listeners;
-#[cfg(test)]
-mod locals;
-#[cfg(test)]
-mod numbers;
 #[cfg(test)]
 mod outside;
 #[cfg(test)]
@@ -31,8 +25,4 @@ mod refused;
 #[cfg(test)]
 mod scopes;
 #[cfg(test)]
-mod snapshots;
-#[cfg(test)]
 mod tokens;
-#[cfg(test)]
-mod values;

@@ -142,12 +142,18 @@ const ELEMENTS: [(&str, &str); 75] = [
         "<li ng-repeat=\"r in rs\" ng-class=\"c\" ng-if=\"r\"></li>",
         "ngRepeat 1000 ng-repeat",
     ),
-    ("<li ng-if=\"r\" ng-init=\"a = 1\" ng-class=\"c\"></li>", "ngIf 600 ng-if"),
+    (
+        "<li ng-if=\"r\" ng-init=\"a = 1\" ng-class=\"c\"></li>",
+        "ngIf 600 ng-if",
+    ),
     (
         "<p ng-include=\"t\" ng-init=\"a = 1\" ng-disabled=\"d\"></p>",
         "ngInit 450 ng-init, ngInclude 400 ng-include",
     ),
-    ("<p ng-include=\"t\" ng-bind=\"x\"></p>", "ngInclude 400 ng-include"),
+    (
+        "<p ng-include=\"t\" ng-bind=\"x\"></p>",
+        "ngInclude 400 ng-include",
+    ),
     ("<p ng-include=\"t\" data-ng-include=\"t\"></p>", "MultiDir"),
     (
         "<i ng-switch-when=\"1\" ng-repeat=\"r in rs\"></i>",
@@ -177,7 +183,10 @@ const ELEMENTS: [(&str, &str); 75] = [
     ("<ng-if></ng-if>", "LeftOut"),
     ("<ng-bind></ng-bind>", "LeftOut"),
     ("<ng-include src=\"t\"></ng-include>", "ngInclude 400 -"),
-    ("<data-ng-include src=\"t\"></data-ng-include>", "ngInclude 400 -"),
+    (
+        "<data-ng-include src=\"t\"></data-ng-include>",
+        "ngInclude 400 -",
+    ),
     ("<ng-switch on=\"k\"></ng-switch>", "ngSwitch 0 -"),
     ("<ng-transclude></ng-transclude>", "ngTransclude 0 -"),
     ("<ng-app></ng-app>", ""),
@@ -185,7 +194,10 @@ const ELEMENTS: [(&str, &str); 75] = [
     ("<p ng-app ng-strict-di ng-cloak></p>", ""),
     ("<p ng-app=\"{{a}}\"></p>", "ngApp{} 100 ng-app"),
     ("<p ng-cloak=\"{{a}}\"></p>", ""),
-    ("<p title=\"{{t}}\" id=\"{{i}}\"></p>", "id{} 100 id, title{} 100 title"),
+    (
+        "<p title=\"{{t}}\" id=\"{{i}}\"></p>",
+        "id{} 100 id, title{} 100 title",
+    ),
     ("<p title=\"{{t\" id=\"t}}{\"></p>", ""),
     ("<p onclick=\"{{t}}\"></p>", "LeftOut"),
     ("<p data-onload=\"{{t}}\"></p>", "LeftOut"),
@@ -195,18 +207,30 @@ const ELEMENTS: [(&str, &str); 75] = [
         "<a ng-href=\"/u/{{id}}\" title=\"{{id}}\"></a>",
         "title{} 100 title, ngHref 99 ng-href",
     ),
-    ("<img ng-src=\"{{s}}\" src=\"{{s}}\">", "src{} 100 src, ngSrc 99 ng-src"),
+    (
+        "<img ng-src=\"{{s}}\" src=\"{{s}}\">",
+        "src{} 100 src, ngSrc 99 ng-src",
+    ),
     (
         "<input ng-model=\"n\" ng-change=\"c()\" ng-checked=\"k\">",
         "ngChecked 100 ng-checked, ngModel 1 ng-model, ngChange 0 ng-change",
     ),
-    ("<input type=\"NUMBER\" ng-model=\"n\">", "ngModel 1 ng-model"),
-    ("<input type=\"checkbox\" ng-model=\"n\">", "ngModel 1 ng-model"),
+    (
+        "<input type=\"NUMBER\" ng-model=\"n\">",
+        "ngModel 1 ng-model",
+    ),
+    (
+        "<input type=\"checkbox\" ng-model=\"n\">",
+        "ngModel 1 ng-model",
+    ),
     (
         "<input type=\"password\" ng-model=\"n\" ng-trim=\"false\" ng-blur=\"b()\" ng-focus=\"f()\">",
         "ngModel 1 ng-model, ngBlur 0 ng-blur, ngFocus 0 ng-focus, ngTrim 0 ng-trim",
     ),
-    ("<textarea ng-model=\"n\" type=\"radio\"></textarea>", "ngModel 1 ng-model"),
+    (
+        "<textarea ng-model=\"n\" type=\"radio\"></textarea>",
+        "ngModel 1 ng-model",
+    ),
     ("<input type=\"radio\" ng-model=\"n\">", "LeftOut"),
     ("<input type=\"hidden\" ng-model=\"n\">", "LeftOut"),
     ("<input type=\"\" ng-model=\"n\">", "LeftOut"),
@@ -232,7 +256,10 @@ const ELEMENTS: [(&str, &str); 75] = [
         "tip 10 data-tip, tip 10 tip, tip 10 data-tip, tip 10 tip",
     ),
     ("<p top ng-if=\"a\"></p>", "MultiDir"),
-    ("<p top ng-repeat=\"r in rs\"></p>", "ngRepeat 1000 ng-repeat"),
+    (
+        "<p top ng-repeat=\"r in rs\"></p>",
+        "ngRepeat 1000 ng-repeat",
+    ),
     ("<p box pane ng-if=\"a\"></p>", "ngIf 600 ng-if"),
     (
         "<p stop tip title=\"{{t}}\" ng-show=\"a\"></p>",
@@ -256,12 +283,28 @@ fn each_element_has_its_directives(rt: HostRuntime) {
 
 /// An element, the priority of a block, and what it leaves to its body.
 const BODIES: [(&str, i64, &str); 6] = [
-    ("<li ng-repeat=\"r in rs\" ng-if=\"r\" ng-class=\"c\"></li>", 1000, "ngIf 600 ng-if"),
-    ("<li ng-repeat=\"r in rs\" ng-if=\"r\" ng-class=\"c\"></li>", 600, "ngClass 0 ng-class"),
-    ("<li ng-repeat=\"r in rs\" ng-if=\"r\" ng-class=\"c\"></li>", 0, ""),
+    (
+        "<li ng-repeat=\"r in rs\" ng-if=\"r\" ng-class=\"c\"></li>",
+        1000,
+        "ngIf 600 ng-if",
+    ),
+    (
+        "<li ng-repeat=\"r in rs\" ng-if=\"r\" ng-class=\"c\"></li>",
+        600,
+        "ngClass 0 ng-class",
+    ),
+    (
+        "<li ng-repeat=\"r in rs\" ng-if=\"r\" ng-class=\"c\"></li>",
+        0,
+        "",
+    ),
     ("<p ng-if=\"a\" box pane></p>", 600, "MultiDir"),
     ("<p ng-if=\"a\" ng-style=\"s\"></p>", 600, "LeftOut"),
-    ("<p ng-include=\"t\" ng-init=\"a = 1\" ng-show=\"d\"></p>", 400, "ngShow 0 ng-show"),
+    (
+        "<p ng-include=\"t\" ng-init=\"a = 1\" ng-show=\"d\"></p>",
+        400,
+        "ngShow 0 ng-show",
+    ),
 ];
 
 #[test]
@@ -301,12 +344,24 @@ const DEFINITIONS: [(&str, &str, &str, Option<DefFault>); 16] = [
 fn a_definition_is_registered_or_refused(rt: HostRuntime) {
     let alloc = rt.alloc();
     for (name, restrict, binding, want) in DEFINITIONS {
-        let row = (name, restrict, 0, false, Asks::Isolate(binding), false, false);
+        let row = (
+            name,
+            restrict,
+            0,
+            false,
+            Asks::Isolate(binding),
+            false,
+            false,
+        );
         let mut registry = Registry::new(alloc).expect(&rt, "memory");
         let d = definition(alloc, row).expect(&rt, "memory");
         let got = registry.add(d).err();
         assert_eq!(rt; got, want, "{name} {restrict} {binding}");
         let count = if want.is_none() { 1 } else { 0 };
-        assert_eq!(rt; registry.definitions().len(), count, "{name} {restrict} {binding}");
+        assert_eq!(rt;
+            registry.definitions().len(),
+            count,
+            "{name} {restrict} {binding}"
+        );
     }
 }

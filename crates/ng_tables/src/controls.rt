@@ -32,40 +32,150 @@ const TRIMS: ControlKind = ControlKind::Text { trim: true };
 const KEEPS: ControlKind = ControlKind::Text { trim: false };
 
 const TEXT: [Row; 8] = [
-    (Step::Waits, Of::Undefined, "", "ng-pristine ng-untouched ng-valid ng-empty"),
-    (Step::Types(" ab "), Of::Text("ab"), " ab ", "ng-dirty ng-untouched ng-valid ng-not-empty"),
-    (Step::Types(" \t "), Of::Text(""), " \t ", "ng-dirty ng-untouched ng-valid ng-empty"),
-    (Step::Types(""), Of::Text(""), "", "ng-dirty ng-untouched ng-valid ng-empty"),
-    (Step::Waits, Of::Text(" x "), " x ", "ng-dirty ng-untouched ng-valid ng-not-empty"),
-    (Step::Blurs, Of::Text(" "), " ", "ng-dirty ng-touched ng-valid ng-not-empty"),
-    (Step::Types("x"), Of::Text("x"), "x", "ng-dirty ng-touched ng-valid ng-not-empty"),
-    (Step::Types("x"), Of::Text("x"), "x", "ng-dirty ng-touched ng-valid ng-not-empty"),
+    (
+        Step::Waits,
+        Of::Undefined,
+        "",
+        "ng-pristine ng-untouched ng-valid ng-empty",
+    ),
+    (
+        Step::Types(" ab "),
+        Of::Text("ab"),
+        " ab ",
+        "ng-dirty ng-untouched ng-valid ng-not-empty",
+    ),
+    (
+        Step::Types(" \t "),
+        Of::Text(""),
+        " \t ",
+        "ng-dirty ng-untouched ng-valid ng-empty",
+    ),
+    (
+        Step::Types(""),
+        Of::Text(""),
+        "",
+        "ng-dirty ng-untouched ng-valid ng-empty",
+    ),
+    (
+        Step::Waits,
+        Of::Text(" x "),
+        " x ",
+        "ng-dirty ng-untouched ng-valid ng-not-empty",
+    ),
+    (
+        Step::Blurs,
+        Of::Text(" "),
+        " ",
+        "ng-dirty ng-touched ng-valid ng-not-empty",
+    ),
+    (
+        Step::Types("x"),
+        Of::Text("x"),
+        "x",
+        "ng-dirty ng-touched ng-valid ng-not-empty",
+    ),
+    (
+        Step::Types("x"),
+        Of::Text("x"),
+        "x",
+        "ng-dirty ng-touched ng-valid ng-not-empty",
+    ),
 ];
 
 const PASSWORD: [Row; 3] = [
-    (Step::Blurs, Of::Null, "", "ng-pristine ng-touched ng-valid ng-empty"),
-    (Step::Types(" a"), Of::Text(" a"), " a", "ng-dirty ng-touched ng-valid ng-not-empty"),
-    (Step::Types(" "), Of::Text(" "), " ", "ng-dirty ng-touched ng-valid ng-not-empty"),
+    (
+        Step::Blurs,
+        Of::Null,
+        "",
+        "ng-pristine ng-touched ng-valid ng-empty",
+    ),
+    (
+        Step::Types(" a"),
+        Of::Text(" a"),
+        " a",
+        "ng-dirty ng-touched ng-valid ng-not-empty",
+    ),
+    (
+        Step::Types(" "),
+        Of::Text(" "),
+        " ",
+        "ng-dirty ng-touched ng-valid ng-not-empty",
+    ),
 ];
 
 const NUMBER: [Row; 13] = [
-    (Step::Types("7"), Of::Int(7), "7", "ng-dirty ng-untouched ng-valid ng-not-empty"),
-    (Step::Types(""), Of::Null, "", "ng-dirty ng-untouched ng-valid ng-empty"),
-    (Step::Types("x"), Of::Undefined, "x", "ng-dirty ng-untouched ng-invalid ng-not-empty"),
-    (Step::Types(" 7 "), Of::Undefined, " 7 ", "ng-dirty ng-untouched ng-invalid ng-not-empty"),
-    (Step::Types(" "), Of::Undefined, " ", "ng-dirty ng-untouched ng-invalid ng-empty"),
-    (Step::Types("-0012"), Of::Int(-12), "-0012", "ng-dirty ng-untouched ng-valid ng-not-empty"),
-    (Step::Types("+5"), Of::Int(5), "+5", "ng-dirty ng-untouched ng-valid ng-not-empty"),
-    (Step::Types("1.5"), Of::Undefined, "1.5", "ng-dirty ng-untouched ng-invalid ng-not-empty"),
+    (
+        Step::Types("7"),
+        Of::Int(7),
+        "7",
+        "ng-dirty ng-untouched ng-valid ng-not-empty",
+    ),
+    (
+        Step::Types(""),
+        Of::Null,
+        "",
+        "ng-dirty ng-untouched ng-valid ng-empty",
+    ),
+    (
+        Step::Types("x"),
+        Of::Undefined,
+        "x",
+        "ng-dirty ng-untouched ng-invalid ng-not-empty",
+    ),
+    (
+        Step::Types(" 7 "),
+        Of::Undefined,
+        " 7 ",
+        "ng-dirty ng-untouched ng-invalid ng-not-empty",
+    ),
+    (
+        Step::Types(" "),
+        Of::Undefined,
+        " ",
+        "ng-dirty ng-untouched ng-invalid ng-empty",
+    ),
+    (
+        Step::Types("-0012"),
+        Of::Int(-12),
+        "-0012",
+        "ng-dirty ng-untouched ng-valid ng-not-empty",
+    ),
+    (
+        Step::Types("+5"),
+        Of::Int(5),
+        "+5",
+        "ng-dirty ng-untouched ng-valid ng-not-empty",
+    ),
+    (
+        Step::Types("1.5"),
+        Of::Undefined,
+        "1.5",
+        "ng-dirty ng-untouched ng-invalid ng-not-empty",
+    ),
     (
         Step::Types("9007199254740992"),
         Of::Undefined,
         "9007199254740992",
         "ng-dirty ng-untouched ng-invalid ng-not-empty",
     ),
-    (Step::Waits, Of::Text("abc"), "abc", "ng-dirty ng-untouched ng-valid ng-not-empty"),
-    (Step::Waits, Of::Nan, "", "ng-dirty ng-untouched ng-valid ng-empty"),
-    (Step::Waits, Of::Int(0), "0", "ng-dirty ng-untouched ng-valid ng-not-empty"),
+    (
+        Step::Waits,
+        Of::Text("abc"),
+        "abc",
+        "ng-dirty ng-untouched ng-valid ng-not-empty",
+    ),
+    (
+        Step::Waits,
+        Of::Nan,
+        "",
+        "ng-dirty ng-untouched ng-valid ng-empty",
+    ),
+    (
+        Step::Waits,
+        Of::Int(0),
+        "0",
+        "ng-dirty ng-untouched ng-valid ng-not-empty",
+    ),
     (
         Step::Blurs,
         Of::Object(0),
@@ -75,12 +185,42 @@ const NUMBER: [Row; 13] = [
 ];
 
 const CHECKBOX: [Row; 6] = [
-    (Step::Waits, Of::Undefined, "", "ng-pristine ng-untouched ng-valid ng-empty"),
-    (Step::Checks(true), Of::Bool(true), "true", "ng-dirty ng-untouched ng-valid ng-not-empty"),
-    (Step::Checks(false), Of::Bool(false), "false", "ng-dirty ng-untouched ng-valid ng-empty"),
-    (Step::Blurs, Of::Int(1), "1", "ng-dirty ng-touched ng-valid ng-empty"),
-    (Step::Waits, Of::Text("true"), "true", "ng-dirty ng-touched ng-valid ng-empty"),
-    (Step::Waits, Of::Object(0), "[object Object]", "ng-dirty ng-touched ng-valid ng-empty"),
+    (
+        Step::Waits,
+        Of::Undefined,
+        "",
+        "ng-pristine ng-untouched ng-valid ng-empty",
+    ),
+    (
+        Step::Checks(true),
+        Of::Bool(true),
+        "true",
+        "ng-dirty ng-untouched ng-valid ng-not-empty",
+    ),
+    (
+        Step::Checks(false),
+        Of::Bool(false),
+        "false",
+        "ng-dirty ng-untouched ng-valid ng-empty",
+    ),
+    (
+        Step::Blurs,
+        Of::Int(1),
+        "1",
+        "ng-dirty ng-touched ng-valid ng-empty",
+    ),
+    (
+        Step::Waits,
+        Of::Text("true"),
+        "true",
+        "ng-dirty ng-touched ng-valid ng-empty",
+    ),
+    (
+        Step::Waits,
+        Of::Object(0),
+        "[object Object]",
+        "ng-dirty ng-touched ng-valid ng-empty",
+    ),
 ];
 
 /// What a control reads, where the step is an input of its kind.
@@ -156,5 +296,11 @@ fn each_input_has_its_text_and_its_classes(rt: HostRuntime) {
     run(&rt, alloc, &store, TRIMS, TEXT.as_slice());
     run(&rt, alloc, &store, KEEPS, PASSWORD.as_slice());
     run(&rt, alloc, &store, ControlKind::Number, NUMBER.as_slice());
-    run(&rt, alloc, &store, ControlKind::Checkbox, CHECKBOX.as_slice());
+    run(
+        &rt,
+        alloc,
+        &store,
+        ControlKind::Checkbox,
+        CHECKBOX.as_slice(),
+    );
 }

@@ -4,7 +4,7 @@ ghost use Rattle.ng_base.specs.Objects.{StandsAmong};
 ghost use Rattle.ng_base.specs.ViewOf.{view_of};
 ghost use Rattle.ng_language.specs.Views.{ViewStands};
 
-use ng_base::name::Oid;
+use ng_base::name::{FunId, Oid};
 use ng_base::txt::Txt;
 use ng_base::value::Value;
 use ng_base::view::View;
@@ -15,9 +15,14 @@ use std::alloc::Global;
 /// A value. An object is named by its place in the store.
 #[derive(Clone, Copy, Debug)]
 pub(crate) enum Of {
+    Undefined,
+    Null,
+    Bool(bool),
     Int(i64),
+    Nan,
     Text(&'static str),
     Object(u32),
+    Function,
 }
 
 /// The value, where memory is at hand and its object stands.
@@ -25,9 +30,14 @@ pub(crate) fn value(alloc: Global, store: &Store, of: Of) -> Option<Value>
     ensures { IfSome result (StandsAmong (length store.now)) }
 {
     match of {
+        Of::Undefined => Some(Value::Undefined),
+        Of::Null => Some(Value::Null),
+        Of::Bool(b) => Some(Value::Bool(b)),
         Of::Int(n) => Some(Value::Int(n)),
+        Of::Nan => Some(Value::Nan),
         Of::Text(t) => Some(Value::Text(Txt::from_str(alloc, t).ok()?)),
         Of::Object(o) => object(store, o),
+        Of::Function => Some(Value::Fun(FunId(7))),
     }
 }
 

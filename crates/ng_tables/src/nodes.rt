@@ -7,6 +7,7 @@ use ng_dom::record::{Group, Home, NewNode, Part};
 use std::alloc::Global;
 
 /// What a step does to the nodes that were made so far, by their places in the order of making.
+#[derive(Clone, Copy)]
 enum Step {
     Element(Option<usize>, u32, &'static str),
     Text(Option<usize>, u32, &'static str),
@@ -27,22 +28,68 @@ const STEPS: [(&[Step], &str); 9] = [
     (&[], ""),
     (&[Step::Text(None, 0, "a<b")], "a&lt;b"),
     (
-        &[Step::Element(None, 0, "p"), Step::Text(Some(0), 0, "b"), Step::Comment(Some(0), 0, "a")],
+        &[
+            Step::Element(None, 0, "p"),
+            Step::Text(Some(0), 0, "b"),
+            Step::Comment(Some(0), 0, "a"),
+        ],
         "<p><!--a-->b</p>",
     ),
     (
-        &[Step::Element(None, 0, "br"), Step::Set(0, "id", "x"), Step::Set(0, "class", "y"), Step::Set(0, "id", "z")],
+        &[
+            Step::Element(None, 0, "br"),
+            Step::Set(0, "id", "x"),
+            Step::Set(0, "class", "y"),
+            Step::Set(0, "id", "z"),
+        ],
         "<br class=\"y\" id=\"z\">",
     ),
-    (&[Step::Element(None, 0, "p"), Step::Set(0, "id", "x"), Step::Drop(0, "id"), Step::Drop(0, "a")], "<p></p>"),
-    (&[Step::Text(None, 0, "a"), Step::Text(None, 1, "b"), Step::Text(None, 1, "c"), Step::Write(1, "d")], "acd"),
-    (&[Step::Text(None, 0, "a"), Step::Text(None, 1, "b"), Step::Text(None, 2, "c"), Step::Move(0, 1)], "bac"),
     (
-        &[Step::Anchor(None, 0), Step::Group(0, 0, "a"), Step::Group(0, 1, "b"), Step::Group(0, 1, "c"), Step::Text(None, 1, "d")],
+        &[
+            Step::Element(None, 0, "p"),
+            Step::Set(0, "id", "x"),
+            Step::Drop(0, "id"),
+            Step::Drop(0, "a"),
+        ],
+        "<p></p>",
+    ),
+    (
+        &[
+            Step::Text(None, 0, "a"),
+            Step::Text(None, 1, "b"),
+            Step::Text(None, 1, "c"),
+            Step::Write(1, "d"),
+        ],
+        "acd",
+    ),
+    (
+        &[
+            Step::Text(None, 0, "a"),
+            Step::Text(None, 1, "b"),
+            Step::Text(None, 2, "c"),
+            Step::Move(0, 1),
+        ],
+        "bac",
+    ),
+    (
+        &[
+            Step::Anchor(None, 0),
+            Step::Group(0, 0, "a"),
+            Step::Group(0, 1, "b"),
+            Step::Group(0, 1, "c"),
+            Step::Text(None, 1, "d"),
+        ],
         "<!---->acbd",
     ),
     (
-        &[Step::Anchor(None, 0), Step::Group(0, 0, "a"), Step::Group(0, 1, "b"), Step::Group(0, 2, "c"), Step::Cut(0, 1), Step::Pick(0, &[1, 0])],
+        &[
+            Step::Anchor(None, 0),
+            Step::Group(0, 0, "a"),
+            Step::Group(0, 1, "b"),
+            Step::Group(0, 2, "c"),
+            Step::Cut(0, 1),
+            Step::Pick(0, &[1, 0]),
+        ],
         "<!---->ca",
     ),
 ];
@@ -52,7 +99,13 @@ fn txt(alloc: Global, s: &str) -> Option<Txt> {
 }
 
 /// A node is made where the parent is an element or the top.
-fn put(dom: &mut Dom, made: &[NodeId], parent: Option<usize>, at: u32, part: Part) -> Option<NodeId> {
+fn put(
+    dom: &mut Dom,
+    made: &[NodeId],
+    parent: Option<usize>,
+    at: u32,
+    part: Part,
+) -> Option<NodeId> {
     match parent {
         None => dom.add_part(None, at, part, Home::Plain).ok(),
         Some(p) => {
@@ -77,7 +130,7 @@ fn group(alloc: Global, dom: &mut Dom, anchor: NodeId, at: u32, text: &str) -> O
     dom.insert_group(anchor, at, group).ok()
 }
 
-fn step(alloc: Global, dom: &mut Dom, made: &mut Vec<NodeId>, step: &Step) -> Option<()> {
+fn done(alloc: Global, dom: &mut Dom, made: &mut Vec<NodeId>, step: &Step) -> Option<()> {
     match step {
         Step::Element(parent, at, name) => {
             let part = Part::Node(NewNode::Element(txt(alloc, name)?));
@@ -127,7 +180,7 @@ fn printed(alloc: Global, steps: &[Step]) -> Option<Vec<u8>> {
     let mut dom = Dom::new(alloc);
     let mut made = Vec::new(alloc);
     for s in steps {
-        step(alloc, &mut dom, &mut made, s)?;
+        done(alloc, &mut dom, &mut made, s)?;
     }
     let mut into = Vec::new(alloc);
     dom.print(&mut into).ok()?;
@@ -157,7 +210,7 @@ fn the_first_element_of_an_id_is_found(rt: HostRuntime) {
         Step::Set(2, "id", "x"),
     ];
     for s in &steps {
-        assert!(rt; step(alloc, &mut dom, &mut made, s).is_some());
+        assert!(rt; done(alloc, &mut dom, &mut made, s).is_some());
     }
     match (txt(alloc, "x"), txt(alloc, "y")) {
         (Some(x), Some(y)) => {

@@ -1,0 +1,36 @@
+//! Tables of cases for the public calls of single crates: values at their limits, snapshots, locals and numbers; the bindings,
+//! directives and controls of an element; the parts of a text; the plans of a repeat; scripts, and the nodes of a document.
+//!
+//! The expected values were written by hand, from AngularJS's guide and API reference and from the rules of JavaScript, where
+//! docs/DIFFERENCES.md doesn't say otherwise. What a run of the program shows is a row of data in `rows/`, which is run without
+//! a proof.
+//!
+//! No crate stands on this one.
+#![tactic(auto)]
+
+#[cfg(test)]
+mod bindings;
+#[cfg(test)]
+mod collecting;
+#[cfg(test)]
+mod controls;
+#[cfg(test)]
+mod limits;
+#[cfg(test)]
+mod locals;
+#[cfg(test)]
+mod nodes;
+#[cfg(test)]
+mod numbers;
+#[cfg(test)]
+mod parts;
+#[cfg(test)]
+mod plans;
+#[cfg(test)]
+mod repeats;
+#[cfg(test)]
+mod scripts;
+#[cfg(test)]
+mod snapshots;
+#[cfg(test)]
+mod values;
