@@ -21,6 +21,10 @@ ROWS = [
     ('scopes, made and met in the order of their paths', 'scopes', 10_000),
     ('evaluations of `a.b.c + d * 2 > 10 ? e.f : g[h]`', 'choice', 100_000),
     ("a hundred evaluations of `xs | orderBy:'n' | limitTo:10` over so many objects", 'order', 10_000),
+    ('clean watchers, tested one after another', 'watches', 10_000),
+    ('a plan of a repeat whose rows come in reverse', 'reversed', 10_000),
+    ('a plan of a repeat of which each tenth row is gone', 'tenths', 10_000),
+    ('commands of a script, read', 'script', 10_000),
 ]
 
 

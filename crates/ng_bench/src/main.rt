@@ -11,19 +11,26 @@
 //!   one after another, with the walk open; `drop` drops so many scopes, of which each tenth has a listener;
 //! - `scopes` makes so many scopes, and meets them in the order of their paths;
 //! - `choice` evaluates an expression with members, sums and a choice so many times, and `order` a hundred times an `orderBy`
-//!   and a `limitTo` over so many objects.
+//!   and a `limitTo` over so many objects;
+//! - `watches` tests so many clean watchers one after another;
+//! - `reversed` plans a repeat whose so many rows come in reverse, and `tenths` one of which each tenth row is gone;
+//! - `script` reads a script of so many commands.
 //!
 //! It decides nothing and no other crate stands on it.
 #![tactic(auto)]
 
 mod digests;
 mod listening;
+mod planning;
 mod scoping;
+mod scripting;
 mod snapping;
 mod syntax;
 mod viewing;
+mod watching;
 
 use listening::Side;
+use planning::Order;
 use std::alloc::Global;
 use std::{env, io};
 
@@ -41,6 +48,10 @@ fn counted(alloc: Global, workload: &str, size: u64) -> Option<u64> {
         "scopes" => scoping::walked(alloc, size),
         "choice" => viewing::chosen(alloc, size),
         "order" => viewing::sorted(alloc, size),
+        "watches" => watching::tested(alloc, size),
+        "reversed" => planning::planned(alloc, Order::Falling, size),
+        "tenths" => planning::planned(alloc, Order::WithoutTenths, size),
+        "script" => scripting::commands(alloc, size),
         _ => None,
     }
 }

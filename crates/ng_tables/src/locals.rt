@@ -1,5 +1,5 @@
 //! Names as locals have them, which no hole has, and as a scope's prototype has them.
-ghost use Rattle.std.specs.Prelude.{◌<◌, length, IfSome};
+ghost use Rattle.std.specs.Prelude.{◌<◌, length, IfOk};
 ghost use Rattle.ng_base.specs.ViewOf.{view_of};
 ghost use Rattle.ng_language.specs.Views.{ViewStands};
 ghost use Rattle.ng_view.specs.Evaluation.{LocalsStand};
@@ -16,7 +16,7 @@ use ng_parse::parse;
 use ng_store::store::Store;
 use ng_value::texts::json_text;
 use ng_view::{filters_known, is_pure, view};
-use std::alloc::Global;
+use std::alloc::{AllocError, Global};
 
 /// A store with a scope, which has a `w` of its own, over a prototype with `n`, `u`, `w` and `z`.
 fn made(alloc: Global) -> Option<Store> {
@@ -35,18 +35,14 @@ fn made(alloc: Global) -> Option<Store> {
 }
 
 /// Locals that hide names of the scope.
-fn hiding(alloc: Global, store: &Store) -> Option<Locals>
-    ensures { IfSome result (LocalsStand (length store.now)) }
+fn hiding(alloc: Global, store: &Store) -> Result<Locals, AllocError>
+    ensures { IfOk result (λ l. LocalsStand (length store.now) l) }
 {
     let mut locals = Locals::new(alloc);
-    for (name, value) in [
-        ("l", Value::Bool(true)),
-        ("u", Value::Undefined),
-        ("z", Value::Int(1)),
-    ] {
-        locals.push(Txt::from_str(alloc, name).ok()?, value).ok()?;
-    }
-    Some(locals)
+    locals.push(Txt::from_str(alloc, "l")?, Value::Bool(true))?;
+    locals.push(Txt::from_str(alloc, "u")?, Value::Undefined)?;
+    locals.push(Txt::from_str(alloc, "z")?, Value::Int(1))?;
+    Ok(locals)
 }
 
 /// A value as JSON, or what JSON has no word for.
@@ -92,7 +88,7 @@ fn locals_come_before_the_names_of_a_scope(rt: HostRuntime) {
     let Some(store) = made(alloc) else {
         panic!(rt; "no store");
     };
-    let Some(locals) = hiding(alloc, &store) else {
+    let Ok(locals) = hiding(alloc, &store) else {
         panic!(rt; "no locals");
     };
     for (text, want) in NAMES {
