@@ -117,8 +117,8 @@ fn picked(
     told(alloc, answer).ok()
 }
 
-/// An element, and its directives or the refusal.
-const ELEMENTS: [(&str, &str); 75] = [
+/// An element, and its directives or the refusal: names and blocks.
+const BLOCKS: [(&str, &str); 22] = [
     ("<p></p>", ""),
     ("<p title=\"x\"></p>", ""),
     ("text", ""),
@@ -171,6 +171,10 @@ const ELEMENTS: [(&str, &str); 75] = [
         "<p ng-non-bindable ng-class=\"c\" title=\"{{t}}\" box pane></p>",
         "ngNonBindable 1000 ng-non-bindable",
     ),
+];
+
+/// The same of what is left out, and of what is plain.
+const LEFT_OUT: [(&str, &str); 20] = [
     ("<p ng-non-bindable ng-style=\"s\"></p>", "LeftOut"),
     ("<p ng-style=\"s\"></p>", "LeftOut"),
     ("<p ng-class-even=\"s\"></p>", "LeftOut"),
@@ -194,6 +198,10 @@ const ELEMENTS: [(&str, &str); 75] = [
     ("<p ng-app ng-strict-di ng-cloak></p>", ""),
     ("<p ng-app=\"{{a}}\"></p>", "ngApp{} 100 ng-app"),
     ("<p ng-cloak=\"{{a}}\"></p>", ""),
+];
+
+/// The same of interpolated attributes, events and controls.
+const ATTRIBUTES: [(&str, &str); 19] = [
     (
         "<p title=\"{{t}}\" id=\"{{i}}\"></p>",
         "id{} 100 id, title{} 100 title",
@@ -240,6 +248,10 @@ const ELEMENTS: [(&str, &str); 75] = [
         "<p ng-dblclick=\"d()\" ng-mouseenter=\"e()\" ng-paste=\"p()\"></p>",
         "ngDblclick 0 ng-dblclick, ngMouseenter 0 ng-mouseenter, ngPaste 0 ng-paste",
     ),
+];
+
+/// The same of the application's directives.
+const DEFINED: [(&str, &str); 14] = [
     ("<box v=\"p\"></box>", "box 0 -"),
     ("<i box pane></i>", "MultiDir"),
     ("<i box kid></i>", "MultiDir"),
@@ -269,11 +281,50 @@ const ELEMENTS: [(&str, &str); 75] = [
 ];
 
 #[test]
-fn each_element_has_its_directives(rt: HostRuntime) {
+fn blocks_cut_what_stands_below_them(rt: HostRuntime) {
     let Some(registry) = registry(rt.alloc()) else {
         panic!(rt; "no registry");
     };
-    for (document, want) in ELEMENTS {
+    for (document, want) in BLOCKS {
+        let Some(got) = picked(rt.alloc(), &registry, None, document) else {
+            panic!(rt; "no answer at {document}");
+        };
+        assert_eq!(rt; got.as_str(), want, "{document}");
+    }
+}
+
+#[test]
+fn what_is_left_out_is_refused(rt: HostRuntime) {
+    let Some(registry) = registry(rt.alloc()) else {
+        panic!(rt; "no registry");
+    };
+    for (document, want) in LEFT_OUT {
+        let Some(got) = picked(rt.alloc(), &registry, None, document) else {
+            panic!(rt; "no answer at {document}");
+        };
+        assert_eq!(rt; got.as_str(), want, "{document}");
+    }
+}
+
+#[test]
+fn attributes_events_and_controls_are_directives(rt: HostRuntime) {
+    let Some(registry) = registry(rt.alloc()) else {
+        panic!(rt; "no registry");
+    };
+    for (document, want) in ATTRIBUTES {
+        let Some(got) = picked(rt.alloc(), &registry, None, document) else {
+            panic!(rt; "no answer at {document}");
+        };
+        assert_eq!(rt; got.as_str(), want, "{document}");
+    }
+}
+
+#[test]
+fn directives_of_the_application_are_sorted_and_counted(rt: HostRuntime) {
+    let Some(registry) = registry(rt.alloc()) else {
+        panic!(rt; "no registry");
+    };
+    for (document, want) in DEFINED {
         let Some(got) = picked(rt.alloc(), &registry, None, document) else {
             panic!(rt; "no answer at {document}");
         };

@@ -5,7 +5,7 @@ use std::alloc::{AllocError, Global};
 
 /// A script, and what its reader answers: of a script that is read the line of its last command and what that does, of
 /// one that is refused the line and why.
-const SCRIPTS: [(&str, u64, &str); 87] = [
+const LINES: [(&str, u64, &str); 20] = [
     ("", 0, "none"),
     ("\n\r\n \t\n", 0, "none"),
     ("// jump #b\n  //\n\t//x", 0, "none"),
@@ -26,6 +26,10 @@ const SCRIPTS: [(&str, u64, &str); 87] = [
     ("digest\r\njump\nclick b", 2, "UnknownCommand"),
     ("digest x", 1, "BadArgument"),
     ("digest digest", 1, "BadArgument"),
+];
+
+/// The same of commands that are aimed at an element.
+const TARGETS: [(&str, u64, &str); 24] = [
     ("click #b", 1, "Click"),
     ("click\t  #b", 1, "Click"),
     ("click ##", 1, "Click"),
@@ -50,6 +54,10 @@ const SCRIPTS: [(&str, u64, &str); 87] = [
     ("click", 1, "BadArgument"),
     ("click #a #b", 1, "BadArgument"),
     ("click a #b", 1, "BadTarget"),
+];
+
+/// The same of events and controls.
+const EVENTS: [(&str, u64, &str); 22] = [
     ("fire keydown #q", 1, "Fire"),
     ("fire paste /1 {}", 1, "Fire"),
     ("fire mouseenter #q {\"a\": [1, 2]}", 1, "Fire"),
@@ -72,6 +80,10 @@ const SCRIPTS: [(&str, u64, &str); 87] = [
     ("check #a maybe", 1, "BadArgument"),
     ("check #a", 1, "BadArgument"),
     ("check #a true true", 1, "BadArgument"),
+];
+
+/// The same of programs and of events of scopes.
+const PROGRAMS: [(&str, u64, &str); 21] = [
     ("eval", 1, "Eval"),
     ("eval x = 1; y = 'a b'", 1, "Eval"),
     ("eval x\r", 1, "Eval"),
@@ -139,11 +151,38 @@ fn answer(alloc: Global, bytes: &[u8]) -> (u64, &'static str) {
     }
 }
 
+/// Whether the reader gives a row's answer.
+fn is_answered(alloc: Global, row: (&str, u64, &str)) -> bool {
+    let (script, line, wanted) = row;
+    let (at, came) = answer(alloc, script.as_bytes());
+    at == line && came == wanted
+}
+
 #[test]
-fn each_script_is_read_or_refused(rt: HostRuntime) {
-    for (script, line, wanted) in SCRIPTS {
-        let (at, came) = answer(rt.alloc(), script.as_bytes());
-        assert!(rt; at == line && came == wanted, "{at} {came} at {script}");
+fn lines_are_commands_comments_or_refused(rt: HostRuntime) {
+    for row in LINES {
+        assert!(rt; is_answered(rt.alloc(), row), "at {}", row.0);
+    }
+}
+
+#[test]
+fn targets_are_read_or_refused(rt: HostRuntime) {
+    for row in TARGETS {
+        assert!(rt; is_answered(rt.alloc(), row), "at {}", row.0);
+    }
+}
+
+#[test]
+fn events_and_controls_are_read_or_refused(rt: HostRuntime) {
+    for row in EVENTS {
+        assert!(rt; is_answered(rt.alloc(), row), "at {}", row.0);
+    }
+}
+
+#[test]
+fn programs_and_scope_events_are_read_or_refused(rt: HostRuntime) {
+    for row in PROGRAMS {
+        assert!(rt; is_answered(rt.alloc(), row), "at {}", row.0);
     }
 }
 
