@@ -1,0 +1,30 @@
+-- How many nodes there are.
+use Rattle.std.specs.Prelude.{ℕ, ◌+◌}
+use Rattle.ng_markup.specs.Forest.{Node, Forest, element, text, comment, no_nodes, node}
+use Rattle.ng_drawing.specs.Template.{Part, Parts, text_part, comment_part, element_part, no_parts, part_then}
+
+-- the elements, texts and comments of a document
+abbrev mutual
+  pub node_count : Node → ℕ
+  node_count (element name attributes kids) = 1 + forest_count kids
+  node_count (text t) = 1
+  node_count (comment t) = 1
+
+  pub forest_count : Forest → ℕ
+  forest_count no_nodes = 0
+  forest_count (node n f) = node_count n + forest_count f
+
+-- the nodes that parts are drawn as: a text is one, whatever holes it has
+abbrev mutual
+  pub part_nodes : Part → ℕ
+  part_nodes (text_part pieces) = 1
+  part_nodes (comment_part t) = 1
+  part_nodes (element_part name attributes parts) = 1 + nodes parts
+
+  pub nodes : Parts → ℕ
+  nodes no_parts = 0
+  nodes (part_then p ps) = part_nodes p + nodes ps
+
+-- the most nodes of a page
+abbrev pub node_limit : ℕ
+node_limit = 200000

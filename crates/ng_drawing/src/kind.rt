@@ -1,0 +1,12 @@
+//! Kinds of sites.
+
+/// What a watcher keeps of the value of a site: the text that it shows, its class words, the value itself, its items or named
+/// values, or all of it (guide: Scopes, "Scope `$watch` Depths").
+#[derive(Clone, Copy, Debug, PartialEq, Eq, Drop)]
+pub enum SiteKind {
+    Text,
+    Words,
+    Reference,
+    Collection,
+    Deep,
+}

@@ -1,0 +1,15 @@
+//! Definitions of templates and of what stands of them, which the contracts from the compiler to the run cite. They stand in
+//! `specs/`.
+//!
+//! `Template.antt` has the parts of a template and its sites, the watched expressions by number (guide: HTML Compiler).
+//! `Drawing.antt` has the drawing of parts as a document, over a text for each hole, and beside it the rendering, the same
+//! recursion with each expression evaluated now. `Instance.antt` has what a run adds to a template: keys, scopes, what was kept
+//! and which sites rest; what is shown is the drawing with what was kept, the rendering asks no watcher and no node.
+//! `Nodes.antt` counts nodes.
+//!
+//! `laws` states what is proved of these definitions alone. Each law is a function with an empty body, so that the
+//! gate proves it.
+#![tactic(auto)]
+
+pub mod kind;
+pub mod laws;
