@@ -25,7 +25,7 @@ abbrev pub place_of : Sheet → Place State ℕ
 place_of w = record { state = view w.board; cursor = w.cursor; remembered = w.remembered; log = w.log; stage = w.stage }
 
 abbrev pub sheet_moves : Moves Sheet
-sheet_moves = record { State = State; Key = ℕ; machine = board_machine; at = place_of }
+sheet_moves = record { State = State; Key = ℕ; machine = board_machine; at = place_of; Holds = λ w. Unit {0} }
 
 -- a state before a digest: nothing was handed over
 abbrev pub readied : State → State

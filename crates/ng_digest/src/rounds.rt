@@ -79,10 +79,12 @@ pub enum DigestFault {
 fn drain<W: World>(w: &mut W, log: &mut Log) -> Result<bool, Memory>
     requires stage { (W.moves.at w.old).stage ≡ Draining }
     requires log { log.old ≡ (W.moves.at w.old).log }
+    requires holds { W.moves.Holds w.old }
     ensures run { IfOk result (λ over. Drains W.moves.machine (W.moves.at w.old) over (W.moves.at w.new)) }
     ensures stage { OnOk result ((W.moves.at w.new).stage ≡ Draining) }
     ensures calm { IfOk result (λ over. over ≡ false → W.moves.machine.waits (W.moves.at w.new).state ≡ false) }
     ensures log { OnOk result (log.new ≡ (W.moves.at w.new).log) }
+    ensures holds { OnOk result (W.moves.Holds w.new) }
     ensures rounds { OnOk result (log.new.dirty_rounds ≡ log.old.dirty_rounds) }
 {
     while w.waits() {
@@ -99,9 +101,11 @@ fn drain<W: World>(w: &mut W, log: &mut Log) -> Result<bool, Memory>
 fn next_dirty<W: World>(w: &mut W, log: &mut Log) -> Result<Found, Memory>
     requires stage { MayAdvance (W.moves.at w.old).stage (W.moves.machine.waits (W.moves.at w.old).state) }
     requires log { log.old ≡ (W.moves.at w.old).log }
+    requires holds { W.moves.Holds w.old }
     ensures run { IfOk result (λ found. Skips W.moves.machine (W.moves.at w.old) found (W.moves.at w.new)) }
     ensures stage { IfOk result (λ found. (W.moves.at w.new).stage ≡ StageFound found) }
     ensures log { OnOk result (log.new ≡ (W.moves.at w.new).log) }
+    ensures holds { OnOk result (W.moves.Holds w.new) }
     ensures fires { OnOk result (log.new.fires ≡ log.old.fires) }
     ensures rounds { OnOk result (log.new.dirty_rounds ≡ log.old.dirty_rounds) }
 {
@@ -125,9 +129,11 @@ fn next_dirty<W: World>(w: &mut W, log: &mut Log) -> Result<Found, Memory>
 fn walk<W: World>(w: &mut W, log: &mut Log) -> Result<Walked, Memory>
     requires stage { MayAdvance (W.moves.at w.old).stage (W.moves.machine.waits (W.moves.at w.old).state) }
     requires log { log.old ≡ (W.moves.at w.old).log }
+    requires holds { W.moves.Holds w.old }
     ensures run { IfOk result (λ end. Walks W.moves.machine (W.moves.at w.old) end (W.moves.at w.new)) }
     ensures stage { IfOk result (λ end. (W.moves.at w.new).stage ≡ StageWalked end) }
     ensures log { OnOk result (log.new ≡ (W.moves.at w.new).log) }
+    ensures holds { OnOk result (W.moves.Holds w.new) }
     ensures rounds { OnOk result (log.new.dirty_rounds ≡ log.old.dirty_rounds) }
 {
     loop {
@@ -148,9 +154,11 @@ fn walk<W: World>(w: &mut W, log: &mut Log) -> Result<Walked, Memory>
 fn round<W: World>(w: &mut W, log: &mut Log) -> Result<RoundEnd, Memory>
     requires stage { (W.moves.at w.old).stage ≡ Between }
     requires log { log.old ≡ (W.moves.at w.old).log }
+    requires holds { W.moves.Holds w.old }
     ensures run { IfOk result (λ end. Round W.moves.machine (W.moves.at w.old) end (W.moves.at w.new)) }
     ensures stage { IfOk result (λ end. StageRound end (W.moves.at w.new).stage) }
     ensures log { OnOk result (log.new ≡ (W.moves.at w.new).log) }
+    ensures holds { OnOk result (W.moves.Holds w.new) }
     ensures count { IfOk result (λ end. CountsRound end log.old.dirty_rounds log.new.dirty_rounds) }
 {
     w.start_round();
@@ -176,10 +184,12 @@ fn round<W: World>(w: &mut W, log: &mut Log) -> Result<RoundEnd, Memory>
 fn settle<W: World>(w: &mut W, log: &mut Log) -> Result<End, Memory>
     requires stage { (W.moves.at w.old).stage ≡ Between }
     requires log { log.old ≡ (W.moves.at w.old).log }
+    requires holds { W.moves.Holds w.old }
     requires few { log.old.dirty_rounds ≤ 10 }
     ensures run { IfOk result (λ end. Rounds W.moves.machine (W.moves.at w.old) end (W.moves.at w.new)) }
     ensures stage { IfOk result (λ end. StageEnd end (W.moves.at w.new).stage) }
     ensures log { OnOk result (log.new ≡ (W.moves.at w.new).log) }
+    ensures holds { OnOk result (W.moves.Holds w.new) }
 {
     'rounds: loop {
         match round(w, log)? {
@@ -196,8 +206,10 @@ fn settle<W: World>(w: &mut W, log: &mut Log) -> Result<End, Memory>
 
 /// What comes once the rounds have settled.
 fn finish<W: World>(w: &mut W, report: Report) -> Result<Report, DigestFault>
-    requires { (W.moves.at w.old).stage ≡ Calm }
-    ensures { Finishes W.moves.machine (W.moves.at w.old) report result (W.moves.at w.new) }
+    requires stage { (W.moves.at w.old).stage ≡ Calm }
+    requires holds { W.moves.Holds w.old }
+    ensures end { Finishes W.moves.machine (W.moves.at w.old) report result (W.moves.at w.new) }
+    ensures holds { Unless result (W.moves.Holds w.new) }
 {
     match w.post() {
         Ok(()) => {}
@@ -213,7 +225,9 @@ fn finish<W: World>(w: &mut W, report: Report) -> Result<Report, DigestFault>
 fn run<W: World>(w: &mut W) -> Result<Report, DigestFault>
     requires stage { (W.moves.at w.old).stage ≡ Between }
     requires log { (W.moves.at w.old).log ≡ zero_log }
-    ensures { Digests W.moves.machine (W.moves.at w.old) result (W.moves.at w.new) }
+    requires holds { W.moves.Holds w.old }
+    ensures run { Digests W.moves.machine (W.moves.at w.old) result (W.moves.at w.new) }
+    ensures holds { Unless result (W.moves.Holds w.new) }
 {
     let mut log = Log::new();
     let end = match settle(w, &mut log) {
@@ -245,6 +259,7 @@ pub fn digest<W: World>(w: &mut W) -> Result<Report, DigestFault>
     requires stage { (W.moves.at w.old).stage ≡ Between }
     requires log { (W.moves.at w.old).log ≡ zero_log }
     requires forgotten { (W.moves.at w.old).remembered ≡ None }
+    requires holds { W.moves.Holds w.old }
     ensures short { Digests W.moves.machine (W.moves.at w.old) result (W.moves.at w.new) }
     ensures plain { Unless result (PlainDigests W.moves.machine (W.moves.at w.old).state (plain_answer result) (plain_of (W.moves.at w.new))) }
     ensures fresh { OnSettled result (λ tests. IsFresh W.moves.machine tests (W.moves.at w.new).state) }
@@ -254,6 +269,7 @@ pub fn digest<W: World>(w: &mut W) -> Result<Report, DigestFault>
     ensures faulted { Unless result ((first : Fault) (count : ℕ) → result ≡ Err (Faulted first count) ↔ HasSettled W.moves.machine (Some (first, count)) (W.moves.at w.new)) }
     ensures settled { Unless result (IsOk result ↔ HasSettled W.moves.machine None (W.moves.at w.new)) }
     ensures report { IfOk result (λ report. IsReport report (W.moves.at w.new).log) }
+    ensures holds { Unless result (W.moves.Holds w.new) }
 {
     run(w)
 }

@@ -18,7 +18,7 @@ abbrev pub with_state : Place State ℕ → State → Place State ℕ
 with_state p s = record p { state = s }
 
 abbrev pub engine_moves : Moves Engine
-engine_moves = record { State = State; Key = ℕ; machine = page_machine; at = place_of }
+engine_moves = record { State = State; Key = ℕ; machine = page_machine; at = place_of; Holds = λ w. Unit {0} }
 
 -- where a digest begins: nothing was counted, remembered or handed over yet
 abbrev pub ready_place : State → Place State ℕ

@@ -15,6 +15,7 @@ loop-w-preserved g c =
     record {
       stage = ap (λ p. p.stage) stepped ∙ c.loop-w.invariant.stage;
       log = grind (arith, ap (λ p. p.log) stepped);
+      holds = c.in_ok-_ran.ensures.holds;
       rounds = grind arith;
       run = λ over end d. c.loop-w.invariant.run over end (ran_one waited (grind arith) (subst (λ p. Drains m.machine p over end) stepped d));
     }

@@ -9,6 +9,7 @@ invariant-loop-w g l =
     record {
       stage : (m.at l.w).stage ≡ Draining;
       log : l.log ≡ (m.at l.w).log;
+      holds : m.Holds l.w;
       rounds : l.log.dirty_rounds ≡ l.initial.log.dirty_rounds;
       run : (over : Bool) (end : _) → Drains m.machine (m.at l.w) over end → Drains m.machine (m.at l.initial.w) over end;
     }

@@ -42,6 +42,7 @@ loop-w-preserved g c =
     record {
       stage = may_advance _ _ (stage_passed m.machine (m.at c.next_after.new.self) (m.at c.test-tested.new.self) other clean tested);
       log = grind (arith, ap (λ p. p.log) tested, ap (λ p. p.log) c.in_ok-next_after.ensures.step);
+      holds = was_tested _ _ c.in-Clean.is c.test-tested.ensures.holds;
       rounds = grind arith;
       fires = grind arith;
       run = λ found end d. c.loop-w.invariant.run found end (passed_found m.machine _ (m.at c.next_after.new.self) _ _ _ (sym c.if-branch.true ∙ c.in_ok-next_after.ensures.answer) c.in_ok-next_after.ensures.sorted c.in_ok-next_after.ensures.step other clean tested d);

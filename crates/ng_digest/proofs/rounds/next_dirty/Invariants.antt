@@ -10,6 +10,7 @@ invariant-loop-w g l =
     record {
       stage : MayAdvance (m.at l.w).stage (m.machine.waits (m.at l.w).state);
       log : l.log ≡ (m.at l.w).log;
+      holds : m.Holds l.w;
       rounds : l.log.dirty_rounds ≡ l.initial.log.dirty_rounds;
       fires : l.log.fires ≡ l.initial.log.fires;
       run : (found : _) (end : _) → Skips m.machine (m.at l.w) found end → Skips m.machine (m.at l.initial.w) found end;

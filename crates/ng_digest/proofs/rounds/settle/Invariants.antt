@@ -9,6 +9,7 @@ invariant-rounds g l =
     record {
       stage : (m.at l.w).stage ≡ Between;
       log : l.log ≡ (m.at l.w).log;
+      holds : m.Holds l.w;
       few : l.log.dirty_rounds ≤ 10;
       run : (how : _) (end : _) → Rounds m.machine (m.at l.w) how end → Rounds m.machine (m.at l.initial.w) how end;
     }

@@ -9,6 +9,7 @@ invariant-loop-w g l =
     record {
       stage : MayAdvance (m.at l.w).stage (m.machine.waits (m.at l.w).state);
       log : l.log ≡ (m.at l.w).log;
+      holds : m.Holds l.w;
       rounds : l.log.dirty_rounds ≡ l.initial.log.dirty_rounds;
       run : (walked : _) (end : _) → Walks m.machine (m.at l.w) walked end → Walks m.machine (m.at l.initial.w) walked end;
     }
