@@ -11,7 +11,7 @@ use std::marker::Model;
 use std::mem;
 
 /// The key that was last dirty, which is not copied while the cursor stands there.
-#[derive(Drop)]
+#[derive(Debug, Drop)]
 enum Last<K> {
     Nothing,
     AtCursor,
@@ -19,7 +19,7 @@ enum Last<K> {
 }
 
 /// The key at the cursor, the key that was last dirty, which call may come, and what was counted.
-#[derive(Drop)]
+#[derive(Debug, Drop)]
 pub struct Progress<K> {
     cursor: Option<K>,
     last: Last<K>,
@@ -81,10 +81,10 @@ impl<K> Progress<K> {
     }
 
     /// What was counted.
-    pub fn log(&self) -> Log
-        ensures { result ≡ self.now.log }
+    pub fn log(&self) -> &Log
+        ensures { result.now ≡ self.now.log }
     {
-        self.log
+        &self.log
     }
 
     /// The key that was last dirty.

@@ -4,6 +4,7 @@ ghost use Rattle.ng_digest.specs.Laws.{HasLaws, InOrder};
 ghost use Rattle.ng_digest.specs.Machine.{next_key, ahead, found_dirty};
 ghost use Rattle.ng_digest.specs.Place.{Moves, MayAdvance, begun, after_task, advanced, found, after_test, after_fire, is_remembered, is_dirty, closed, posted, given_up, Answers, OnTested};
 
+use crate::log::Log;
 use ng_base::fault::{Fault, Memory};
 
 /// What a test of a watcher found.
@@ -111,6 +112,10 @@ pub trait World {
         requires { moves.Holds self.old }
         ensures step { moves.at self.new ≡ given_up moves.machine (moves.at self.old) }
         ensures holds { moves.Holds self.new };
+
+    /// What was counted in this digest.
+    fn log(&self) -> &Log
+        ensures { result.now ≡ (moves.at self.now).log };
 
     /// The first fault that was handed over in this digest, and their count.
     fn handed(&self) -> Option<(Fault, u32)>

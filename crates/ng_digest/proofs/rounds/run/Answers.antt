@@ -11,7 +11,7 @@ returns-in-Err-clause-run g c = gives_memory
 pub returns-in-Settled-clause-run : goal.returns-in-Settled-clause-run
 returns-in-Settled-clause-run g c =
     let m = g.W.World.moves in
-    finished m.machine _ (m.at c.settle.new.w) _ c.in-Settled.stopped _ c.finish.result (search rules) (c.report-report.ensures ∙ ap (λ l. report_of l c.in-Settled.stopped) c.in-Ok.ensures.log) c.finish.ensures.end
+    finished m.machine _ (m.at c.settle.new.w) _ c.in-Settled.stopped _ c.finish.result (search rules) (c.report-report.ensures ∙ ap (λ l. report_of l c.in-Settled.stopped) c.log.ensures) c.finish.ensures.end
 
 pub returns-in-Infdig-clause-run : goal.returns-in-Infdig-clause-run
 returns-in-Infdig-clause-run g c =

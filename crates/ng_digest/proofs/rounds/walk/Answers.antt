@@ -18,8 +18,7 @@ loop-w-preserved g c =
     let fired = c.in_ok-fire.ensures.step in
     record {
       stage = may_advance _ _ (ap (λ p. p.stage) fired);
-      log = grind (arith, ap (λ p. p.log) fired);
       holds = c.in_ok-fire.ensures.holds;
-      rounds = grind arith;
+      rounds = grind (arith, ap (λ p. p.log) fired);
       run = λ walked end d. c.loop-w.invariant.run walked end (fired_one {q = m.at c.next_dirty.new.w} (search rules) (grind arith) (subst (λ p. Walks m.machine p walked end) fired d));
     }
