@@ -1,10 +1,12 @@
 //! A chain: entries under rising serials, and the walks that are open on them.
 ghost use Rattle.std.specs.Prelude.{◌≡◌, ◌+◌, ◌<◌, ◌++◌, ◌↔◌, [], ◌∷◌, Some, None, IsSome, length, MatchOption, MatchResult, option_and_then, option_copied, replicate};
+ghost use Rattle.ng_chain.specs.Slots.{standing};
 ghost use Rattle.ng_chain.specs.WalkLaw.{WalkLaw};
 ghost use Rattle.ng_chain.specs.Walked.{found, value_of, serial_of, walk_at, with_walk, with_entries, without, Steps, open_walks, IsRising};
 
+pub use super::slots::Slot;
 use super::slots::{
-    Slot, close_holes, free_place, hollow, is_idle, next_in, take_from, value_at, value_in,
+    close_holes, free_place, hollow, is_idle, next_in, take_from, value_at, value_in,
 };
 use ng_base::fault::Memory;
 use ng_base::name::Serial;
@@ -110,6 +112,13 @@ impl<T> Chain<T> {
         ensures { value_of self.now.entries t.now ≡ Some result.now }
     {
         value_in(self.slots.as_slice(), t)
+    }
+
+    /// Its slots, from the first on: the entries that stand, and holes.
+    pub fn slots(&self) -> &[Slot<T>]
+        ensures { standing result.now ≡ self.now.entries }
+    {
+        self.slots.as_slice()
     }
 
     /// Begins a walk over the entries that stand now.

@@ -7,4 +7,3 @@ pub mod Tables
 pub mod Quiet
 pub mod Walks
 pub mod Apart
-pub mod Silent

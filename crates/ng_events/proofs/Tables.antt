@@ -12,7 +12,7 @@ use Rattle.ng_events.specs.declared.stands.Stand.{Stand}
 use Rattle.ng_events.specs.declared.stands.Home.{Home}
 use Rattle.ng_events.specs.Stands.{all_heard, chain_at, change_chain, pushed, removed, seen, no_chain, open_on, entries_of}
 use Rattle.ng_events.specs.Names.{Names, AreSame}
-use Rattle.ng_events.specs.Sound.{AreThere, HaveHomes, HavePlaces, LeavesWalks}
+use Rattle.ng_events.specs.Sound.{AreThere, HaveHomes, HavePlaces, ArePlaces, LeavesWalks}
 use Rattle.ng_events.proofs.Entries.{entries-append, without-last}
 use Rattle.ng_events.proofs.Changed.{or_new, place-added, place-kept, walks-kept, open-change, change-length, change-same, change-other, heard-change, heard-push, heard-length, heard-read, chain-added, place-within}
 use Rattle.ng_events.proofs.Homes.{there-kept, known-kept}
@@ -40,18 +40,35 @@ places-added xs y m k e h p s n = h s n ∙ (ap (cond (eqb s y.scope && bytes_eq
     by-test false None q = refl
     by-test false (Some i) q = refl
 
+pub alone-added : (xs : List Stand) (y : Stand) → place_of (all_heard xs) y.scope y.name ≡ None → ArePlaces xs → ArePlaces (xs ++ y ∷ [])
+alone-added xs y e a i h = elim (eqb_tells i (length xs)) [
+  | inl t ↦ record { scope = y.scope; name = y.name; place = place-added xs y y.scope y.name ∙ (ap (λ o. or_new o (eqb y.scope y.scope && bytes_eq y.name y.name) (length xs)) e ∙ (ap (λ b. cond (b && bytes_eq y.name y.name) (Some (length xs)) None) (itself y.scope) ∙ (ap (λ b. cond b (Some (length xs)) None) ((bytes_eq-Decides y.name y.name).1 refl) ∙ ap (λ n. Some n) (sym t.1)))) }
+  | inr t ↦
+      let n : length (xs ++ y ∷ []) ≡ length xs + 1 = length-added xs in
+      let z = a i (let f = t.1 in let q : i < length xs = omega arith in q) in
+      record { scope = z.scope; name = z.name; place = place-added xs y z.scope z.name ∙ ap (λ o. or_new o (eqb z.scope y.scope && bytes_eq z.name y.name) (length xs)) z.place }
+]
+  where
+    itself : (n : ℕ) → eqb n n ≡ true
+    itself n = elim (eqb_tells n n) [ inl u ↦ u.0 | inr u ↦ absurd (u.1 refl) ]
+
+    length-added : (zs : List Stand) → length (zs ++ y ∷ []) ≡ length zs + 1
+    length-added [] = refl
+    length-added (z ∷ zs) = let q = length-added zs in omega arith
+
 pub leaves-itself : (xs : List Stand) → LeavesWalks xs xs
-leaves-itself xs = record { walks = refl; places = λ s n. refl; counted = refl }
+leaves-itself xs = record { walks = refl; places = λ s n. refl; counted = refl; as_long = refl }
 
 pub leaves-change : (xs : List Stand) (i : ℕ) (f : Walked Registered → Walked Registered) → i < length xs → ((c : Walked Registered) → (f c).walks ≡ c.walks) → LeavesWalks xs (change_chain xs i f)
 leaves-change xs i f h k = record {
   walks = walks-kept xs i f k;
   places = λ s n. place-kept xs i s n f;
   counted = (let e = open-change xs i f h in let d = ap open_walks (k (chain_at xs i)) in omega arith);
+  as_long = change-length xs i f;
 }
 
 pub leaves-through : (xs ys zs : List Stand) → LeavesWalks xs ys → LeavesWalks ys zs → LeavesWalks xs zs
-leaves-through xs ys zs a b = record { walks = b.walks ∙ a.walks; places = λ s n. b.places s n ∙ a.places s n; counted = b.counted ∙ a.counted }
+leaves-through xs ys zs a b = record { walks = b.walks ∙ a.walks; places = λ s n. b.places s n ∙ a.places s n; counted = b.counted ∙ a.counted; as_long = b.as_long ∙ a.as_long }
 
 -- a listener that was added and taken out again
 back-entries : (xs : List Stand) (i : ℕ) (t : Token) (l : Registered) → i < length xs → IsRising 0 (chain_at xs i).last (chain_at xs i).entries → (chain_at xs i).last < serial_of t → (j : ℕ) → (chain_at (change_chain (change_chain xs i (pushed t l)) i (removed t)) j).entries ≡ (chain_at xs j).entries

@@ -15,15 +15,22 @@ use Rattle.ng_events.specs.declared.stands.Home.{Home}
 use Rattle.ng_events.specs.declared.stands.EventWalk.{EventWalk}
 use Rattle.ng_events.specs.declared.stands.EventWalk.TheVariants.{Bare, On}
 use Rattle.ng_events.specs.Stands.{Table, IsOpen, open_of, all_heard, chain_at, change_chain, begun, walked, walks_on, open_on, put_walk, entries_of, Hears}
-use Rattle.ng_events.specs.Sound.{IsSound}
+use Rattle.ng_events.specs.Sound.{IsSound, ArePlaces}
 use Rattle.ng_events.proofs.Entries.{rising-seen}
 use Rattle.ng_events.proofs.Changed.{change-length, change-keeps, heard-kept, heard-read, walks-put, place-kept, open-change, open-within, open-begun, open-gone, open-ended}
 use Rattle.ng_events.proofs.Homes.{there-kept, known-kept}
+
+alone-changed : (xs : List Stand) (i : ℕ) (f : Walked Registered → Walked Registered) → ArePlaces xs → ArePlaces (change_chain xs i f)
+alone-changed xs i f a j h =
+    let e = change-length xs i f in
+    let z = a j (omega arith) in
+    record { scope = z.scope; name = z.name; place = place-kept xs i z.scope z.name f ∙ z.place }
 
 -- what no change of walks touches
 sound-walks : (xs : List Stand) (names : BTreeMap ℕ (BTreeMap (List ℕ) ℕ)) (homes : BTreeMap ℕ Home) (w v b i : ℕ) (f : Walked Registered → Walked Registered) → ((c : Walked Registered) → (f c).entries ≡ c.entries) → IsSound xs names homes w b → v ≡ open_on (change_chain xs i f) + b → v ≤ 64 → IsSound (change_chain xs i f) names homes v b
 sound-walks xs names homes w v b i f k s e l = record {
   places = λ r n. s.places r n ∙ sym (place-kept xs i r n f);
+  alone = alone-changed xs i f s.alone;
   there = there-kept xs (change_chain xs i f) homes (let q = change-length xs i f in omega arith) (λ j. change-keeps (λ c. c.entries) xs i j f k) s.there;
   known = known-kept xs (change_chain xs i f) homes (λ j. change-keeps (λ c. c.entries) xs i j f k) s.known;
   counted = e;
@@ -41,10 +48,10 @@ sound-begun xs names homes w b i k s t h l e =
     sound-walks xs names homes w (w + 1) b i (begun k) (λ c. refl) s (let o = begun-open xs i k h l e in let q = s.counted in omega arith) (omega arith)
 
 pub sound-bare : (xs : List Stand) (names : BTreeMap ℕ (BTreeMap (List ℕ) ℕ)) (homes : BTreeMap ℕ Home) (w b : ℕ) → IsSound xs names homes w b → w < 64 → IsSound xs names homes (w + 1) (b + 1)
-sound-bare xs names homes w b s t = record { places = s.places; there = s.there; known = s.known; counted = (let q = s.counted in omega arith); few = omega arith }
+sound-bare xs names homes w b s t = record { places = s.places; alone = s.alone; there = s.there; known = s.known; counted = (let q = s.counted in omega arith); few = omega arith }
 
 pub sound-unbare : (xs : List Stand) (names : BTreeMap ℕ (BTreeMap (List ℕ) ℕ)) (homes : BTreeMap ℕ Home) (w b : ℕ) → IsSound xs names homes w b → 0 < b → IsSound xs names homes (w - 1) (b - 1)
-sound-unbare xs names homes w b s t = record { places = s.places; there = s.there; known = s.known; counted = (let q = s.counted in omega arith); few = (let q = s.few in omega arith) }
+sound-unbare xs names homes w b s t = record { places = s.places; alone = s.alone; there = s.there; known = s.known; counted = (let q = s.counted in omega arith); few = (let q = s.few in omega arith) }
 
 pub begun-walks : (xs : List Stand) (i k : ℕ) → i < length xs → walks_on (change_chain xs i (begun k)) ≡ put_walk (walks_on xs) i k (Some (record { place = 0; end = (heard_at (all_heard xs) i).last }))
 begun-walks xs i k h = walks-put xs i k (Some (record { place = 0; end = (heard_at (all_heard xs) i).last })) (begun k) h (ap (λ n. set (chain_at xs i).walks k (Some (record { place = 0; end = n }))) (sym (heard-read xs i).1))

@@ -28,8 +28,18 @@ HaveHomes xs homes = (l k : ℕ) (e : Token × Registered) → slice_get (chain_
 abbrev pub HavePlaces : List Stand → BTreeMap ℕ (BTreeMap (List ℕ) ℕ) → Type 0
 HavePlaces xs names = (s : ℕ) (n : List ℕ) → named names s n ≡ place_of (all_heard xs) s n
 
+-- no two lists are of one scope and name: each is the place of its own
+pub record IsPlace (xs : List Stand) (i : ℕ) : Type 0 where
+  pub scope : ℕ
+  pub name : List ℕ
+  pub place : place_of (all_heard xs) scope name ≡ Some i
+
+abbrev pub ArePlaces : List Stand → Type 0
+ArePlaces xs = (i : ℕ) → i < length xs → IsPlace xs i
+
 pub record IsSound (xs : List Stand) (names : BTreeMap ℕ (BTreeMap (List ℕ) ℕ)) (homes : BTreeMap ℕ Home) (open_walks bare : ℕ) : Type 0 where
   pub places : HavePlaces xs names
+  pub alone : ArePlaces xs
   pub there : AreThere xs homes
   pub known : HaveHomes xs homes
   pub counted : open_walks ≡ open_on xs + bare
@@ -40,3 +50,4 @@ pub record LeavesWalks (xs ys : List Stand) : Type 0 where
   pub walks : walks_on ys ≡ walks_on xs
   pub places : (s : ℕ) (n : List ℕ) → place_of (all_heard ys) s n ≡ place_of (all_heard xs) s n
   pub counted : open_on ys ≡ open_on xs
+  pub as_long : length ys ≡ length xs

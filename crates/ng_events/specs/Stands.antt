@@ -1,5 +1,5 @@
 -- What the lists of a table of listeners stand for, and the walks that are open on them.
-use Rattle.std.specs.Prelude.{ℕ, zero, suc, ◌+◌, ◌<◌, ◌≡◌, Bool, true, false, eqb, List, [], ◌∷◌, ◌++◌, length, map, Option, Some, None, IsSome, option_map, replicate, slice_set, if◌then◌else◌}
+use Rattle.std.specs.Prelude.{ℕ, zero, suc, ◌+◌, ◌<◌, ◌≡◌, Bool, true, false, ◌||◌, eqb, List, [], ◌∷◌, ◌++◌, length, map, Option, Some, None, IsSome, option_map, replicate, slice_set, if◌then◌else◌}
 use Rattle.ng_base.specs.declared.name.FunId.{FunId}
 use Rattle.ng_chain.specs.Walked.{Walked, walk_at, open_walks, serial_of, with_entries, with_walk, without}
 use Rattle.ng_chain.specs.declared.chain.Span.{Span}
@@ -59,19 +59,19 @@ walked k w c = with_walk c k w
 abbrev pub begun : ℕ → Walked Registered → Walked Registered
 begun k c = with_walk c k (Some (record { place = 0; end = c.last }))
 
-abbrev pub quiet_stand : ℕ → Stand → Stand
-quiet_stand s x = if eqb s x.scope then record { scope = x.scope; name = x.name; chain = with_entries x.chain [] } else x
+-- nobody is in a list any more
+abbrev pub emptied : Walked Registered → Walked Registered
+emptied c = with_entries c []
 
-abbrev pub change_stand : List Stand → ℕ → (Stand → Stand) → List Stand
-change_stand [] i f = []
-change_stand (x ∷ xs) zero f = f x ∷ xs
-change_stand (x ∷ xs) (suc i) f = x ∷ change_stand xs i f
+-- so at each of these places
+abbrev pub empty_at : List ℕ → List Stand → List Stand
+empty_at [] xs = xs
+empty_at (i ∷ is) xs = empty_at is (change_chain xs i emptied)
 
--- the first so many lists are quiet, if they are of the scope
-abbrev pub quiet_first : ℕ → ℕ → List Stand → List Stand
-quiet_first zero s xs = xs
-quiet_first (suc n) s [] = []
-quiet_first (suc n) s (x ∷ xs) = quiet_stand s x ∷ quiet_first n s xs
+-- one of these entries is a listener of that name
+abbrev pub is_named : ℕ → List (Token × Registered) → Bool
+is_named q [] = false
+is_named q (e ∷ es) = eqb q e.1.id.0 || is_named q es
 
 -- the walks on each list: none on one that is not there yet
 abbrev pub walks_on : List Stand → ℕ → List (Option Span)
@@ -125,9 +125,3 @@ Goes t (On i w) r u = Hears (heard_at (lists_of t) i).entries (walk_at (walks_at
 abbrev pub Ends : Table → EventWalk → Table → Type 0
 Ends t Bare u = (u.bare + 1 ≡ t.bare) × (walks_at u ≡ walks_at t)
 Ends t (On i w) u = (u.bare ≡ t.bare) × (walks_at u ≡ put_walk (walks_at t) i w.slot None)
-
--- a list is of a scope
-abbrev pub is_of : List Stand → ℕ → ℕ → Bool
-is_of [] s l = false
-is_of (x ∷ xs) s zero = eqb s x.scope
-is_of (x ∷ xs) s (suc l) = is_of xs s l

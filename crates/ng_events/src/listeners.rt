@@ -4,7 +4,7 @@ ghost use Rattle.ng_behaviour.specs.Listeners.{with_listener, without_listener, 
 ghost use Rattle.ng_events.specs.Stands.{lists_of, walks_at, open_of, IsOpen, Begins, Goes, Ends};
 ghost use Rattle.ng_parse.specs.ProgramOf.{program};
 
-use crate::names::{is_known, place_in};
+use crate::names::place_in;
 pub use crate::stands::EventWalk;
 use crate::stands::{Home, Listener, Stand, close_in, hear_in, walk_in};
 use crate::table::{add_listener, drop_listener, find_listener, list_of, quiet_scope};
@@ -157,8 +157,6 @@ impl Listeners {
         ensures bare { self.new.bare ≡ self.old.bare }
         ensures open { open_of self.new ≡ open_of self.old }
     {
-        if is_known(&self.names, s.0) {
-            quiet_scope(&mut self.stands, &mut self.homes, s.0);
-        }
+        quiet_scope(&mut self.stands, &mut self.homes, &self.names, s.0);
     }
 }

@@ -22,13 +22,6 @@ pub fn place_in(
     }
 }
 
-/// Whether a scope ever had a listener.
-pub fn is_known(names: &BTreeMap<u32, BTreeMap<Txt, usize>>, scope: u32) -> bool
-    ensures { result ≡ is_some (get nat_cmp names.now scope) }
-{
-    names.get(&scope).is_some()
-}
-
 /// A name of a scope has a place.
 pub fn enter(
     names: &mut BTreeMap<u32, BTreeMap<Txt, usize>>,

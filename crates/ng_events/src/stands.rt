@@ -1,12 +1,13 @@
 //! The lists of listeners, one for each scope and name.
 ghost use Rattle.std.specs.Prelude.{◌≡◌, ◌<◌, ◌+◌, ◌++◌, ◌∷◌, ◌↔◌, [], Some, None, IsSome, length, option_map, MatchOption, IfOk, OnOk, OnErr, replicate, vec_len};
 ghost use Rattle.ng_chain.specs.Walked.{value_of, found, walk_at, with_walk, open_walks, serial_of, IsRising};
-ghost use Rattle.ng_events.specs.Stands.{chain_at, change_chain, pushed, removed, walked, begun, quiet_first, quiet_stand, change_stand, entries_of, Hears, no_chain, walks_on};
+ghost use Rattle.ng_chain.specs.Slots.{standing};
+ghost use Rattle.ng_events.specs.Stands.{chain_at, change_chain, pushed, removed, walked, begun, emptied, entries_of, Hears, no_chain, walks_on};
 
 use ng_base::fault::Memory;
 use ng_base::name::FunId;
 use ng_base::txt::Txt;
-use ng_chain::chain::{Chain, Token, Walk};
+use ng_chain::chain::{Chain, Slot, Token, Walk};
 use ng_parse::Program;
 use std::alloc::{AllocError, Global};
 
@@ -153,23 +154,22 @@ pub fn close_in(stands: &mut Vec<Stand>, i: usize, w: Walk)
     stand.chain.close(w);
 }
 
-/// Takes the listeners of a scope out.
-pub fn quiet_in(stands: &mut Vec<Stand>, scope: u32)
-    ensures { stands.new.items ≡ quiet_first (vec_len stands.old) scope stands.old.items }
+/// The slots of a list.
+#[tactic(auto, using(crate::proofs::Chains::writes))]
+pub fn slots_in(stands: &[Stand], i: usize) -> &[Slot<Listener>]
+    requires { i < length stands.now }
+    ensures { standing result.now ≡ (chain_at stands.now i).entries }
 {
-    for i in 0..stands.len() {
-        quiet_one(stands, i, scope);
-    }
+    let stand = &stands[i];
+    stand.chain.slots()
 }
 
+/// Takes everyone out of a list.
 #[tactic(auto, using(crate::proofs::Chains::writes))]
-fn quiet_one(stands: &mut Vec<Stand>, i: usize, scope: u32)
+pub fn clear_in(stands: &mut Vec<Stand>, i: usize)
     requires { i < vec_len stands.old }
-    ensures new { stands.new.items ≡ change_stand stands.old.items i (quiet_stand scope) }
-    ensures len { vec_len stands.new ≡ vec_len stands.old }
+    ensures { stands.new.items ≡ change_chain stands.old.items i emptied }
 {
     let stand = &mut stands[i];
-    if stand.scope == scope {
-        stand.chain.clear();
-    }
+    stand.chain.clear();
 }

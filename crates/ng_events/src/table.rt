@@ -1,16 +1,20 @@
 //! The lists of listeners with the maps that find them.
-ghost use Rattle.std.specs.Prelude.{◌≡◌, ◌<◌, ◌≤◌, ◌++◌, ◌∷◌, ◌↔◌, [], Some, None, not, is_some, length, option_map, IfOk, OnOk, OnErr, vec_len};
-ghost use Rattle.std.specs.BTreeMap.{get, IsOrdered};
-ghost use Rattle.std.specs.List.{filter};
+ghost use Rattle.std.specs.Prelude.{◌≡◌, ◌<◌, ◌≤◌, ◌++◌, ◌∷◌, ◌↔◌, [], ℕ, if◌then◌else◌, Some, None, is_some, length, option_map, IfOk, OnOk, OnErr, vec_len};
+ghost use Rattle.std.specs.BTreeMap.{get, values, IsOrdered};
 ghost use Rattle.std.specs.Ordering.{nat_cmp};
 ghost use Rattle.ng_behaviour.specs.Listeners.{Listener as Listened, with_listener, last_of, hear_at, listened, called, without_listener, without_listeners_of, place_of};
-ghost use Rattle.ng_events.specs.Stands.{all_heard, chain_at, no_chain, open_on, seen, is_of};
-ghost use Rattle.ng_events.specs.Sound.{AreThere, HaveHomes, HavePlaces, LeavesWalks};
+ghost use Rattle.ng_base.specs.Order.{txt_cmp};
+ghost use Rattle.ng_chain.specs.Slots.{standing, entry_before};
+ghost use Rattle.ng_events.specs.Stands.{all_heard, chain_at, change_chain, no_chain, open_on, seen, emptied, empty_at, is_named};
+ghost use Rattle.ng_events.specs.Sound.{AreThere, HaveHomes, HavePlaces, ArePlaces, LeavesWalks};
 
 use crate::names::{enter, place_in};
-use crate::stands::{Home, Listener, Stand, add_stand, listener_in, push_in, quiet_in, remove_in};
+use crate::stands::{
+    Home, Listener, Stand, add_stand, clear_in, listener_in, push_in, remove_in, slots_in,
+};
 use ng_base::fault::Memory;
 use ng_base::txt::Txt;
+use ng_chain::chain::Slot;
 use std::alloc::{AllocError, Global};
 use std::collections::BTreeMap;
 
@@ -24,9 +28,11 @@ pub fn add_list(
 ) -> Result<(), AllocError>
     requires places { HavePlaces stands.old.items names.old }
     requires none { place_of (all_heard stands.old.items) scope name.now ≡ None }
+    requires alone { ArePlaces stands.old.items }
     ensures ok { OnOk result (stands.new.items ≡ stands.old.items ++ record { scope = scope; name = name.now; chain = no_chain } ∷ []) }
     ensures err { OnErr result (stands.new.items ≡ stands.old.items) }
     ensures places { HavePlaces stands.new.items names.new }
+    ensures alone { ArePlaces stands.new.items }
 {
     let place = stands.len();
     add_stand(stands, alloc, scope, name)?;
@@ -48,6 +54,7 @@ pub fn list_of(
     name: &Txt,
 ) -> Result<usize, AllocError>
     requires places { HavePlaces stands.old.items names.old }
+    requires alone { ArePlaces stands.old.items }
     ensures within { IfOk result (λ i. i < vec_len stands.new) }
     ensures lists { IfOk result (λ i. (l : Listened) → hear_at (all_heard stands.new.items) i (listened l) ≡ with_listener (all_heard stands.old.items) scope name.now l) }
     ensures last { IfOk result (λ i. (chain_at stands.new.items i).last ≡ last_of (all_heard stands.old.items) scope name.now) }
@@ -56,6 +63,7 @@ pub fn list_of(
     ensures chains { chain_at stands.new.items ≡ chain_at stands.old.items }
     ensures open { open_on stands.new.items ≡ open_on stands.old.items }
     ensures longer { vec_len stands.old ≤ vec_len stands.new }
+    ensures alone { ArePlaces stands.new.items }
 {
     match place_in(names, scope, name) {
         Some(list) => Ok(list),
@@ -131,35 +139,74 @@ pub fn find_listener<'a>(
     }
 }
 
-/// Whether a list is of a scope.
-#[tactic(auto, using(crate::proofs::Chains::scopes))]
-fn is_of(stands: &[Stand], scope: u32, list: usize) -> bool
-    ensures { result ≡ is_of stands.now scope list }
+/// Forgets where the listener of a slot stands.
+fn forget_one(homes: &mut BTreeMap<u32, Home>, slot: &Slot<Listener>)
+    ensures { (q : ℕ) → get nat_cmp homes.new q ≡ (if is_named q (entry_before slot.now.serial slot.now.value []) then None else get nat_cmp homes.old q) }
 {
-    if list >= stands.len() {
-        return false;
+    if let Some(listener) = &slot.value {
+        homes.remove(&listener.id.0);
     }
-    let stand = &stands[list];
-    scope == stand.scope
 }
 
-/// Forgets where the listeners of a scope stand.
-fn forget(homes: &mut BTreeMap<u32, Home>, stands: &[Stand], scope: u32)
-    ensures filtered { homes.new.entries ≡ filter (λ e. not (is_of stands.now scope e.1.list)) homes.old.entries }
-    ensures ordered { IsOrdered nat_cmp homes.old }
+/// Forgets where the listeners of a list stand.
+fn forget(homes: &mut BTreeMap<u32, Home>, slots: &[Slot<Listener>])
+    ensures { (q : ℕ) → get nat_cmp homes.new q ≡ (if is_named q (standing slots.now) then None else get nat_cmp homes.old q) }
 {
-    homes.retain(|_, home| !is_of(stands, scope, home.list));
+    for slot in slots {
+        forget_one(homes, slot);
+    }
+}
+
+/// Takes everyone out of a list.
+fn quiet_list(stands: &mut Vec<Stand>, homes: &mut BTreeMap<u32, Home>, list: usize)
+    requires there { AreThere stands.old.items homes.old }
+    requires known { HaveHomes stands.old.items homes.old }
+    ensures new { stands.new.items ≡ change_chain stands.old.items list emptied }
+    ensures there { AreThere stands.new.items homes.new }
+    ensures known { HaveHomes stands.new.items homes.new }
+{
+    if list < stands.len() {
+        forget(homes, slots_in(stands.as_slice(), list));
+        clear_in(stands, list);
+    }
+}
+
+/// Takes everyone out of the lists at these places.
+fn quiet_lists(
+    stands: &mut Vec<Stand>,
+    homes: &mut BTreeMap<u32, Home>,
+    places: &BTreeMap<Txt, usize>,
+)
+    requires there { AreThere stands.old.items homes.old }
+    requires known { HaveHomes stands.old.items homes.old }
+    ensures new { stands.new.items ≡ empty_at (values places.now) stands.old.items }
+    ensures ordered { IsOrdered txt_cmp places.now }
+    ensures there { AreThere stands.new.items homes.new }
+    ensures known { HaveHomes stands.new.items homes.new }
+{
+    for list in places.values() {
+        quiet_list(stands, homes, *list);
+    }
 }
 
 /// Takes the listeners of a scope out.
-pub fn quiet_scope(stands: &mut Vec<Stand>, homes: &mut BTreeMap<u32, Home>, scope: u32)
+pub fn quiet_scope(
+    stands: &mut Vec<Stand>,
+    homes: &mut BTreeMap<u32, Home>,
+    names: &BTreeMap<u32, BTreeMap<Txt, usize>>,
+    scope: u32,
+)
     requires there { AreThere stands.old.items homes.old }
     requires known { HaveHomes stands.old.items homes.old }
+    requires places { HavePlaces stands.old.items names.now }
+    requires alone { ArePlaces stands.old.items }
     ensures lists { all_heard stands.new.items ≡ without_listeners_of (all_heard stands.old.items) scope }
     ensures leaves { LeavesWalks stands.old.items stands.new.items }
     ensures there { AreThere stands.new.items homes.new }
     ensures known { HaveHomes stands.new.items homes.new }
 {
-    forget(homes, stands.as_slice(), scope);
-    quiet_in(stands, scope);
+    match names.get(&scope) {
+        None => {}
+        Some(places) => quiet_lists(stands, homes, places),
+    }
 }

@@ -1,21 +1,18 @@
-use Rattle.std.proofs.Common.{vec_len, arith, ap, ◌∙◌}
+use Rattle.std.proofs.Common.{sym, ap, ◌∙◌}
 use Rattle.ng_events.specs.Stands.{all_heard}
-use Rattle.ng_events.proofs.Quiet.{quiet-all, quiet-lists, quiet-leaves, quiet-there, quiet-known}
+use Rattle.ng_events.proofs.Quiet.{quiet-scope, quiet-nobody, quiet-lists, quiet-leaves}
 use Rattle.ng_events.proofs.table.quiet_scope.Goals as goal
 
-pub returns-clause-lists : goal.returns-clause-lists
-returns-clause-lists c =
-    ap all_heard (c.quiet_in.ensures ∙ quiet-all c.args.scope c.args.stands.now.items _ (grind arith)) ∙ quiet-lists c.args.scope c.args.stands.now.items
+pub returns-in-None-clause-lists : goal.returns-in-None-clause-lists
+returns-in-None-clause-lists c =
+    ap all_heard (sym (quiet-nobody c.args.stands.now.items c.args.names.now c.args.scope (sym c.in-None.ensures.value) c.requires.places c.requires.alone)) ∙ quiet-lists c.args.scope c.args.stands.now.items
 
-pub returns-clause-leaves : goal.returns-clause-leaves
-returns-clause-leaves c = rw (c.quiet_in.ensures, quiet-all c.args.scope c.args.stands.now.items (vec_len c.args.stands.now) (grind arith)) (quiet-leaves c.args.scope c.args.stands.now.items)
+pub returns-in-Some-clause-lists : goal.returns-in-Some-clause-lists
+returns-in-Some-clause-lists c =
+    ap all_heard (c.quiet_lists.ensures.new ∙ quiet-scope c.args.stands.now.items c.args.names.now c.args.scope c.in-Some.places.now (sym c.in-Some.ensures.value) c.quiet_lists.ensures.ordered c.requires.places c.requires.alone)
+    ∙ quiet-lists c.args.scope c.args.stands.now.items
 
-pub returns-clause-there : goal.returns-clause-there
-returns-clause-there c =
-    rw (c.quiet_in.ensures, quiet-all c.args.scope c.args.stands.now.items (vec_len c.args.stands.now) (grind arith))
-    (quiet-there c.args.scope c.args.stands.now.items c.args.homes.now c.forget.new.homes c.forget.ensures.ordered (rw c.as_slice.ensures.value at c.forget.ensures.filtered) c.requires.there)
-
-pub returns-clause-known : goal.returns-clause-known
-returns-clause-known c =
-    rw (c.quiet_in.ensures, quiet-all c.args.scope c.args.stands.now.items (vec_len c.args.stands.now) (grind arith))
-    (quiet-known c.args.scope c.args.stands.now.items c.args.homes.now c.forget.new.homes c.forget.ensures.ordered (rw c.as_slice.ensures.value at c.forget.ensures.filtered) c.requires.known)
+pub returns-in-Some-clause-leaves : goal.returns-in-Some-clause-leaves
+returns-in-Some-clause-leaves c =
+    rw (c.quiet_lists.ensures.new ∙ quiet-scope c.args.stands.now.items c.args.names.now c.args.scope c.in-Some.places.now (sym c.in-Some.ensures.value) c.quiet_lists.ensures.ordered c.requires.places c.requires.alone)
+    (quiet-leaves c.args.scope c.args.stands.now.items)

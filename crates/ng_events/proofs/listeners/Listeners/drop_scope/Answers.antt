@@ -1,11 +1,15 @@
-use Rattle.std.proofs.Common.{ap, sym, ◌∙◌}
-use Rattle.ng_behaviour.specs.Listeners.{without_listeners_of}
-use Rattle.ng_events.specs.Stands.{Table, lists_of}
-use Rattle.ng_events.proofs.Silent.{nobody-there}
+use Rattle.std.proofs.Common.{◌+◌, ap, ◌∙◌, sym}
+use Rattle.ng_events.proofs.Quiet.{alone-kept}
 use Rattle.ng_events.proofs.listeners.Listeners.drop_scope.Goals as goal
 
-pub returns-else-is_known-clause-lists : goal.returns-else-is_known-clause-lists
-returns-else-is_known-clause-lists c =
-    sym (ap lists_of c.self.view_is)
-    ∙ nobody-there c.self.inside.stands.items c.self.inside.names c.args.s.0 c.self.invariant.places (sym c.is_known.ensures ∙ c.if-is_known.false)
-    ∙ ap (λ (t : Table). without_listeners_of (lists_of t) c.args.s.0) c.self.view_is
+pub invariant_of-self : goal.invariant_of-self
+invariant_of-self c =
+    let leaves = c.quiet_scope.ensures.leaves in
+    record {
+      places = λ s n. c.self.invariant.places s n ∙ sym (leaves.places s n);
+      alone = alone-kept c.self.inside.stands.items c.quiet_scope.new.stands.items leaves c.self.invariant.alone;
+      there = c.quiet_scope.ensures.there;
+      known = c.quiet_scope.ensures.known;
+      counted = c.self.invariant.counted ∙ ap (λ n. n + c.self.inside.bare) (sym leaves.counted);
+      few = c.self.invariant.few;
+    }

@@ -4,17 +4,31 @@ use Rattle.ng_events.specs.declared.stands.Listener.{Listener as Registered}
 use Rattle.ng_events.specs.Stands.{Table, lists_of}
 use Rattle.ng_behaviour.specs.Listeners.{called}
 use Rattle.ng_events.proofs.Changed.{walks-chains}
+use Rattle.ng_events.proofs.Quiet.{alone-kept}
 use Rattle.ng_events.proofs.Homes.{there-kept, known-kept, fresh-home}
 use Rattle.ng_events.proofs.listeners.Listeners.on.Goals as goal
 
 pub invariant_of-self : goal.invariant_of-self
 invariant_of-self c = record {
   places = c.list_of.ensures.places;
+  alone = c.list_of.ensures.alone;
   there = there-kept c.self.inside.stands.items c.list_of.new.stands.items c.self.inside.homes (grind arith) (λ l. ap (λ (f : ℕ → Walked Registered). (f l).entries) c.list_of.ensures.chains) c.self.invariant.there;
   known = known-kept c.self.inside.stands.items c.list_of.new.stands.items c.self.inside.homes (λ l. ap (λ (f : ℕ → Walked Registered). (f l).entries) c.list_of.ensures.chains) c.self.invariant.known;
   counted = c.self.invariant.counted ∙ ap (λ n. n + c.self.inside.bare) (sym c.list_of.ensures.open);
   few = c.self.invariant.few;
 }
+
+pub invariant_of-self-2 : goal.invariant_of-self-2
+invariant_of-self-2 c =
+    let leaves = c.add_listener.ensures.leaves in
+    record {
+      places = λ s n. c.list_of.ensures.places s n ∙ sym (leaves.places s n);
+      alone = alone-kept c.list_of.new.stands.items c.add_listener.new.stands.items leaves c.list_of.ensures.alone;
+      there = c.add_listener.ensures.there;
+      known = c.add_listener.ensures.known;
+      counted = c.self.invariant.counted ∙ ap (λ n. n + c.self.inside.bare) (sym (leaves.counted ∙ c.list_of.ensures.open));
+      few = c.self.invariant.few;
+    }
 
 pub returns-in_err-list-clause-walks : goal.returns-in_err-list-clause-walks
 returns-in_err-list-clause-walks c = rw (← c.self.view_is) (walks-chains c.self.inside.stands.items c.list_of.new.stands.items c.list_of.ensures.chains)
