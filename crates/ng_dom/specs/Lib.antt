@@ -2,6 +2,7 @@ pub mod Lists
 pub mod Nodes
 pub mod Editing
 pub mod Rooms
+pub mod Removal
 pub mod Kept
 pub mod Making
 pub mod Asked

@@ -38,3 +38,4 @@ pub mod laws;
 pub mod nodes;
 pub mod printing;
 pub mod record;
+pub mod removal;
