@@ -114,9 +114,10 @@ module _ (r : Rooms) (a i : ℕ) (names : List ℕ) (under : (q : ℕ) → among
     spares_emptied : (m j : ℕ) (gs : NamedGroups) → ((q : ℕ) → among q (all_of (without_at j (group_names gs))) ≡ true → among q names ≡ false) → ReadsGroups r (Some m) gs → SparesGroups names (group_emptied j (changed_groups a emptying gs))
     spares_emptied m j no_groups all h = tt
     spares_emptied m zero (group_then f gs) all h = (tt, spares_gs m gs all h.1)
-    spares_emptied m (suc j) (group_then f gs) all h =
-        (spares_in (Some m) f (λ q k. all q (among-left q (names_of f) (all_of (without_at j (group_names gs))) k)) h.0,
-         spares_emptied m j gs (λ q k. all q (among-right q (names_of f) (all_of (without_at j (group_names gs))) k)) h.1)
+    spares_emptied m (suc j) (group_then f gs) all h = (
+      spares_in (Some m) f (λ q k. all q (among-left q (names_of f) (all_of (without_at j (group_names gs))) k)) h.0,
+      spares_emptied m j gs (λ q k. all q (among-right q (names_of f) (all_of (without_at j (group_names gs))) k)) h.1,
+    )
 
 module _ (r t s : Rooms) (a i : ℕ) (names : List ℕ) (piece : NamedForest) (e : names_of piece ≡ names) (listed : names ≡ list_at i (groups_in (r a))) (reads : ReadsIn r (Some a) piece)
     (rooms : (q : ℕ) → t q ≡ room_changed a (shape_with_groups (emptied_at i)) r q) (takes : Takes names t s) where

@@ -14,3 +14,5 @@ pub mod Sparing
 pub mod Filling
 pub mod Emptying
 pub mod Fresh
+pub mod Levels
+pub mod Standing

@@ -69,9 +69,10 @@ module _ (names : List ℕ) (r s : Rooms) (takes : Takes names r s) where
 
     groups_gone : (n : ℕ) (gs : NamedGroups) → ((q : ℕ) → among q (all_of (group_names gs)) ≡ true → is_under r n q ≡ true → s q ≡ None) → ReadsGroups r (Some n) gs → GoneGroups s gs
     groups_gone n no_groups all h = tt
-    groups_gone n (group_then f gs) all h =
-        (kids_gone n f (λ q a. all q (among-left q (names_of f) (all_of (group_names gs)) a)) h.0,
-         groups_gone n gs (λ q a. all q (among-right q (names_of f) (all_of (group_names gs)) a)) h.1)
+    groups_gone n (group_then f gs) all h = (
+      kids_gone n f (λ q a. all q (among-left q (names_of f) (all_of (group_names gs)) a)) h.0,
+      groups_gone n gs (λ q a. all q (among-right q (names_of f) (all_of (group_names gs)) a)) h.1,
+    )
 
   -- the nodes of these names are gone
   pub roots_gone : (p : Option ℕ) (f : NamedForest) → ((q : ℕ) → among q (names_of f) ≡ true → s q ≡ None) → ReadsIn r p f → AreGone s f

@@ -2,7 +2,9 @@
 use Rattle.std.specs.Prelude.{ℕ, ◌≡◌, ◌⊎◌, ◌+◌, ◌==◌, List, Option, Some, None, true, IsSome, if◌then◌else◌}
 use Rattle.std.specs.BTreeMap.{btree_map_len}
 use Rattle.ng_base.specs.declared.name.NodeId.{NodeId}
-use Rattle.ng_dom.specs.Nodes.{NamedNode, NamedForest, names_of, nothing_named, named_then}
+use Rattle.ng_dom.specs.Nodes.{NamedNode, NamedForest, name_of, names_of, nothing_named, named_then}
+use Rattle.ng_dom.specs.Walks.{read, read_all}
+use Rattle.ng_dom.specs.Printed.{level, inner, counted_level, seek, found, IsRead}
 use Rattle.ng_dom.specs.Editing.{changed_in, with_kids, node_inserted, node_moved}
 use Rattle.ng_dom.specs.Rooms.{Rooms, ReadsIn}
 use Rattle.ng_dom.specs.Removal.{IsThere}
@@ -82,11 +84,6 @@ IsPlaced (Some p) i x d e = Becomes d e (changed_in p.made.0 (with_kids (node_in
 abbrev pub IsApart : Option ℕ → NamedNode → Dom → Dom → Type 0
 IsApart p x d e = Remains d e × ReadsIn (rooms e) p (named_then x nothing_named) × (top e ≡ top d)
 
--- the children of a parent by name
-abbrev pub children : Dom → Option NodeId → List ℕ
-children d None = top d
-children d (Some p) = kids_in (rooms d p.made.0)
-
 abbrev pub IsMovedUnder : Option ℕ → ℕ → ℕ → Dom → Dom → Type 0
 IsMovedUnder None i n d e = ((q : ℕ) → rooms e q ≡ rooms d q) × ((f : NamedForest) → Shows d f → Shows e (node_moved i n f))
 IsMovedUnder (Some p) i n d e = Becomes d e (changed_in p (with_kids (node_moved i n))) × (top e ≡ top d)
@@ -116,3 +113,17 @@ pub record Undone (d e : Dom) : Type 0 where
 -- whatever is read before, in the document or below a node that is still live, is read changed so afterwards
 abbrev pub Leaves : Dom → Dom → (NamedForest → NamedForest) → Type 0
 Leaves d e g = (p : Option ℕ) (f : NamedForest) → ReadsIn (rooms d) p f → IsThere (rooms e) p → ReadsIn (rooms e) p (g f)
+
+-- the names of the children of a node, or of the nodes at the top
+abbrev pub names_under : Dom → Option ℕ → List ℕ
+names_under d None = top d
+names_under d (Some n) = kids_in (rooms d n)
+
+-- the node of a number among those that are printed at the top or inside a node
+abbrev pub child_in : Dom → Option ℕ → ℕ → Option ℕ
+child_in d o i = found (seek None i (level (read_all (read (next_name d) (rooms d)) (names_under d o))))
+
+-- so many nodes are printed at the top, or inside a node
+abbrev pub Counts : Dom → Option NodeId → ℕ → Type 0
+Counts d None k = (f : NamedForest) → Shows d f → k ≡ counted_level f
+Counts d (Some p) k = (x : NamedNode) → name_of x ≡ p.made.0 → IsRead (rooms d) x → k ≡ counted_level (inner x)

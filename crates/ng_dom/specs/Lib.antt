@@ -6,6 +6,7 @@ pub mod Removal
 pub mod Kept
 pub mod Making
 pub mod Asked
+pub mod Printed
 pub mod Document
 pub mod Walks
 pub mod Drawing

@@ -9,12 +9,13 @@ ghost use Rattle.ng_dom.specs.Editing.{changed_in, with_kids, with_text, with_at
 ghost use Rattle.ng_dom.specs.Nodes.{NamedNode, NamedForest, nothing_named, named_then, name_of, names_of, plain};
 ghost use Rattle.ng_markup.specs.Forest.{print};
 ghost use Rattle.ng_html.specs.Seen.{forest_of};
-ghost use Rattle.ng_dom.specs.Asked.{is_element_room, attribute_in, kids_in, counted, first_with_id};
+ghost use Rattle.ng_dom.specs.Asked.{is_element_room, attribute_in, first_with_id};
+ghost use Rattle.ng_dom.specs.Printed.{followed, at_place};
 ghost use Rattle.ng_dom.specs.Rooms.{room_changed, room_added, shape_of, shape_told, shape_with_attributes, shape_with_kids, shape_with_groups, HasRoom, ReadsInside, ReadsIn};
 ghost use Rattle.ng_dom.specs.Making.{new_name, new_node, new_part, is_want};
 ghost use Rattle.ng_dom.specs.Kept.{shape_kept};
 
-use crate::edits::{attribute, content_of, count, cut_top, is_element, kid_count, move_name, only, put};
+use crate::edits::{attribute, content_of, cut_top, is_element, move_name, only, put};
 use crate::fault::DomFault;
 use crate::finding::find_all;
 use crate::nodes::{
@@ -24,9 +25,11 @@ use crate::nodes::{
 use crate::printing::add_all;
 use crate::record::{Content, Group, Home, NewNode, Part, Record};
 use crate::removal::take_away;
+use crate::seeking::{Sought, found, is_anchor, passed, reversed, seek_all, seek_kids};
 use ng_base::fault::Memory;
 use ng_base::lists::Numbers;
 use ng_base::name::{NodeId, Serial};
+use ng_base::path::Path;
 use ng_base::txt::Txt;
 use ng_html::forest::Forest;
 use ng_html::writing::write;
@@ -49,7 +52,7 @@ pub struct Dom {
 }
 
 impl Dom {
-    ghost use Rattle.ng_dom.specs.Document.{rooms, homes, top, next_name, live_count, IsElement, IsLive, IsParent, Shows, Becomes, Stays, Unchanged, Gains, IsPlaced, IsApart, IsMoved, IsMovedUnder, Keeps, Undone, Fewer, Leaves, children};
+    ghost use Rattle.ng_dom.specs.Document.{rooms, homes, top, next_name, live_count, IsElement, IsLive, IsParent, Shows, Becomes, Stays, Unchanged, Gains, IsPlaced, IsApart, IsMoved, IsMovedUnder, Keeps, Undone, Fewer, Leaves, Counts, child_in};
 
     /// No node.
     pub fn new(alloc: Global) -> Dom
@@ -443,23 +446,132 @@ impl Dom {
         }
     }
 
-    /// How many children an element has, or stand at the top. A block's anchor is one, with all its groups.
+    /// How many nodes are printed at the top, or inside a node: the nodes of an anchor's groups follow it as its siblings.
     pub fn kids(&self, parent: Option<NodeId>) -> u32
-        ensures { result ≡ counted (children self.now parent) }
+        ensures { Counts self.now parent result }
     {
+        let deep = self.next;
         match parent {
-            None => count(&self.top),
-            Some(p) => self.kids_under(p.made.0),
+            None => passed(seek_all(&self.nodes, deep, None, u32::MAX, self.top.as_slice())),
+            Some(p) => passed(seek_kids(&self.nodes, deep, None, u32::MAX, p.made.0)),
         }
     }
 
-    fn kids_under(&self, n: u64) -> u32
-        ensures { result ≡ counted (kids_in (rooms self.now n)) }
+    /// The node of a number among those that are printed at the top, or inside a node.
+    fn child(&self, parent: Option<u64>, i: u32) -> Option<u64>
+        ensures { result ≡ child_in self.now parent i }
     {
-        match self.nodes.get(&n) {
-            None => 0,
-            Some(node) => kid_count(node),
+        match parent {
+            None => found(seek_all(&self.nodes, self.next, None, i, self.top.as_slice())),
+            Some(n) => found(seek_kids(&self.nodes, self.next, None, i, n)),
         }
+    }
+
+    /// Goes down by the numbers of a path.
+    fn follow(&self, numbers: &[u32]) -> Option<u64>
+        ensures { result ≡ followed (child_in self.now) None numbers.now }
+    {
+        let mut parent = None;
+        for i in numbers {
+            match self.child(parent, *i) {
+                None => return None,
+                Some(n) => parent = Some(n),
+            }
+        }
+        parent
+    }
+
+    /// The node at a path of the printed document.
+    pub fn at(&self, p: &Path) -> Option<NodeId>
+        ensures found { (f : NamedForest) → Shows self.now f → option_map (λ n. n.made.0) result ≡ option_map name_of (at_place p.now f) }
+        ensures slot { IfSome result (λ n. n.slot ≡ 0) }
+    {
+        match self.place_at(p) {
+            None => None,
+            Some(n) => Some(NodeId {
+                slot: 0,
+                made: Serial(n),
+            }),
+        }
+    }
+
+    /// The name of the node at a path.
+    fn place_at(&self, p: &Path) -> Option<u64>
+        ensures { (f : NamedForest) → Shows self.now f → result ≡ option_map name_of (at_place p.now f) }
+    {
+        self.follow(p.as_slice())
+    }
+
+    /// The path of a node that stands in the document, in what is printed. It costs the siblings on the way down. Of another node
+    /// it tells none, and answers as for want of memory.
+    pub fn path(&self, n: NodeId) -> Result<Path, Memory>
+        ensures stands { IfOk result (λ p. (f : NamedForest) → Shows self.now f → option_map name_of (at_place p f) ≡ Some n.made.0) }
+        ensures refused { IfErr result (λ e. e ≡ Memory.Refused) }
+    {
+        let path = self.upwards(n.made.0)?;
+        match self.place_at(&path) {
+            None => Err(Memory::Refused),
+            Some(m) => {
+                if m == n.made.0 {
+                    Ok(path)
+                } else {
+                    Err(Memory::Refused)
+                }
+            }
+        }
+    }
+
+    /// The numbers on the way up from a node, from the top downwards.
+    fn upwards(&self, n: u64) -> Result<Path, AllocError> {
+        let mut up = Vec::new(self.alloc);
+        let mut below = n;
+        while let Some((i, parent)) = self.step_up(below) {
+            up.push(i)?;
+            match parent {
+                None => break,
+                Some(p) => {
+                    if p >= below {
+                        break;
+                    }
+                    below = p;
+                }
+            }
+        }
+        reversed(self.alloc, up.as_slice())
+    }
+
+    /// The number of a node among those that are printed beside it, and what it is printed inside of: an element, or the top.
+    fn step_up(&self, n: u64) -> Option<(u32, Option<u64>)> {
+        let parent = self.printed_parent(n)?;
+        let sought = match parent {
+            None => seek_all(
+                &self.nodes,
+                self.next,
+                Some(n),
+                u32::MAX,
+                self.top.as_slice(),
+            ),
+            Some(p) => seek_kids(&self.nodes, self.next, Some(n), u32::MAX, p),
+        };
+        match sought {
+            Sought::Found(_, left) => Some((u32::MAX - left, parent)),
+            Sought::Left(_) => None,
+        }
+    }
+
+    /// The nearest node above that is no anchor.
+    fn printed_parent(&self, n: u64) -> Option<Option<u64>> {
+        let mut below = n;
+        while let Some(parent) = parent_of(&self.nodes, below)? {
+            if !is_anchor(&self.nodes, parent) {
+                return Some(Some(parent));
+            }
+            if parent >= below {
+                return None;
+            }
+            below = parent;
+        }
+        Some(None)
     }
 
     /// The document without names: an anchor is an empty comment, and its groups stand after it.

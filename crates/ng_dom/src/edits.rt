@@ -4,7 +4,7 @@ ghost use Rattle.std.specs.List.{remove};
 ghost use Rattle.ng_dom.specs.Lists.{put_at, without_at, list_at, lists_at, among, without_first, moved_to, filled_with, emptied_at};
 ghost use Rattle.ng_dom.specs.Editing.{attribute_set, attribute_dropped};
 ghost use Rattle.ng_dom.specs.Rooms.{reshaped, shape_of, shape_told, shape_with_attributes, shape_with_kids, shape_with_groups};
-ghost use Rattle.ng_dom.specs.Asked.{shape_attribute, shape_kids, counted, is_element_shape};
+ghost use Rattle.ng_dom.specs.Asked.{shape_attribute, is_element_shape};
 ghost use Rattle.ng_dom.specs.Making.{new_node, new_part};
 ghost use Rattle.ng_dom.specs.Removal.{all_but, each_but, shape_without, groups_held};
 ghost use Rattle.ng_dom.specs.Kept.{room_kept, shape_kept};
@@ -156,29 +156,6 @@ pub fn attribute<'a>(node: &'a Record, name: &Txt) -> Option<&'a Txt>
         Content::Text(_) => None,
         Content::Comment(_) => None,
         Content::Anchor(_) => None,
-    }
-}
-
-/// How many children an element has, as far as a `u32` counts.
-pub fn kid_count(node: &Record) -> u32
-    ensures { result ≡ counted (shape_kids (shape_kept node.now.content)) }
-{
-    match &node.content {
-        Content::Element { kids, .. } => count(kids),
-        Content::Text(_) => 0,
-        Content::Comment(_) => 0,
-        Content::Anchor(_) => 0,
-    }
-}
-
-/// How many names there are, as far as a `u32` counts.
-pub fn count(names: &Vec<u64>) -> u32
-    ensures { result ≡ counted names.now.items }
-{
-    if names.len() < u32::MAX as usize {
-        names.len() as u32
-    } else {
-        u32::MAX
     }
 }
 

@@ -15,8 +15,8 @@ pub returns-in-Some-clause-taken : goal.returns-in-Some-clause-taken
 returns-in-Some-clause-taken c =
     on_ok_weaker c.push_held.result
     (λ told names r was.
-      let here = ap (option_map room_kept) (sym c.take.ensures.value ∙ c.in-Some.is) in
-      let P : List ℕ → Type 0 = λ ys. Taking names r (rooms_of c.take.new.nodes) ys in
-      subst P (sym told)
-      (taking_step names r (rooms_of c.args.nodes.now) (rooms_of c.take.new.nodes) c.args.n c.args.left.now.items was c.take.ensures.rooms (room_kept c.in-Some.node) here))
+    let here = ap (option_map room_kept) (sym c.take.ensures.value ∙ c.in-Some.is) in
+    let P : List ℕ → Type 0 = λ ys. Taking names r (rooms_of c.take.new.nodes) ys in
+    subst P (sym told)
+    (taking_step names r (rooms_of c.args.nodes.now) (rooms_of c.take.new.nodes) c.args.n c.args.left.now.items was c.take.ensures.rooms (room_kept c.in-Some.node) here))
     c.push_held.ensures
