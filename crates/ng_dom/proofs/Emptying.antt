@@ -1,12 +1,12 @@
 -- The nodes of a group are taken away.
-use Rattle.std.proofs.Common.{◌≡◌, ◌≤◌, ℕ, zero, suc, Bool, true, false, List, [], ◌∷◌, Option, Some, None, refl, ap, ◌∙◌, sym, cond, subst, inl, inr, arith}
+use Rattle.std.proofs.Common.{◌≡◌, ℕ, zero, suc, Bool, true, false, List, [], ◌∷◌, Option, Some, refl, ap, ◌∙◌, sym, cond, arith}
 use Rattle.std.specs.Prelude.{◌==◌, option_map}
 use Rattle.std.proofs.lemmas.Bool.{eqb-true, eqb-false, eq-eqb}
 use Rattle.ng_dom.specs.Lists.{among, list_at, without_at, emptied_at}
 use Rattle.ng_dom.specs.Nodes.{NamedNode, NamedForest, NamedGroups, named_text, named_comment, named_element, named_anchor, nothing_named, named_then, no_groups, group_then, name_of, names_of, group_names}
-use Rattle.ng_dom.specs.Editing.{changed, changed_in, changed_groups, at_name, with_groups}
+use Rattle.ng_dom.specs.Editing.{changed, changed_in, changed_groups, with_groups}
 use Rattle.ng_dom.specs.Rooms.{Room, Rooms, room_of, HasRoom, ReadsInside, ReadsIn, ReadsGroups, room_changed, shape_with_groups}
-use Rattle.ng_dom.specs.Removal.{all_of, groups_held, groups_in, group_emptied, Takes, Spares, SparesInside, SparesGroups, AreGone, IsThere, IsApartFromOthers}
+use Rattle.ng_dom.specs.Removal.{all_of, groups_in, group_emptied, Takes, Spares, SparesInside, SparesGroups, AreGone, IsThere, IsApartFromOthers}
 use Rattle.ng_dom.proofs.Reading.{same_name}
 use Rattle.ng_dom.proofs.Groups.{name-groups, groups_read, reads_apart}
 use Rattle.ng_dom.proofs.Removing.{either, among-append, among-left, among-right}

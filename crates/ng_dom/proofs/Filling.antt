@@ -1,5 +1,5 @@
 -- An element gets the children that were made for it.
-use Rattle.std.proofs.Common.{◌≡◌, ◌≤◌, ℕ, List, Option, Some, refl, ap, sym, arith}
+use Rattle.std.proofs.Common.{◌≡◌, ℕ, List, Option, Some, refl, ap, arith}
 use Rattle.ng_dom.specs.Lists.{filled_with}
 use Rattle.ng_dom.specs.Nodes.{NamedNode, NamedForest, named_text, named_comment, named_element, named_anchor, name_of, names_of}
 use Rattle.ng_dom.specs.Editing.{changed_in, with_kids}

@@ -1,10 +1,8 @@
 -- Places among the nodes that are printed one beside another.
-use Rattle.std.proofs.Common.{◌≡◌, ◌<◌, ◌≤◌, ◌+◌, ℕ, zero, suc, Bool, true, false, List, [], ◌∷◌, ◌++◌, length, map, Option, Some, None, refl, ap, ◌∙◌, sym, cond, arith, append_assoc}
-use Rattle.std.specs.Prelude.{◌==◌, option_map, option_and_then}
-use Rattle.ng_dom.specs.Nodes.{NamedNode, NamedForest, NamedGroups, named_text, named_comment, named_element, named_anchor, nothing_named, named_then, no_groups, group_then, name_of}
+use Rattle.std.proofs.Common.{◌≡◌, ℕ, zero, suc, Bool, true, false, List, [], ◌∷◌, ◌++◌, Option, refl, ap, ◌∙◌, sym, cond, append_assoc}
+use Rattle.ng_dom.specs.Nodes.{NamedNode, NamedForest, nothing_named, named_then, name_of}
 use Rattle.ng_dom.specs.Walks.{named_followed}
-use Rattle.ng_dom.specs.Printed.{level_node, level, level_groups, nth_of, is_it, seek, found}
-use Rattle.ng_dom.specs.declared.seeking.Sought.{Sought}
+use Rattle.ng_dom.specs.Printed.{level_node, level, is_it, seek}
 use Rattle.ng_dom.specs.declared.seeking.Sought.TheVariants.{Found, Left}
 
 pub level-followed : (f g : NamedForest) → level (named_followed f g) ≡ level f ++ level g

@@ -3,10 +3,10 @@ use Rattle.std.proofs.Common.{◌≡◌, ℕ, Bool, true, false, List, [], ◌�
 use Rattle.std.specs.Prelude.{◌==◌, ◌⊎◌, is_some}
 use Rattle.std.specs.BTreeMap.{BTreeMap, get}
 use Rattle.std.specs.Ordering.{nat_cmp}
-use Rattle.std.proofs.lemmas.Bool.{eqb-true, eqb-false, eq-eqb, ne_eqb}
+use Rattle.std.proofs.lemmas.Bool.{eqb-true, eq-eqb}
 use Rattle.ng_dom.specs.Lists.{among}
 use Rattle.ng_dom.specs.Rooms.{Shape, Room, Rooms, text_shape, comment_shape, element_shape, anchor_shape}
-use Rattle.ng_dom.specs.Removal.{all_of, one_if, chosen, chosen_groups, chosen_held, held, is_under, has_parent, room_gone, HasGoneParent, IsDoomed, Takes, Taking}
+use Rattle.ng_dom.specs.Removal.{all_of, one_if, chosen, chosen_groups, chosen_held, held, is_under, has_parent, room_gone, IsDoomed, Takes, Taking}
 use Rattle.ng_dom.specs.Kept.{Loses}
 use Rattle.ng_dom.specs.declared.record.Record.{Record}
 

@@ -1,11 +1,11 @@
 -- What is read once nodes are taken away.
-use Rattle.std.proofs.Common.{◌≡◌, ℕ, zero, suc, Bool, true, false, List, [], ◌∷◌, ◌++◌, Option, Some, None, refl, ap, ◌∙◌, sym, cond, subst, inl, inr, ◌<◌, ◌≤◌, arith}
+use Rattle.std.proofs.Common.{◌≡◌, ℕ, Bool, true, false, List, [], ◌∷◌, Option, Some, None, refl, ap, ◌∙◌, sym, cond, subst, inl, inr, ◌<◌, arith}
 use Rattle.std.specs.Prelude.{◌==◌, ◌⊎◌, IsSome, option_map}
 use Rattle.std.proofs.lemmas.Bool.{eqb-true, eqb-false, eq-eqb, ne_eqb}
-use Rattle.ng_dom.specs.Lists.{among, list_at, without_at, emptied_at}
+use Rattle.ng_dom.specs.Lists.{among}
 use Rattle.ng_dom.specs.Nodes.{NamedNode, NamedForest, NamedGroups, named_text, named_comment, named_element, named_anchor, nothing_named, named_then, no_groups, group_then, name_of, names_of, group_names}
-use Rattle.ng_dom.specs.Rooms.{Shape, Room, Rooms, element_shape, anchor_shape, shape_of, room_of, IsAfter, HasRoom, ReadsInside, ReadsIn, ReadsGroups, room_changed, reshaped}
-use Rattle.ng_dom.specs.Removal.{all_of, held, is_parent, is_under, has_parent, HasGoneParent, IsDoomed, Takes, differs, all_but, each_but, shape_without, room_without, top_without, without, without_inside, without_groups, Spares, SparesInside, SparesGroups, AreGone, GoneInside, GoneGroups, IsThere}
+use Rattle.ng_dom.specs.Rooms.{Shape, Room, Rooms, element_shape, anchor_shape, shape_of, room_of, IsAfter, HasRoom, ReadsInside, ReadsIn, ReadsGroups, reshaped}
+use Rattle.ng_dom.specs.Removal.{all_of, is_parent, is_under, has_parent, IsDoomed, Takes, all_but, each_but, shape_without, room_without, top_without, without, without_inside, without_groups, Spares, SparesInside, SparesGroups, AreGone, GoneInside, GoneGroups, IsThere}
 use mathlib.Core.Path.{fun_ext}
 use Rattle.ng_dom.proofs.Removing.{among-left, among-right}
 use Rattle.ng_dom.proofs.Groups.{apart_inside}

@@ -1,17 +1,16 @@
 -- The node at a path is the one that the table has there.
-use Rattle.std.proofs.Common.{◌≡◌, ◌<◌, ◌≤◌, ◌+◌, ℕ, zero, suc, Bool, true, false, List, [], ◌∷◌, ◌++◌, length, map, Option, Some, None, refl, ap, ◌∙◌, sym, subst, arith}
-use Rattle.std.specs.Prelude.{option_map, option_and_then, is_some, min}
+use Rattle.std.proofs.Common.{◌≡◌, ◌<◌, ◌≤◌, ◌+◌, ℕ, zero, suc, false, List, [], ◌∷◌, ◌++◌, length, map, Option, Some, None, refl, ap, ◌∙◌, sym, subst, arith}
+use Rattle.std.specs.Prelude.{option_map, option_and_then, is_some}
 use Rattle.std.specs.BTreeMap.{BTreeMap, get}
 use Rattle.std.specs.Ordering.{nat_cmp}
-use Rattle.ng_markup.specs.Forest.{Forest, Node, element, text, comment, no_nodes, node}
+use Rattle.ng_markup.specs.Forest.{Forest, Node, comment, no_nodes, node}
 use Rattle.ng_dom.specs.Nodes.{NamedNode, NamedForest, NamedGroups, named_text, named_comment, named_element, named_anchor, nothing_named, named_then, no_groups, group_then, name_of, names_of, followed_by, plain_node, plain, plain_groups}
-use Rattle.ng_dom.specs.Rooms.{Room, Rooms, shape_of, room_of, HasRoom, ReadsInside, ReadsIn, ReadsGroups}
+use Rattle.ng_dom.specs.Rooms.{Rooms, shape_of, HasRoom, ReadsInside, ReadsIn, ReadsGroups}
 use Rattle.ng_dom.specs.Asked.{shape_kids, kids_in}
 use Rattle.ng_dom.specs.Walks.{read, read_all}
 use Rattle.ng_dom.specs.Kept.{rooms_of}
-use Rattle.ng_dom.specs.Printed.{level_node, level, level_groups, inner, nth_of, went, at_place, followed, IsRead, seek, found, plain_node_of, nodes_of, inside_plain, plain_went, plain_at}
+use Rattle.ng_dom.specs.Printed.{level_node, level, level_groups, inner, nth_of, went, at_place, followed, IsRead, seek, found, plain_node_of, nodes_of, inside_plain, plain_went}
 use Rattle.ng_dom.specs.Laws.{PlacesArePrinted}
-use Rattle.ng_dom.specs.declared.seeking.Sought.{Sought}
 use Rattle.ng_dom.specs.declared.seeking.Sought.TheVariants.{Found, Left}
 use Rattle.ng_dom.specs.declared.record.Record.{Record}
 use Rattle.ng_dom.proofs.Adding.{standing_below}

@@ -1,5 +1,5 @@
 -- The nodes as they are printed: an anchor is an empty comment, and the nodes of its groups follow it as its siblings.
-use Rattle.std.specs.Prelude.{ℕ, zero, suc, ◌==◌, Bool, false, List, [], ◌∷◌, ◌++◌, length, min, Option, Some, None, option_map, option_and_then, if◌then◌else◌}
+use Rattle.std.specs.Prelude.{ℕ, zero, suc, ◌==◌, Bool, false, List, [], ◌∷◌, ◌++◌, length, min, Option, Some, None, option_and_then, if◌then◌else◌}
 use Rattle.ng_markup.specs.Forest.{Forest, Node, element, text, comment, no_nodes, node}
 use Rattle.ng_dom.specs.Nodes.{NamedNode, NamedForest, NamedGroups, named_text, named_comment, named_element, named_anchor, nothing_named, named_then, no_groups, group_then, name_of, plain}
 use Rattle.ng_dom.specs.Rooms.{Rooms, HasRoom, ReadsInside}

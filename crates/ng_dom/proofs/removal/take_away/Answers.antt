@@ -1,4 +1,3 @@
-use Rattle.std.proofs.Common.{sym}
 use Rattle.ng_dom.specs.Kept.{rooms_of}
 use Rattle.ng_dom.proofs.Removing.{taking_start, loses_none}
 use Rattle.ng_dom.proofs.removal.take_away.Goals as goal

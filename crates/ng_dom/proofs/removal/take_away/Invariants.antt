@@ -1,4 +1,4 @@
-use Rattle.std.proofs.Common.{◌≡◌, ◌+◌, ◌*◌, ◌^◌, vec_len}
+use Rattle.std.proofs.Common.{◌+◌, ◌*◌, ◌^◌, vec_len}
 use Rattle.std.specs.BTreeMap.{btree_map_len}
 use Rattle.ng_dom.specs.Removal.{Taking}
 use Rattle.ng_dom.specs.Kept.{rooms_of, Loses}

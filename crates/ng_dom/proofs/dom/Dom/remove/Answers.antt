@@ -1,6 +1,6 @@
 use Rattle.std.proofs.Common.{◌≡◌, ◌∙◌, ℕ, Option, None, Some, ap, sym, subst, refl}
 use Rattle.std.specs.Prelude.{option_map}
-use Rattle.ng_dom.specs.Nodes.{NamedForest, name_of, names_of}
+use Rattle.ng_dom.specs.Nodes.{NamedForest, names_of}
 use Rattle.ng_dom.specs.Rooms.{Room, Rooms, room_of, ReadsIn}
 use Rattle.ng_dom.specs.Removal.{without}
 use Rattle.ng_dom.specs.Document.{rooms}

@@ -1,4 +1,4 @@
-use Rattle.std.proofs.Common.{◌≡◌, ℕ, List, None, sym, subst, ◌∙◌}
+use Rattle.std.proofs.Common.{ℕ, List, None, subst, ◌∙◌}
 use Rattle.std.proofs.lemmas.Result.{on_ok_weaker}
 use Rattle.ng_dom.specs.Document.{rooms}
 use Rattle.ng_dom.specs.Removal.{Takes}
