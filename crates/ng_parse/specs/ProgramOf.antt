@@ -5,4 +5,4 @@ use Rattle.ng_parse.specs.TreeOf.{tree}
 use Rattle.ng_parse.specs.declared.programs.Program.{Program}
 
 abbrev pub program : Program → Trees
-program p = trees_from (map tree p.statements.items)
+program p = trees_from (map tree p.statements.value.items)

@@ -11,7 +11,7 @@
 //! knows that no statement is higher than 100, so nothing that walks over it has to carry that by hand, and no walk
 //! goes deeper.
 //!
-//! In reading order: `tree` and `programs` have the types, `copy` and `height` walk over them; `first` and `leaf`
+//! In reading order: `tree` and `programs` have the types, `height` walks over them; `first` and `leaf`
 //! look at the front of a row of tokens; `build` puts trees together; `read` is the descent, one function a
 //! production, and `statements` its start; `limits`, `parsing` and `once` are the calls.
 //!
@@ -20,7 +20,6 @@
 #![tactic(auto)]
 
 pub mod build;
-pub mod copy;
 pub mod first;
 pub mod height;
 pub mod leaf;

@@ -1,15 +1,18 @@
 //! The parser's calls.
 ghost use Rattle.ng_base.specs.Meets.{Gives};
 ghost use Rattle.ng_language.specs.Grammar.{IsParsed};
+ghost use Rattle.ng_language.specs.Heights.{heights};
 ghost use Rattle.ng_language.specs.Parsing.{parsed, fault_of, is_free};
-ghost use Rattle.ng_language.specs.Trees.{Trees};
+ghost use Rattle.ng_language.specs.Trees.{Trees, trees_from};
 ghost use Rattle.ng_parse.specs.ProgramOf.{program};
-ghost use Rattle.std.specs.Prelude.{◌≡◌, slice_index_or, length, IfOk, Ok};
+ghost use Rattle.ng_parse.specs.TreeOf.{tree};
+ghost use Rattle.std.specs.Prelude.{◌≡◌, ◌≤◌, slice_index_or, length, map, IfOk, Ok};
 
 use crate::height::all_low;
 use crate::limits::excess;
 use crate::programs::Program;
 use crate::statements::read_statements;
+use crate::tree::Expr;
 use ng_language::syntax::{ParseFault, ParseKind, Refusal};
 use ng_lex::Tokens;
 use std::alloc::Global;
@@ -61,6 +64,20 @@ pub fn parse(alloc: Global, t: &Tokens) -> Result<Program, ParseFault>
     read_program(alloc, t)
 }
 
+/// The program of statements that are low enough.
+fn shared(alloc: Global, statements: Vec<Expr>) -> Result<Program, ParseFault>
+    requires { heights (trees_from (map tree statements.items)) ≤ 100 }
+    ensures { Gives is_free program (Ok (trees_from (map tree statements.items))) result }
+{
+    match Program::from_low(alloc, statements) {
+        Ok(p) => Ok(p),
+        Err(m) => Err(ParseFault {
+            place: 0,
+            kind: ParseKind::Memory(m),
+        }),
+    }
+}
+
 fn read_program(alloc: Global, t: &Tokens) -> Result<Program, ParseFault>
     ensures { Gives is_free program (parsed t.now.tokens.items t.now.places.items t.now.end) result }
 {
@@ -74,7 +91,7 @@ fn read_program(alloc: Global, t: &Tokens) -> Result<Program, ParseFault>
         Err(refusal) => Err(fault(t, refusal)),
         Ok(statements) => {
             if all_low(statements.as_slice(), 100) {
-                Ok(Program::from_low(statements))
+                shared(alloc, statements)
             } else {
                 Err(ParseFault {
                     place: 0,
