@@ -1,0 +1,12 @@
+pub mod Free
+pub mod PieceOf
+pub mod Seen
+pub mod SiteOf
+pub mod Texts
+pub mod Compiles
+pub mod Holes
+pub mod TemplateOf
+pub mod Shared
+pub mod Order
+pub mod Laws
+pub mod Kept
