@@ -58,7 +58,7 @@ plain_values attributes = map plain_value attributes
 abbrev pub unpicked : CollectFault → ℕ → TplFault
 unpicked collect.MultiDir place = refused MultiDir place
 unpicked collect.LeftOut place = refused LeftOut place
-unpicked (collect.Memory m) place = refused (Memory m) 0
+unpicked (collect.Memory m) place = refused (Memory m) place
 
 -- the attributes of an element with these directives; no directive is built yet
 abbrev pub attributes_at : Result (List Pick) CollectFault → Attributes → ℕ → Result PartAttributes TplFault

@@ -1,5 +1,6 @@
 pub mod Free
 pub mod PieceOf
+pub mod ValueOf
 pub mod Seen
 pub mod SiteOf
 pub mod Texts

@@ -2,7 +2,7 @@
 ghost use Rattle.std.specs.Prelude.{◌≡◌, true, Ok, IfOk, IfErr, IfSome, MatchResult};
 ghost use Rattle.ng_base.specs.Meets.{Gives};
 ghost use Rattle.ng_interp.specs.Parts.{is_free, piece_of, hole_at, piece_at};
-ghost use Rattle.ng_parse.specs.ProgramOf.{program};
+ghost use Rattle.ng_parse.specs.ProgramOf.{program as trees};
 ghost use Rattle.ng_template.specs.Shared.{ReadsAs};
 
 use indexmap::IndexMap;
@@ -18,7 +18,7 @@ struct Hole {
     text: Txt,
     one_time: bool,
     program: Program,
-    ghost read: { ReadsAs text one_time (program program) },
+    ghost read: { ReadsAs text one_time (trees program) },
 }
 
 /// Holes that were read, so that one with the same text shares the program.
@@ -40,7 +40,7 @@ fn want() -> InterpFault
 
 /// One more owner of a program.
 fn shared(alloc: Global, p: &Program) -> Result<Program, InterpFault>
-    ensures { MatchResult result (λ q. program q ≡ program p.now) (λ e. is_free e ≡ true) }
+    ensures { MatchResult result (λ q. trees q ≡ trees p.now) (λ e. is_free e ≡ true) }
 {
     match p.copied(alloc) {
         Ok(copy) => Ok(copy),
@@ -59,7 +59,7 @@ impl Known {
 
     /// The hole with this text, if it was read.
     fn find(&self, text: &Txt) -> Option<&Hole>
-        ensures { IfSome result (λ h. ReadsAs text.now h.now.one_time (program h.now.program)) }
+        ensures { IfSome result (λ h. ReadsAs text.now h.now.one_time (trees h.now.program)) }
     {
         let hole = self.holes.get(text)?;
         if hole.text.same(text) {
@@ -71,7 +71,7 @@ impl Known {
 
     /// Adds a hole.
     fn add(&mut self, text: &Txt, once: bool, p: Program) -> Result<(), Memory>
-        requires { ReadsAs text.now once (program p) }
+        requires { ReadsAs text.now once (trees p) }
     {
         let name = text.copied()?;
         let hole = Hole {

@@ -1,7 +1,8 @@
 //! Texts and values of attributes, cut at their holes (guide: Interpolation).
 ghost use Rattle.std.specs.Prelude.{◌≡◌, ◌++◌, ◌∷◌, [], map, OnOk, OnErr, IfOk};
 ghost use Rattle.ng_drawing.specs.Template.{word};
-ghost use Rattle.ng_template.specs.PieceOf.{piece_of, value_of};
+ghost use Rattle.ng_template.specs.PieceOf.{piece_of};
+ghost use Rattle.ng_template.specs.ValueOf.{value_of};
 
 use ng_base::txt::Txt;
 use std::alloc::{AllocError, Global};
@@ -82,7 +83,7 @@ pub struct Values {
 impl Model for Values {
     ghost use Rattle.std.specs.Prelude.{map};
     ghost use Rattle.ng_drawing.specs.Template.{PartAttributes};
-    ghost use Rattle.ng_template.specs.PieceOf.{value_of};
+    ghost use Rattle.ng_template.specs.ValueOf.{value_of};
 
     ghost Value = { PartAttributes };
 

@@ -1,8 +1,7 @@
 //! Sites, the watched expressions of a template (guide: Scopes, "`$digest`").
 ghost use Rattle.std.specs.Prelude.{◌≡◌, true, IfOk};
-ghost use Rattle.ng_parse.specs.ProgramOf.{program};
+ghost use Rattle.ng_parse.specs.ProgramOf.{program as trees};
 ghost use Rattle.ng_view.specs.Purity.{are_pure, all_filters_known};
-ghost use Rattle.ng_template.specs.SiteOf.{site_of, site_with};
 
 use ng_drawing::kind::SiteKind;
 use ng_parse::Program;
@@ -13,16 +12,18 @@ pub struct Site {
     kind: SiteKind,
     one_time: bool,
     program: Program,
-    ghost known: { all_filters_known (program program) ≡ true },
-    ghost pure: { are_pure (program program) ≡ true },
+    ghost known: { all_filters_known (trees program) ≡ true },
+    ghost pure: { are_pure (trees program) ≡ true },
 }
 
 impl Site {
+    ghost use Rattle.ng_template.specs.SiteOf.{site_of, site_with};
+
     /// A site of a program.
     pub fn new(kind: SiteKind, one_time: bool, program: Program) -> Site
-        requires known { all_filters_known (program program) ≡ true }
-        requires pure { are_pure (program program) ≡ true }
-        ensures { site_of result ≡ site_with kind one_time (program program) }
+        requires known { all_filters_known (trees program) ≡ true }
+        requires pure { are_pure (trees program) ≡ true }
+        ensures { site_of result ≡ site_with kind one_time (trees program) }
     {
         Site {
             kind,
@@ -47,9 +48,9 @@ impl Site {
 
     /// The program.
     pub fn program(&self) -> &Program
-        ensures program { program result.now ≡ (site_of self.now).program }
-        ensures known { all_filters_known (program result.now) ≡ true }
-        ensures pure { are_pure (program result.now) ≡ true }
+        ensures program { trees result.now ≡ (site_of self.now).program }
+        ensures known { all_filters_known (trees result.now) ≡ true }
+        ensures pure { are_pure (trees result.now) ≡ true }
     {
         &self.program
     }

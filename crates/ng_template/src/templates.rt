@@ -27,17 +27,20 @@ pub struct Templates {
 }
 
 impl Model for Templates {
-    ghost use Rattle.std.specs.Prelude.{List, map};
+    ghost use Rattle.std.specs.Prelude.{◌≤◌, List, length, map};
     ghost use Rattle.ng_template.specs.Kept.{Named, named_of};
 
     ghost Value = { List Named };
 
     ghost view = { λ t. map named_of t.items.items };
+
+    ghost invariant = { λ t. length t.items.items ≤ 4294967295 };
 }
 
 /// The name after as many templates.
 fn next(count: usize) -> Result<TplId, Memory>
-    ensures { Gives is_refused_memory (λ t. t.0) (next_name count) result }
+    ensures next { Gives is_refused_memory (λ t. t.0) (next_name count) result }
+    ensures few { IfOk result (λ _. count < 4294967295) }
 {
     if count < 4_294_967_295 {
         Ok(TplId(count as u32))
