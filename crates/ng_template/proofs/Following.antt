@@ -1,5 +1,5 @@
 -- Nodes in document order: their places, their sites and the first of them that is refused.
-use Rattle.std.proofs.Common.{◌≡◌, ◌+◌, ◌⊎◌, inl, inr, ℕ, Bool, true, false, cond, List, [], ◌∷◌, ◌++◌, map, length, Option, None, Some, Result, Ok, Err, refl, ap, sym, subst, ◌∙◌, append_assoc, append-nil, length-append, add_assoc, arith}
+use Rattle.std.proofs.Common.{◌≡◌, ◌+◌, ◌⊎◌, inl, inr, ℕ, Bool, true, false, cond, List, [], ◌∷◌, ◌++◌, length, Option, None, Some, Result, Ok, Err, refl, ap, sym, subst, ◌∙◌, append_assoc, append-nil, length-append, arith}
 use Rattle.std.specs.Prelude.{nat_lt}
 use Rattle.std.specs.List.{flat_map}
 use Rattle.std.proofs.lemmas.Grind.{flat_map-append}
@@ -10,13 +10,13 @@ use Rattle.ng_collect.specs.declared.definition.DirectiveDef.{DirectiveDef}
 use Rattle.ng_collect.specs.declared.fault.CollectFault.{CollectFault}
 use Rattle.ng_collect.specs.declared.fault.CollectFault.TheVariants as collect
 use Rattle.ng_collect.specs.declared.pick.Pick.{Pick}
-use Rattle.ng_drawing.specs.Template.{Site, PartAttributes, Part, Parts, text_part, comment_part, element_part, no_parts, part_then}
+use Rattle.ng_drawing.specs.Template.{Site, Part, Parts, element_part, part_then}
 use Rattle.ng_interp.specs.Parts as interp
 use Rattle.ng_interp.specs.declared.pieces.InterpFault.{InterpFault}
 use Rattle.ng_markup.specs.Forest.{Attributes, Node, Forest, element, text, comment, no_nodes, node}
-use Rattle.ng_template.specs.Compiles.{Made, first_place, other_places, site_limit, worn, past, with_text, text_made, plain_value, plain_values, attributes_at, compiled_node, compiled_forest}
-use Rattle.ng_template.specs.Order.{node_order, in_order, placed, picks_refusal, text_refusal, refusal, FirstRefusal, refused_here, refused_after, NoneRefused, text_sites, node_sites, piece_holes, value_holes, part_holes, holes, counted}
-use Rattle.ng_template.specs.Texts.{wrong, judged_as, judged, numbered, piece_sites, sites_in}
+use Rattle.ng_template.specs.Compiles.{Made, first_place, other_places, site_limit, worn, past, with_text, text_made, plain_values, attributes_at, compiled_node, compiled_forest}
+use Rattle.ng_template.specs.Order.{node_order, in_order, placed, picks_refusal, text_refusal, FirstRefusal, refused_here, refused_after, NoneRefused, text_sites, node_sites, piece_holes, value_holes, part_holes, holes, counted}
+use Rattle.ng_template.specs.Texts.{wrong, judged_as, judged, numbered, sites_in}
 use Rattle.ng_template.specs.declared.fault.TplFault.{TplFault}
 use Rattle.ng_template.specs.declared.fault.TplKind.{TplKind}
 
@@ -45,6 +45,7 @@ module _ (defs : List DirectiveDef) where
   none-append (x ∷ xs) ys h k = (h.0, none-append xs ys h.1 k)
 
   first_in : (xs ys : List (Node × ℕ)) (f : TplFault) → FirstRefusal defs xs f → FirstRefusal defs (xs ++ ys) f
+  first_in [] ys f h = elim h [ ]
   first_in (x ∷ xs) ys f (refused_here e) = refused_here e
   first_in (x ∷ xs) ys f (refused_after e h) = refused_after e (first_in xs ys f h)
 
@@ -124,7 +125,7 @@ module _ (defs : List DirectiveDef) where
         let size : length n.sites ≡ length m.sites + length (flat_map node_sites xs) = ap length h.sites ∙ length-append m.sites (flat_map node_sites xs) in
         record {
           left = g.left ∙ ap (after ys) h.left ∙ sym (after-append xs ys m.places);
-          sites = g.sites ∙ ap (λ (ss : List Site). ss ++ flat_map node_sites ys) h.sites ∙ append_assoc ∙ ap (λ (ss : List Site). m.sites ++ ss) (sym split);
+          sites = g.sites ∙ ap (λ (ss : List Site). ss ++ flat_map node_sites ys) h.sites ∙ append_assoc m.sites (flat_map node_sites xs) (flat_map node_sites ys) ∙ ap (λ (ss : List Site). m.sites ++ ss) (sym split);
           numbers = ap (λ (hs : List ℕ). hs ++ holes ps) h.numbers ∙ ap (λ (hs : List ℕ). counted (length m.sites) (flat_map node_sites xs) ++ hs) (g.numbers ∙ ap (λ k. counted k (flat_map node_sites ys)) size)
               ∙ sym (counted-append (length m.sites) (flat_map node_sites xs) (flat_map node_sites ys)) ∙ ap (counted (length m.sites)) (sym split);
           none = none-append defs xs ys h.none g.none;

@@ -7,7 +7,7 @@ pub mod Texts
 pub mod Compiles
 pub mod Holes
 pub mod TemplateOf
-pub mod Shared
 pub mod Order
 pub mod Laws
+pub mod TplNames
 pub mod Kept

@@ -1,12 +1,12 @@
 -- Document order, in the words of documents: what a node is refused for by itself, and which holes and sites it has.
-use Rattle.std.specs.Prelude.{◌≡◌, ℕ, zero, suc, ◌+◌, List, [], ◌∷◌, ◌++◌, Option, None, Some, Result, Ok, Err, option_map}
-use Rattle.std.specs.List.{flat_map, All}
+use Rattle.std.specs.Prelude.{◌≡◌, ℕ, ◌+◌, List, [], ◌∷◌, ◌++◌, Option, None, Some, Result, Ok, Err}
+use Rattle.std.specs.List.{flat_map}
 use Rattle.ng_collect.specs.Collected.{picked_for}
 use Rattle.ng_collect.specs.declared.definition.DirectiveDef.{DirectiveDef}
 use Rattle.ng_collect.specs.declared.fault.CollectFault.{CollectFault}
 use Rattle.ng_collect.specs.declared.fault.CollectFault.TheVariants as collect
 use Rattle.ng_collect.specs.declared.pick.Pick.{Pick}
-use Rattle.ng_drawing.specs.Template.{Site, Piece, word, hole, PartAttributes, Part, Parts, text_part, comment_part, element_part, no_parts, part_then}
+use Rattle.ng_drawing.specs.Template.{Site, Piece, word, hole, Part, Parts, text_part, comment_part, element_part, no_parts, part_then}
 use Rattle.ng_interp.specs.Parts as interp
 use Rattle.ng_interp.specs.declared.pieces.InterpFault.{InterpFault}
 use Rattle.ng_markup.specs.Forest.{Node, Forest, element, text, comment, no_nodes, node}

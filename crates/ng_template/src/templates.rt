@@ -1,16 +1,14 @@
 //! The templates of a page.
-ghost use Rattle.std.specs.Prelude.{◌≡◌, ◌++◌, ◌∷◌, ◌<◌, [], length, false, Some, None, option_map, slice_get, IfOk, IfErr, IfSome, OnOk, OnErr, IsNone, ◌↔◌};
+ghost use Rattle.std.specs.Prelude.{◌≡◌, ◌++◌, ◌∷◌, ◌<◌, ◌≤◌, [], length, false, Some, None, option_map, slice_get, IfOk, IfErr, IfSome, OnOk, OnErr, IsNone, ◌↔◌};
 ghost use Rattle.std.specs.List.{list_any};
 ghost use Rattle.ng_base.specs.Meets.{Gives};
-ghost use Rattle.ng_template.specs.Kept.{is_refused_memory, is_name, is_named, next_name, named_from};
-ghost use Rattle.ng_template.specs.TemplateOf.{template_of};
+ghost use Rattle.ng_template.specs.TplNames.{is_refused_memory, is_name, next_name};
 
 use crate::tpl::Tpl;
 use ng_base::fault::Memory;
 use ng_base::name::TplId;
 use ng_base::txt::Txt;
 use std::alloc::Global;
-use std::marker::Model;
 
 /// A template, and the name that `ng-include` knows it by.
 #[derive(Drop)]
@@ -20,21 +18,11 @@ struct Kept {
 }
 
 /// The templates of a page: its own, those of the application and those of its directives. A template has a name of
-/// its own, by the order in which they were added. Contracts see a list of names and templates.
+/// its own, by the order in which they were added. Contracts see them as the list `templates_of`, each with its name.
 #[derive(Drop)]
 pub struct Templates {
     items: Vec<Kept>,
-}
-
-impl Model for Templates {
-    ghost use Rattle.std.specs.Prelude.{◌≤◌, List, length, map};
-    ghost use Rattle.ng_template.specs.Kept.{Named, named_of};
-
-    ghost Value = { List Named };
-
-    ghost view = { λ t. map named_of t.items.items };
-
-    ghost invariant = { λ t. length t.items.items ≤ 4294967295 };
+    ghost few: { length items.items ≤ 4294967295 },
 }
 
 /// The name after as many templates.
@@ -60,9 +48,12 @@ fn is_word(word: &Txt, name: &Option<Txt>) -> bool
 }
 
 impl Templates {
+    ghost use Rattle.ng_template.specs.Kept.{templates_of, is_named, named_from};
+    ghost use Rattle.ng_template.specs.TemplateOf.{template_of};
+
     /// No template.
     pub fn new(alloc: Global) -> Templates
-        ensures { result ≡ [] }
+        ensures { templates_of result ≡ [] }
     {
         Templates {
             items: Vec::new(alloc),
@@ -71,9 +62,9 @@ impl Templates {
 
     /// Keeps a template under a new name. With a name of an application's template, which no other has, `ng-include` finds it by that.
     pub fn add(&mut self, name: Option<Txt>, t: Tpl) -> Result<TplId, Memory>
-        ensures answer { Gives is_refused_memory (λ t. t.0) (next_name (length self.old)) result }
-        ensures added { OnOk result (self.new ≡ self.old ++ (name, template_of t) ∷ []) }
-        ensures unchanged { OnErr result (self.new ≡ self.old) }
+        ensures answer { Gives is_refused_memory (λ t. t.0) (next_name (length (templates_of self.old))) result }
+        ensures added { OnOk result (templates_of self.new ≡ templates_of self.old ++ (name, template_of t) ∷ []) }
+        ensures unchanged { OnErr result (templates_of self.new ≡ templates_of self.old) }
     {
         let id = next(self.items.len())?;
         self.items.push(Kept { name, template: t })?;
@@ -82,17 +73,17 @@ impl Templates {
 
     /// The template of a name that `add` gave.
     pub fn get(&self, t: TplId) -> &Tpl
-        requires { t.0 < length self.now }
-        ensures { option_map (λ k. k.1) (slice_get self.now t.0) ≡ Some (template_of result.now) }
+        requires { t.0 < length (templates_of self.now) }
+        ensures { option_map (λ k. k.1) (slice_get (templates_of self.now) t.0) ≡ Some (template_of result.now) }
     {
         &self.items[t.0 as usize].template
     }
 
     /// The application's template of a name (API: ngInclude).
     pub fn named(&self, name: &Txt) -> Option<TplId>
-        ensures first { option_map (λ t. t.0) result ≡ named_from 0 name.now self.now }
-        ensures none { IsNone result ↔ (list_any (is_named name.now) self.now ≡ false) }
-        ensures there { IfSome result (λ t. t.0 < length self.now) }
+        ensures first { option_map (λ t. t.0) result ≡ named_from 0 name.now (templates_of self.now) }
+        ensures none { IsNone result ↔ (list_any (is_named name.now) (templates_of self.now) ≡ false) }
+        ensures there { IfSome result (λ t. t.0 < length (templates_of self.now)) }
     {
         let mut id = 0;
         for kept in self.items.as_slice() {

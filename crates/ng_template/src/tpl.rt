@@ -1,6 +1,6 @@
 //! What a document compiles to.
-ghost use Rattle.std.specs.Prelude.{◌≡◌, map, length};
-ghost use Rattle.ng_template.specs.Holes.{HolesBelow};
+ghost use Rattle.std.specs.Prelude.{◌≡◌, true, map, length};
+ghost use Rattle.ng_template.specs.Holes.{HolesBelow, holes_below};
 ghost use Rattle.ng_template.specs.Seen.{parts_of};
 ghost use Rattle.ng_template.specs.SiteOf.{site_of};
 
@@ -12,7 +12,7 @@ use crate::site::Site;
 pub struct Tpl {
     parts: Parts,
     sites: Vec<Site>,
-    ghost holes: { HolesBelow (length sites.items) (parts_of parts) },
+    ghost holes: { holes_below (length sites.items) (parts_of parts) ≡ true },
 }
 
 impl Tpl {
@@ -20,7 +20,7 @@ impl Tpl {
 
     /// A template of parts whose holes have these sites.
     pub(crate) fn new(parts: Parts, sites: Vec<Site>) -> Tpl
-        requires { HolesBelow (length sites.items) (parts_of parts) }
+        requires { holes_below (length sites.items) (parts_of parts) ≡ true }
         ensures { template_of result ≡ record { parts = parts_of parts; sites = map site_of sites.items } }
     {
         Tpl { parts, sites }
