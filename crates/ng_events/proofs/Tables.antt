@@ -6,11 +6,11 @@ use Rattle.std.proofs.lemmas.Slice.Eq.{bytes_eq-Decides}
 use Rattle.std.proofs.lemmas.Bool.Decides.{eqb_tells}
 use Rattle.ng_chain.specs.declared.chain.Token.{Token}
 use Rattle.ng_chain.specs.Walked.{Walked, serial_of, open_walks, IsRising}
-use Rattle.ng_behaviour.specs.Listeners.{Listener, Heard, place_of, hear_at, listened, with_listener, last_of, nobody}
+use Rattle.ng_behaviour.specs.Listeners.{Listener, Heard, place_of, hear_at, listened, with_listener, last_of, nobody, heard_at}
 use Rattle.ng_events.specs.declared.stands.Listener.{Listener as Registered}
 use Rattle.ng_events.specs.declared.stands.Stand.{Stand}
 use Rattle.ng_events.specs.declared.stands.Home.{Home}
-use Rattle.ng_events.specs.Stands.{all_heard, chain_at, change_chain, pushed, removed, seen, no_chain, open_on, entries_of}
+use Rattle.ng_events.specs.Stands.{all_heard, chain_at, change_chain, pushed, removed, seen, no_chain, open_on, entries_of, listening, listening_at}
 use Rattle.ng_events.specs.Names.{Names, AreSame}
 use Rattle.ng_events.specs.Sound.{AreThere, HaveHomes, HavePlaces, ArePlaces, LeavesWalks}
 use Rattle.ng_events.proofs.Entries.{entries-append, without-last}
@@ -126,5 +126,29 @@ chain-past (x ∷ xs) (suc i) h = chain-past xs i (omega arith)
 
 pub last-new : (xs : List Stand) (y : Stand) (s n : ℕ) (w : List ℕ) → y.chain ≡ no_chain → n ≡ length xs → place_of (all_heard xs) s w ≡ None → (chain_at (xs ++ y ∷ []) n).last ≡ last_of (all_heard xs) s w
 last-new xs y s n w e k p = ap (λ (f : ℕ → Walked Registered). (f n).last) (chain-added xs y e) ∙ (ap (λ (c : Walked Registered). c.last) (chain-past xs n (omega arith)) ∙ sym (last-none xs s w p))
+
+-- who listens, where each list has the entries that it had
+pub listening-kept : (xs ys : List Stand) → ((s : ℕ) (n : List ℕ) → place_of (all_heard ys) s n ≡ place_of (all_heard xs) s n) → ((j : ℕ) → (chain_at ys j).entries ≡ (chain_at xs j).entries) → (s : ℕ) (n : List ℕ) → listening (all_heard ys) s n ≡ listening (all_heard xs) s n
+listening-kept xs ys p e s n = ap (λ o. listening_at o (all_heard ys)) (p s n) ∙ by-place (place_of (all_heard xs) s n)
+  where
+    by-place : (o : Option ℕ) → listening_at o (all_heard ys) ≡ listening_at o (all_heard xs)
+    by-place None = refl
+    by-place (Some i) = (heard-read ys i).0 ∙ (ap entries_of (e i) ∙ sym (heard-read xs i).0)
+
+pub listening-back : (xs : List Stand) (i : ℕ) (t : Token) (l : Registered) → i < length xs → IsRising 0 (chain_at xs i).last (chain_at xs i).entries → (chain_at xs i).last < serial_of t → (s : ℕ) (n : List ℕ) → listening (all_heard (change_chain (change_chain xs i (pushed t l)) i (removed t))) s n ≡ listening (all_heard xs) s n
+listening-back xs i t l h r k s n =
+    listening-kept xs (change_chain (change_chain xs i (pushed t l)) i (removed t)) (leaves-back xs i t l h).places (back-entries xs i t l h r k) s n
+
+-- and where a list more has nobody in it
+pub listening-added : (xs : List Stand) (y : Stand) → y.chain ≡ no_chain → (s : ℕ) (n : List ℕ) → listening (all_heard (xs ++ y ∷ [])) s n ≡ listening (all_heard xs) s n
+listening-added xs y e s n = ap (λ o. listening_at o (all_heard (xs ++ y ∷ []))) (place-added xs y s n) ∙ by-place (place_of (all_heard xs) s n) (eqb s y.scope && bytes_eq n y.name)
+  where
+    read : (i : ℕ) → (heard_at (all_heard (xs ++ y ∷ [])) i).entries ≡ entries_of (chain_at xs i).entries
+    read i = (heard-read (xs ++ y ∷ []) i).0 ∙ ap (λ (f : ℕ → Walked Registered). entries_of (f i).entries) (chain-added xs y e)
+
+    by-place : (o : Option ℕ) (b : Bool) → listening_at (or_new o b (length xs)) (all_heard (xs ++ y ∷ [])) ≡ listening_at o (all_heard xs)
+    by-place (Some i) b = read i ∙ sym (heard-read xs i).0
+    by-place None true = read (length xs) ∙ ap (λ (c : Walked Registered). entries_of c.entries) (chain-past xs (length xs) (omega arith))
+    by-place None false = refl
 
 pub ruleset lists = (list-new, list-there, last-there, last-none, last-new, place-within)

@@ -32,6 +32,14 @@ all_heard = map heard
 abbrev pub lists_of : Table → List Heard
 lists_of t = all_heard t.stands
 
+-- who listens at a scope for a name, each under its serial
+abbrev pub listening_at : Option ℕ → List Heard → List (ℕ × Listener)
+listening_at None xs = []
+listening_at (Some i) xs = (heard_at xs i).entries
+
+abbrev pub listening : List Heard → ℕ → List ℕ → List (ℕ × Listener)
+listening xs s n = listening_at (place_of xs s n) xs
+
 abbrev pub no_chain : Walked Registered
 no_chain = record { entries = []; last = 0; walks = replicate 64 None }
 

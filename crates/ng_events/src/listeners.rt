@@ -1,7 +1,7 @@
 //! The listeners of all scopes.
-ghost use Rattle.std.specs.Prelude.{◌≡◌, ◌+◌, ◌<◌, ◌↔◌, [], Some, None, IsTrue, IsSome, is_some, length, option_map, IsNone, IfNone, IfSome, OnOk};
+ghost use Rattle.std.specs.Prelude.{◌≡◌, ◌+◌, ◌<◌, ◌↔◌, [], Some, None, IsTrue, IsSome, is_some, length, option_map, IsNone, IfNone, IfSome, OnOk, OnErr, ℕ, List};
 ghost use Rattle.ng_behaviour.specs.Listeners.{with_listener, without_listener, without_listeners_of, called, last_of};
-ghost use Rattle.ng_events.specs.Stands.{lists_of, walks_at, open_of, IsOpen, Begins, Goes, Ends};
+ghost use Rattle.ng_events.specs.Stands.{lists_of, walks_at, open_of, IsOpen, Begins, Goes, Ends, listening};
 ghost use Rattle.ng_parse.specs.ProgramOf.{program};
 
 use crate::names::place_in;
@@ -68,6 +68,7 @@ impl Listeners {
         ensures bare { self.new.bare ≡ self.old.bare }
         ensures open { open_of self.new ≡ open_of self.old }
         ensures worn { (result ≡ Err Memory.Worn) ↔ (last_of (lists_of self.old) scope.0 name.now ≡ u64.MAX) }
+        ensures stays { OnErr result ((s : ℕ) (n : List ℕ) → listening (lists_of self.new) s n ≡ listening (lists_of self.old) s n) }
     {
         let listener = Listener { id, body };
         let list = list_of(&mut self.stands, &mut self.names, self.alloc, scope.0, name)?;

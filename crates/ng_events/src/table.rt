@@ -1,11 +1,11 @@
 //! The lists of listeners with the maps that find them.
-ghost use Rattle.std.specs.Prelude.{◌≡◌, ◌<◌, ◌≤◌, ◌++◌, ◌∷◌, ◌↔◌, [], ℕ, if◌then◌else◌, Some, None, is_some, length, option_map, IfOk, OnOk, OnErr, vec_len};
+ghost use Rattle.std.specs.Prelude.{◌≡◌, ◌<◌, ◌≤◌, ◌++◌, ◌∷◌, ◌↔◌, [], ℕ, List, if◌then◌else◌, Some, None, is_some, length, option_map, IfOk, OnOk, OnErr, vec_len};
 ghost use Rattle.std.specs.BTreeMap.{get, values, IsOrdered};
 ghost use Rattle.std.specs.Ordering.{nat_cmp};
 ghost use Rattle.ng_behaviour.specs.Listeners.{Listener as Listened, with_listener, last_of, hear_at, listened, called, without_listener, without_listeners_of, place_of};
 ghost use Rattle.ng_base.specs.Order.{txt_cmp};
 ghost use Rattle.ng_chain.specs.Slots.{standing, entry_before};
-ghost use Rattle.ng_events.specs.Stands.{all_heard, chain_at, change_chain, no_chain, open_on, seen, emptied, empty_at, is_named};
+ghost use Rattle.ng_events.specs.Stands.{all_heard, chain_at, change_chain, no_chain, open_on, seen, emptied, empty_at, is_named, listening};
 ghost use Rattle.ng_events.specs.Sound.{AreThere, HaveHomes, HavePlaces, ArePlaces, LeavesWalks};
 
 use crate::names::{enter, place_in};
@@ -63,6 +63,7 @@ pub fn list_of(
     ensures chains { chain_at stands.new.items ≡ chain_at stands.old.items }
     ensures open { open_on stands.new.items ≡ open_on stands.old.items }
     ensures longer { vec_len stands.old ≤ vec_len stands.new }
+    ensures stays { (s : ℕ) (n : List ℕ) → listening (all_heard stands.new.items) s n ≡ listening (all_heard stands.old.items) s n }
     ensures alone { ArePlaces stands.new.items }
 {
     match place_in(names, scope, name) {
@@ -91,6 +92,7 @@ pub fn add_listener(
     ensures there { AreThere stands.new.items homes.new }
     ensures known { HaveHomes stands.new.items homes.new }
     ensures worn { (result ≡ Err Memory.Worn) ↔ ((chain_at stands.old.items list).last ≡ u64.MAX) }
+    ensures stays { OnErr result ((s : ℕ) (n : List ℕ) → listening (all_heard stands.new.items) s n ≡ listening (all_heard stands.old.items) s n) }
 {
     let id = listener.id.0;
     let token = push_in(stands, list, listener)?;

@@ -1,10 +1,10 @@
-use Rattle.std.proofs.Common.{◌≡◌, ◌<◌, ◌+◌, length, arith, refl, ap, ◌∙◌}
+use Rattle.std.proofs.Common.{ℕ, List, rules, ◌≡◌, ◌<◌, ◌+◌, length, arith, refl, ap, ◌∙◌}
 use Rattle.ng_chain.specs.Walked.{serial_of}
-use Rattle.ng_events.specs.Stands.{all_heard, chain_at, change_chain, pushed, removed}
+use Rattle.ng_events.specs.Stands.{listening, all_heard, chain_at, change_chain, pushed, removed}
 use Rattle.ng_events.proofs.Changed.{change-length, change-same}
 use Rattle.ng_events.proofs.Entries.{value-last}
 use Rattle.ng_events.proofs.Homes.{there-push, known-push, there-same, known-same}
-use Rattle.ng_events.proofs.Tables.{lists-push, leaves-change, leaves-back, there-back, known-back}
+use Rattle.ng_events.proofs.Tables.{lists-push, leaves-change, leaves-back, listening-back, there-back, known-back}
 use Rattle.ng_events.proofs.table.add_listener.Goals as goal
 
 pub returns-in_err-token-clause-there : goal.returns-in_err-token-clause-there
@@ -58,3 +58,15 @@ returns-in-Err-clause-known c =
     rw (c.remove_in.ensures.new, c.in_ok-token.ensures.ok.1)
     (known-same (change_chain (change_chain c.args.stands.now.items c.args.list (pushed c.in_ok-token.token c.args.listener)) c.args.list (removed c.in_ok-token.token)) c.args.homes.now c.insert.new.self c.in-Err.ensures.err
     (known-back c.args.stands.now.items c.args.homes.now c.args.list c.in_ok-token.token c.args.listener (grind arith) c.in_ok-token.ensures.rising (omega arith) c.requires.known))
+
+pub returns-in-Err-clause-stays : goal.returns-in-Err-clause-stays
+returns-in-Err-clause-stays c =
+    let k : serial_of c.in_ok-token.token ≡ (chain_at c.args.stands.now.items c.args.list).last + 1 = c.in_ok-token.ensures.ok.0 in
+    λ s n.
+    ap (λ xs. listening (all_heard xs) s n) (c.remove_in.ensures.new ∙ ap (λ xs. change_chain xs c.args.list (removed c.in_ok-token.token)) c.in_ok-token.ensures.ok.1)
+    ∙ listening-back c.args.stands.now.items c.args.list c.in_ok-token.token c.args.listener (grind arith) c.in_ok-token.ensures.rising (omega arith) s n
+
+pub returns-in_err-token-clause-stays : goal.returns-in_err-token-clause-stays
+returns-in_err-token-clause-stays c =
+    let e : (s : ℕ) (n : List ℕ) → listening (all_heard c.push_in.new.stands.items) s n ≡ listening (all_heard c.args.stands.now.items) s n = λ s n. ap (λ xs. listening (all_heard xs) s n) c.in_err-token.ensures.err in
+    search (rules, e)

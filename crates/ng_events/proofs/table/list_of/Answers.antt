@@ -1,8 +1,8 @@
 use Rattle.std.proofs.Common.{arith, refl, ap, ◌∙◌, sym}
 use Rattle.ng_behaviour.specs.Listeners.{hear_at, listened}
-use Rattle.ng_events.specs.Stands.{all_heard, chain_at, no_chain, open_on}
+use Rattle.ng_events.specs.Stands.{listening, all_heard, chain_at, no_chain, open_on}
 use Rattle.ng_events.proofs.Changed.{chain-added, place-within}
-use Rattle.ng_events.proofs.Tables.{open-added, list-new, last-there, last-new}
+use Rattle.ng_events.proofs.Tables.{listening-added, open-added, list-new, last-there, last-new}
 use Rattle.ng_events.proofs.table.list_of.Goals as goal
 
 pub returns-in-Some-clause-within : goal.returns-in-Some-clause-within
@@ -31,3 +31,9 @@ returns-in_ok-add_list-in-None-clause-chains c =
 pub returns-in_ok-add_list-in-None-clause-open : goal.returns-in_ok-add_list-in-None-clause-open
 returns-in_ok-add_list-in-None-clause-open c =
     ap open_on c.in_ok-add_list-in-None.ensures.ok ∙ open-added c.args.stands.now.items (record { scope = c.args.scope; name = c.args.name.now; chain = no_chain }) refl
+
+pub returns-in_ok-add_list-in-None-clause-stays : goal.returns-in_ok-add_list-in-None-clause-stays
+returns-in_ok-add_list-in-None-clause-stays c =
+    λ s n.
+    ap (λ xs. listening (all_heard xs) s n) c.in_ok-add_list-in-None.ensures.ok
+    ∙ listening-added c.args.stands.now.items (record { scope = c.args.scope; name = c.args.name.now; chain = no_chain }) refl s n
