@@ -1,5 +1,6 @@
 pub mod PartLists
 pub mod NodeLists
+pub mod HolePlaces
 pub mod Following
 pub mod Compiled
 pub mod Below

@@ -4,6 +4,7 @@ pub mod ValueOf
 pub mod Seen
 pub mod SiteOf
 pub mod Texts
+pub mod Shared
 pub mod Compiles
 pub mod Holes
 pub mod TemplateOf

@@ -13,6 +13,7 @@ ghost use Rattle.ng_template.specs.Texts.{judged};
 
 use crate::elements::attributes_of;
 use crate::fault::{TplFault, TplKind};
+use crate::known::Known;
 use crate::parts::{Part, Parts, comment, element, text};
 use crate::texts::{count_holes, place_text, read_text, refusal};
 use crate::tpl::{Making, Tpl};
@@ -38,11 +39,16 @@ fn first_of(places: &[u64]) -> (u64, &[u64])
 }
 
 /// A text, whose sites come after those before.
-fn text_at<'a>(alloc: Global, whole: &Txt, made: Making<'a>) -> Result<(Part, Making<'a>), TplFault>
+fn text_at<'a>(
+    alloc: Global,
+    known: &mut Known,
+    whole: &Txt,
+    made: Making<'a>,
+) -> Result<(Part, Making<'a>), TplFault>
     ensures { Gives is_tpl_want (λ q. (part_of q.0, made_of q.1)) (text_made (made_of made.entry) (judged (first_place (made_of made.entry).places) (pieces_in whole.now))) result }
 {
     let (first, others) = first_of(made.places);
-    let parts = read_text(alloc, first, whole)?;
+    let parts = read_text(alloc, known, first, whole)?;
     if made.sites.len() + count_holes(parts.as_slice()) > SITE_LIMIT {
         return Err(refusal(TplKind::Memory(Memory::Worn), 0));
     }
@@ -72,18 +78,19 @@ fn past(made: Making<'_>) -> Making<'_>
 fn part_at<'a>(
     alloc: Global,
     r: &Registry,
+    known: &mut Known,
     node: &Node,
     made: Making<'a>,
 ) -> Result<(Part, Making<'a>), TplFault>
     ensures { Gives is_tpl_want (λ q. (part_of q.0, made_of q.1)) (compiled_node r.now (node_of node.now) (made_of made.entry)) result }
 {
     match node {
-        Node::Text(whole) => text_at(alloc, whole, made),
+        Node::Text(whole) => text_at(alloc, known, whole, made),
         Node::Comment(whole) => Ok((comment(whole.copied()?), past(made))),
         Node::Element { name, attrs, kids } => {
             let (first, _) = first_of(made.places);
             let attributes = attributes_of(alloc, node, attrs, r, first)?;
-            let (parts, after) = parts_at(alloc, r, kids, past(made))?;
+            let (parts, after) = parts_at(alloc, r, known, kids, past(made))?;
             Ok((element(name.copied()?, attributes, parts), after))
         }
     }
@@ -94,6 +101,7 @@ fn part_at<'a>(
 fn parts_at<'a>(
     alloc: Global,
     r: &Registry,
+    known: &mut Known,
     forest: &Forest,
     made: Making<'a>,
 ) -> Result<(Parts, Making<'a>), TplFault>
@@ -102,7 +110,7 @@ fn parts_at<'a>(
     let mut parts = Parts::new(alloc);
     let mut now = made;
     for node in &forest.items {
-        let (part, after) = part_at(alloc, r, node, now)?;
+        let (part, after) = part_at(alloc, r, known, node, now)?;
         parts.push(part)?;
         now = after;
     }
@@ -120,6 +128,6 @@ pub fn compile(alloc: Global, s: &Source, r: &Registry, slots: bool) -> Result<T
         places: s.places.as_slice(),
         sites: Vec::new(alloc),
     };
-    let (parts, made) = parts_at(alloc, r, &s.forest, made)?;
+    let (parts, made) = parts_at(alloc, r, &mut Known::new(alloc), &s.forest, made)?;
     Ok(Tpl::new(parts, made.sites))
 }

@@ -6,10 +6,12 @@
 //! each site's program is pure and names known filters alone. `laws` says of it, in the words of documents, that sites belong to
 //! the holes in document order and that the refusal is the first in that order.
 //!
+//! A hole with the text of an earlier one shares its program, so that it is read once (`known`).
+//!
 //! `Templates` has the templates of a page, each under a name of its own; some have a name that `ng-include` knows.
 //!
-//! In reading order: `fault` has the refusals; `pieces`, `parts`, `site` and `tpl` are what a template is; `texts` reads
-//! texts, `elements` asks for the directives, `compiling` walks the document; `templates`; `laws`.
+//! In reading order: `fault` has the refusals; `pieces`, `parts`, `site` and `tpl` are what a template is; `known` and `texts`
+//! read texts, `elements` asks for the directives, `compiling` walks the document; `templates`; `laws`.
 //!
 //! Not here: which directives an element has (`ng_collect`), how a text is cut and a hole is read (`ng_interp`), and what
 //! a template shows (`ng_drawing`).
@@ -18,6 +20,7 @@
 pub mod compiling;
 mod elements;
 pub mod fault;
+mod known;
 pub mod laws;
 pub mod parts;
 pub mod pieces;

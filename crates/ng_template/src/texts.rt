@@ -9,12 +9,13 @@ ghost use Rattle.ng_template.specs.TemplateOf.{sites_of};
 ghost use Rattle.ng_template.specs.Texts.{refused, is_known, is_pure as is_pure_piece, is_one_time, wrong as wrong_with, judged, numbered, sites_in};
 
 use crate::fault::{TplFault, TplKind};
+use crate::known::Known;
 use crate::pieces::{Piece, Pieces};
 use crate::site::Site;
 use ng_base::fault::Memory;
 use ng_base::txt::Txt;
 use ng_drawing::kind::SiteKind;
-use ng_interp::{Cut, InterpFault, InterpKind, Part, any_hole, cut_text, read_part};
+use ng_interp::{Cut, InterpFault, InterpKind, Part, any_hole, cut_text};
 use ng_view::{filters_known, is_pure};
 use std::alloc::{AllocError, Global};
 
@@ -41,23 +42,28 @@ fn push(parts: &mut Vec<Part>, part: Part) -> Result<(), AllocError>
 }
 
 /// The parts of cuts.
-fn read_cuts(alloc: Global, escapes: bool, cuts: &[Cut]) -> Result<Vec<Part>, InterpFault>
+fn read_cuts(
+    alloc: Global,
+    known: &mut Known,
+    escapes: bool,
+    cuts: &[Cut],
+) -> Result<Vec<Part>, InterpFault>
     ensures { Gives is_free (λ v. map piece_of v.items) (pieces_on escapes [] cuts.now) result }
 {
     let mut parts = Vec::new(alloc);
     for cut in cuts {
-        let part = read_part(alloc, escapes, cut)?;
+        let part = known.part(escapes, cut)?;
         push(&mut parts, part)?;
     }
     Ok(parts)
 }
 
 /// The parts of a text.
-fn read_pieces(alloc: Global, text: &Txt) -> Result<Vec<Part>, InterpFault>
+fn read_pieces(alloc: Global, known: &mut Known, text: &Txt) -> Result<Vec<Part>, InterpFault>
     ensures { Gives is_free (λ v. map piece_of v.items) (pieces_in text.now) result }
 {
     let cuts = cut_text(alloc, text)?;
-    read_cuts(alloc, any_hole(cuts.as_slice()), cuts.as_slice())
+    read_cuts(alloc, known, any_hole(cuts.as_slice()), cuts.as_slice())
 }
 
 /// Whether the filters of all holes are there.
@@ -121,12 +127,17 @@ fn wrong(parts: &[Part]) -> Option<TplKind>
 }
 
 /// The parts of a text that begins at a place, unless something is wrong with its holes.
-pub(crate) fn read_text(alloc: Global, place: u64, text: &Txt) -> Result<Vec<Part>, TplFault>
+pub(crate) fn read_text(
+    alloc: Global,
+    known: &mut Known,
+    place: u64,
+    text: &Txt,
+) -> Result<Vec<Part>, TplFault>
     ensures parts { Gives is_tpl_want (λ v. map piece_of v.items) (judged place (pieces_in text.now)) result }
     ensures known { IfOk result (λ v. list_all is_known (map piece_of v.items) ≡ true) }
     ensures pure { IfOk result (λ v. list_all is_pure_piece (map piece_of v.items) ≡ true) }
 {
-    match read_pieces(alloc, text) {
+    match read_pieces(alloc, known, text) {
         Err(fault) => match fault.kind {
             InterpKind::Memory(_) => Err(want()),
             _ => Err(refusal(TplKind::Expression, place)),
