@@ -58,7 +58,7 @@ shaped w ts p t g h = record {
       ap (λ (s : Stands). plain (shows (texts_of (table_of w)) s)) h.shape
       ∙ (shape_draws (keys_of p) (texts_of (table_of w)) h.name t.parts
       ∙ same_parts (λ n. texts_of (table_of w) (keys_of p n)) (λ n. state_text (slice_get (instance_at (table_of w) p).sites n)) p.count
-        (λ n lt. sym (ap state_text (state_at (table_of w) p.scope p.path p.first p.count n lt))) t.parts h.holes);
+      (λ n lt. sym (ap state_text (state_at (table_of w) p.scope p.path p.first p.count n lt))) t.parts h.holes);
 }
 
 pub page_displays : PageDisplaysInstance

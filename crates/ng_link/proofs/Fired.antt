@@ -24,7 +24,8 @@ use Rattle.ng_watch.specs.Table.{Table, found, kept_at, keeping, with_kept}
 use Rattle.ng_link.specs.Firing.{text_in, Tells, Writes, WritesAt}
 use Rattle.ng_link.specs.Placing.{node_name}
 use Rattle.ng_link.specs.Standing.{Standing}
-use Rattle.ng_link.specs.State.{State, core_of, table_of, templates_of, page_of, places_of, texts_of}
+use Rattle.ng_act.specs.State.{State}
+use Rattle.ng_link.specs.State.{core_of, table_of, templates_of, page_of, places_of, texts_of}
 use Rattle.ng_link.specs.declared.works.Works.{Works}
 use Rattle.ng_link.proofs.Keys.{key_is}
 

@@ -7,3 +7,4 @@ pub mod Rows
 pub mod Displayed
 pub mod Fired
 pub mod Links
+pub mod Handed

@@ -21,7 +21,8 @@ use Rattle.ng_link.specs.Building.{unset, HomedAll, AllAt}
 use Rattle.ng_link.specs.Linked.{Links}
 use Rattle.ng_link.specs.Rows.{fresh_rows}
 use Rattle.ng_link.specs.Standing.{Standing}
-use Rattle.ng_link.specs.State.{State, core_of, table_of, templates_of, page_of, template_at, places_of}
+use Rattle.ng_act.specs.State.{State}
+use Rattle.ng_link.specs.State.{core_of, table_of, templates_of, page_of, template_at, places_of}
 use Rattle.ng_link.specs.declared.works.Works.{Works}
 use Rattle.ng_link.proofs.Shapes.{both_true, counted, all_held}
 use Rattle.ng_link.proofs.Rows.{rows_unset, rows_found, rows_stand, all_at}
@@ -90,21 +91,24 @@ linked_stands old new t scope number m path object first found_holes is_path is_
     let objects : (core_of new).objects ≡ (core_of old).objects = ap (λ (c : State). c.objects) core in
     let ts : Stands = shape (keys_from path first) m t.parts in
     let places : AllAt (places_of new) (keys_from path first) 0 (holes m t.parts) =
-        subst (λ (xs : List ℕ). AllAt (places_of new) (keys_from path first) 0 xs) is_holes
-        (all_at (places_of new) (keys_from path first) 0 found_holes (λ j x e. ap (λ (i : ℕ). places_of new (keys_from path first i)) (zero-add j) ∙ ap (option_map in_text) (held j x e))) in
+    subst (λ (xs : List ℕ). AllAt (places_of new) (keys_from path first) 0 xs) is_holes
+    (all_at (places_of new) (keys_from path first) 0 found_holes (λ j x e. ap (λ (i : ℕ). places_of new (keys_from path first i)) (zero-add j) ∙ ap (option_map in_text) (held j x e))) in
     record {
       page = rw (← is_path, ← is_first) page;
       table = rw (← is_path, ← is_object, ← is_first) table;
       core = rw (← is_first) core;
       templates = templates;
-      stands = (ts, record {
-        shown = rw (table, rows_unset path object first t.sites) shown;
-        held = all_held (places_of new) (sources new.dom) (keys_from path first) 0 m (length t.sites) t.parts count places homed;
-        placed = λ k h. rows_found (λ q. IsSome (places_of new q)) path object first t.sites (λ j lt. held_there new.texts path first found_holes held j (omega (arith, lt, many_found))) k (rw table at h);
-        below = λ k h. let lt = under k (placed_some (node_name (get key_cmp new.texts k)) h) in rw serial (omega (arith, lt, many_found));
-        watched = λ k. rw (table, objects) (rows_stand (length (core_of old).objects) path object first t.sites room k);
-        page = rw (page, templates, at) (record { name = m; shape = refl; count = refl; holes = below_count });
-      });
+      stands = (
+        ts,
+        record {
+          shown = rw (table, rows_unset path object first t.sites) shown;
+          held = all_held (places_of new) (sources new.dom) (keys_from path first) 0 m (length t.sites) t.parts count places homed;
+          placed = λ k h. rows_found (λ q. IsSome (places_of new q)) path object first t.sites (λ j lt. held_there new.texts path first found_holes held j (omega (arith, lt, many_found))) k (rw table at h);
+          below = λ k h. let lt = under k (placed_some (node_name (get key_cmp new.texts k)) h) in rw serial (omega (arith, lt, many_found));
+          watched = λ k. rw (table, objects) (rows_stand (length (core_of old).objects) path object first t.sites room k);
+          page = rw (page, templates, at) (record { name = m; shape = refl; count = refl; holes = below_count });
+        },
+      );
     }
 
 -- holes that are numbered have numbers below the one after them

@@ -94,9 +94,10 @@ rows_then path o n m xs x e = put_last path o n m xs (record { watch = watching_
 pub all_at : (site : Key → Option Place) (keys : ℕ → Key) (n : ℕ) (xs : List ℕ) → ((j x : ℕ) → slice_get xs j ≡ Some x → site (keys (n + j)) ≡ Some (in_text x)) → AllAt site keys n xs
 all_at site keys n [] each = tt
 all_at site keys n (x ∷ xs) each =
-    let here : site (keys (n + 0)) ≡ Some (in_text x) = each 0 x refl in
-    (ap (λ (k : ℕ). site (keys k)) (let same : n ≡ n + 0 = omega arith in same) ∙ here,
-    all_at site keys (n + 1) xs (λ j y e. ap (λ (k : ℕ). site (keys k)) (let same : n + 1 + j ≡ n + suc j = omega arith in same) ∙ each (suc j) y e))
+    let here : site (keys (n + 0)) ≡ Some (in_text x) = each 0 x refl in (
+      ap (λ (k : ℕ). site (keys k)) (let same : n ≡ n + 0 = omega arith in same) ∙ here,
+      all_at site keys (n + 1) xs (λ j y e. ap (λ (k : ℕ). site (keys k)) (let same : n + 1 + j ≡ n + suc j = omega arith in same) ∙ each (suc j) y e),
+    )
 
 -- one hole more is placed
 module _ (old new : Key → Option ℕ) (path : List ℕ) (first i : ℕ) where

@@ -1,9 +1,9 @@
 -- What contracts see of the works of a page.
 use Rattle.std.specs.Prelude.{ℕ, zero, suc, ◌+◌, List, [], ◌∷◌, Option, None, Some, option_map, slice_get, not, is_some}
 use Rattle.std.specs.BTreeMap.{get}
-use Rattle.ng_base.specs.Objects.{Object}
 use Rattle.ng_base.specs.declared.path.Key.{Key}
-use Rattle.ng_behaviour.specs.Scopes.{Scope}
+use Rattle.ng_act.specs.Frames.{state_of}
+use Rattle.ng_act.specs.State.{State}
 use Rattle.ng_dom.specs.Drawing.{Place, in_text}
 use Rattle.ng_drawing.specs.Instance.{SiteState, Instance, kept_text}
 use Rattle.ng_drawing.specs.Template.{Template}
@@ -13,18 +13,8 @@ use Rattle.ng_watch.specs.Keys.{key_cmp}
 use Rattle.ng_watch.specs.Table.{Table, watchers_of, found, kept_at}
 use Rattle.ng_link.specs.Placing.{node_name}
 use Rattle.ng_link.specs.Shape.{key_on, keys_from}
-use Rattle.ng_link.specs.declared.core_parts.Core.{Core}
 use Rattle.ng_link.specs.declared.works.Linked.{Linked}
 use Rattle.ng_link.specs.declared.works.Works.{Works}
-
--- the core
-pub record State : Type 0 where
-  pub objects : List Object
-  pub scopes : List Scope
-  pub serial : ℕ
-
-abbrev pub state_of : Core → State
-state_of c = record { objects = c.store; scopes = c.scopes; serial = c.serial.0 }
 
 -- an instance that stands: its template and scope by number, the path of its sites' keys, the number of the first, and how many
 pub record Page : Type 0 where
@@ -41,6 +31,7 @@ linked_of i = record { template = i.template.0; scope = i.scope.0; path = i.path
 abbrev pub keys_of : Page → ℕ → Key
 keys_of p = keys_from p.path p.first
 
+-- the core
 abbrev pub core_of : Works → State
 core_of w = state_of w.core
 

@@ -28,7 +28,6 @@
 
 mod building;
 mod copying;
-pub mod core_parts;
 mod firing;
 pub mod instance;
 pub mod laws;

@@ -82,12 +82,7 @@ fn home_text(alloc: Global, watchers: &Watchers, home: &Home) -> Result<Option<T
 }
 
 /// A node shows what the watchers of its holes have kept.
-fn write_text(
-    alloc: Global,
-    dom: &mut Dom,
-    watchers: &Watchers,
-    n: NodeId,
-) -> Result<(), Memory>
+fn write_text(alloc: Global, dom: &mut Dom, watchers: &Watchers, n: NodeId) -> Result<(), Memory>
     ensures written { OnOk result (Writes (texts_of (watchers_of watchers.now)) n.made.0 dom.old dom.new) }
     ensures refused { IfErr result (λ e. e ≡ Memory.Refused) }
 {

@@ -85,7 +85,9 @@ fn after_part(n: u64, part: &Part) -> Option<u64>
         Part::Text(pieces) => after_pieces(n, pieces.as_slice()),
         Part::Comment(_) => Some(n),
         Part::Element {
-            attributes, parts, ..
+            attributes,
+            parts,
+            ..
         } => {
             if !are_plain(attributes.as_slice()) || !names_rise(attributes.as_slice()) {
                 return None;

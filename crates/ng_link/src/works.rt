@@ -1,8 +1,10 @@
 //! The works of a page: the core, the templates, what stands of them, and the watchers.
-ghost use Rattle.std.specs.Prelude.{◌≡◌, [], None};
-ghost use Rattle.ng_link.specs.State.{state_of};
+ghost use Rattle.std.specs.Prelude.{◌≡◌, [], None, option_map};
+ghost use Rattle.ng_act.specs.Frames.{state_of, IsSound};
+ghost use Rattle.ng_act.specs.State.{with_fault};
 
-use crate::core_parts::Core;
+use ng_act::core_state::Core;
+use ng_base::fault::Fault;
 use ng_base::name::{NodeId, ScopeId, TplId};
 use ng_base::path::{Key, Path};
 use ng_dom::dom::Dom;
@@ -38,14 +40,15 @@ pub struct Works {
 }
 
 impl Works {
-    ghost use Rattle.ng_link.specs.State.{core_of, table_of, templates_of, page_of};
+    ghost use Rattle.ng_link.specs.State.{linked_of, core_of, table_of, templates_of, page_of};
     ghost use Rattle.ng_template.specs.Kept.{templates_of as kept_templates};
     ghost use Rattle.ng_link.specs.Standing.{IsBare, Standing};
-    ghost use Rattle.ng_dom.specs.Drawing.{none_stand};
+    ghost use Rattle.ng_dom.specs.Drawing.{Stands, none_stand};
 
     /// The works over a core and templates, of which none is linked.
     pub fn new(alloc: Global, core: Core, templates: Templates) -> Works
         ensures core { core_of result ≡ state_of core }
+        ensures sound { IsSound core → IsSound result.core }
         ensures templates { templates_of result ≡ kept_templates templates }
         ensures bare { IsBare result }
         ensures stands { Standing result none_stand }
@@ -68,6 +71,18 @@ impl Works {
         &self.core
     }
 
+    /// A fault is handed over.
+    pub fn hand_over(&mut self, f: Fault)
+        ensures core { core_of self.new ≡ with_fault f (core_of self.old) }
+        ensures sound { IsSound self.old.core → IsSound self.new.core }
+        ensures stands { (ts : Stands) → Standing self.old ts → Standing self.new ts }
+        ensures table { table_of self.new ≡ table_of self.old }
+        ensures templates { templates_of self.new ≡ templates_of self.old }
+        ensures page { page_of self.new ≡ page_of self.old }
+    {
+        self.core.hand_over(f);
+    }
+
     /// The watchers.
     pub fn watchers(&self) -> &Watchers
         ensures { result.now ≡ self.now.watchers }
@@ -87,5 +102,12 @@ impl Works {
         ensures { kept_templates result.now ≡ templates_of self.now }
     {
         &self.templates
+    }
+
+    /// The instance that stands, as its template and the keys of its sites.
+    pub fn page(&self) -> Option<&Linked>
+        ensures { option_map (λ p. linked_of p.now) result ≡ page_of self.now }
+    {
+        self.page.as_ref()
     }
 }

@@ -24,9 +24,9 @@ loop-value-preserved c =
     let new = c.set_value.new.dom in
     record {
       filled = λ p e h.
-        let told = element_set n e (map drawn_of xs) done (drawn_of x) (map drawn_of (drop (suc i) xs)) c.loop-value.dom new p split c.requires becomes (inv.filled p e h) in
-        let F : DrawnAttributes → Type 0 = λ ats. ReadsIn (rooms new) p (lone_element n e (drawn_attributes unset ats)) in
-        subst F (sym more) told;
+          let told = element_set n e (map drawn_of xs) done (drawn_of x) (map drawn_of (drop (suc i) xs)) c.loop-value.dom new p split c.requires becomes (inv.filled p e h) in
+          let F : DrawnAttributes → Type 0 = λ ats. ReadsIn (rooms new) p (lone_element n e (drawn_attributes unset ats)) in
+          subst F (sym more) told;
       spares = λ r free p f old now. spared n _ c.loop-value.dom new becomes r free p f old (inv.spares r free p f old now);
       stays = record {
         homes = λ q. stays.homes q ∙ inv.stays.homes q;

@@ -12,4 +12,4 @@ loop-i-preserved c =
     ap (map state_of) c.in_ok-push.ensures.items
     ∙ (map-append state_of c.loop-i.sites.items (c.in_ok-site_state.field-0 ∷ [])
     ∙ states_then t c.args.page.now.scope.0 c.args.page.now.path c.args.page.now.first c.loop-i.i (map state_of c.loop-i.sites.items) (state_of c.in_ok-site_state.field-0) c.loop-i.invariant
-      (c.in_ok-site_state.ensures ∙ ap (site_state t c.args.page.now.scope.0) c.in_ok-key.ensures))
+    (c.in_ok-site_state.ensures ∙ ap (site_state t c.args.page.now.scope.0) c.in_ok-key.ensures))
