@@ -9,7 +9,7 @@ use Rattle.ng_dom.specs.declared.dom.Dom.{Dom}
 use Rattle.std.specs.BTreeMap.{get}
 use Rattle.ng_watch.specs.Keys.{key_cmp}
 use Rattle.ng_link.specs.Placing.{node_name}
-use Rattle.ng_link.specs.State.{core_of, table_of, templates_of, page_of, texts_of}
+use Rattle.ng_link.specs.State.{table_of, templates_of, page_of, texts_of}
 use Rattle.ng_link.specs.declared.works.Works.{Works}
 
 -- the text that is drawn from a source
@@ -36,6 +36,6 @@ pub record Fires (k : Key) (old new : Works) : Type 0 where
   pub dom : WritesAt (texts_of (table_of old)) (node_name (get key_cmp old.texts k)) old.dom new.dom
   pub texts : new.texts ≡ old.texts
   pub table : table_of new ≡ table_of old
-  pub core : core_of new ≡ core_of old
+  pub core : new.core ≡ old.core
   pub templates : templates_of new ≡ templates_of old
   pub page : page_of new ≡ page_of old

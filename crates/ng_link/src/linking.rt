@@ -1,5 +1,6 @@
 //! Linking, and the fires of texts.
 ghost use Rattle.std.specs.Prelude.{◌≡◌, ◌<◌, ◌+◌, ◌≤◌, [], length, None, Some, Ok, Err, false, true, IsSome, IfOk, OnOk, IfErr, nat_lt};
+ghost use Rattle.ng_act.specs.Frames.{IsSound};
 ghost use Rattle.ng_base.specs.Faults.{is_memory};
 ghost use Rattle.ng_behaviour.specs.ScopeObjects.{AreAmong};
 ghost use Rattle.ng_dom.specs.Document.{next_name, live_count, Shows};
@@ -112,6 +113,7 @@ impl Works {
         requires top { parent ≡ None }
         requires first { at ≡ 0 }
         ensures links { OnOk result ((tpl : Template) → template_at (templates_of self.old) t.0 ≡ Some tpl → Links scope.0 t.0 tpl self.old self.new) }
+        ensures sound { OnOk result (IsSound self.old.core → IsSound self.new.core) }
         ensures room { OnOk result ((tpl : Template) → template_at (templates_of self.old) t.0 ≡ Some tpl → linked 0 tpl.parts ≡ Ok tt) }
         ensures fault { IfErr result (λ e. is_memory e ≡ false → (tpl : Template) → template_at (templates_of self.old) t.0 ≡ Some tpl → linked 0 tpl.parts ≡ Err e) }
         ensures same { IfErr result (λ e. is_memory e ≡ false → IsSame self.old self.new) }
@@ -177,6 +179,7 @@ impl Works {
         ensures table { OnOk result (table_of self.new ≡ with_kept key.now (Some (snap_of s)) (table_of self.old)) }
         ensures stands { OnOk result ((ts : Stands) → Standing self.old ts → Standing self.new ts) }
         ensures core { OnOk result (core_of self.new ≡ core_of self.old) }
+        ensures sound { OnOk result (IsSound self.old.core → IsSound self.new.core) }
         ensures templates { OnOk result (templates_of self.new ≡ templates_of self.old) }
         ensures page { OnOk result (page_of self.new ≡ page_of self.old) }
         ensures refused { IfErr result (λ e. e ≡ Memory.Refused) }

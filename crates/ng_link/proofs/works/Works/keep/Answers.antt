@@ -1,6 +1,8 @@
-use Rattle.std.proofs.Common.{Some, subst, ◌∙◌}
+use Rattle.std.proofs.Common.{Some, ap, sym, subst, ◌∙◌}
 use Rattle.std.specs.BTreeMap.{get}
 use Rattle.std.proofs.lemmas.Result.{on_ok_weaker}
+use Rattle.ng_act.specs.Frames.{state_of, IsSound}
+use Rattle.ng_act.specs.declared.core_state.Core.{Core}
 use Rattle.ng_value.specs.Snaps.{snap_of}
 use Rattle.ng_watch.specs.Keys.{key_cmp}
 use Rattle.ng_watch.specs.Table.{Table}
@@ -17,5 +19,11 @@ returns-clause-stands c =
     let k = c.args.key.now in
     let W : Table → Type 0 = λ t. WritesAt (texts_of t) (node_name (get key_cmp old.texts k)) old.dom new.dom in
     on_ok_weaker c.show_kept.result
-    (λ fires. kept_stands old new k (Some (snap_of c.args.s)) c.requires (fires.table ∙ c.keep.ensures.kept) (subst W c.keep.ensures.kept fires.dom) fires.texts fires.core fires.templates fires.page)
+    (λ fires. kept_stands old new k (Some (snap_of c.args.s)) c.requires (fires.table ∙ c.keep.ensures.kept) (subst W c.keep.ensures.kept fires.dom) fires.texts (ap state_of fires.core) fires.templates fires.page)
     c.show_kept.ensures.fires
+
+pub returns-clause-core : goal.returns-clause-core
+returns-clause-core c = on_ok_weaker c.show_kept.result (λ fires. ap state_of fires.core) c.show_kept.ensures.fires
+
+pub returns-clause-sound : goal.returns-clause-sound
+returns-clause-sound c = on_ok_weaker c.show_kept.result (λ fires. λ sound. let F : Core → Type 0 = λ core. IsSound core in subst F (sym fires.core) sound) c.show_kept.ensures.fires

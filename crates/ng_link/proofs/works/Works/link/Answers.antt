@@ -62,3 +62,15 @@ returns-clause-links c =
     (subst S parts c.in_ok-spots.ensures.shows) (subst H parts c.in_ok-spots.ensures.homed)
     (c.in_ok-spots.ensures.holes ∙ ap (holes m) parts)
     (subst A c.as_slice.ensures.value c.in_ok-place_all.ensures.there) (subst B c.as_slice.ensures.value c.in_ok-place_all.ensures.below))
+
+pub returns-clause-sound : goal.returns-clause-sound
+returns-clause-sound c = λ h. record {
+  objects = h.objects;
+  parents = h.parents;
+  locals = h.locals;
+  funs = h.funs;
+  tasks = h.tasks;
+  changes = h.changes;
+  depth = h.depth;
+  room = h.room;
+}
