@@ -1,19 +1,19 @@
 -- Pieces that are built one after another.
-use Rattle.std.proofs.Common.{◌≡◌, ◌≤◌, ◌<◌, ◌+◌, ℕ, Bool, true, false, cond, List, [], ◌∷◌, ◌++◌, Option, Some, None, Result, Ok, Err, refl, ap, ◌∙◌, sym, subst, map, length, arith}
-use Rattle.std.specs.Prelude.{◌==◌, ◌&&◌, nat_lt, option_map}
+use Rattle.std.proofs.Common.{◌≡◌, ◌<◌, ◌+◌, ℕ, Bool, true, false, cond, List, [], ◌∷◌, ◌++◌, Option, Some, Result, Ok, Err, refl, ap, ◌∙◌, sym, subst, arith}
+use Rattle.std.specs.Prelude.{◌&&◌, nat_lt, option_map}
 use Rattle.std.proofs.lemmas.Bool.{eq-eqb, ne_eqb}
 use Rattle.std.proofs.lemmas.Bool.Decides.{nat_tests}
-use Rattle.ng_base.specs.declared.fault.Memory.TheVariants.{Refused, Worn}
+use Rattle.ng_base.specs.declared.fault.Memory.TheVariants.{Worn}
 use Rattle.ng_base.specs.declared.name.NodeId.{NodeId}
 use Rattle.ng_base.specs.declared.path.Key.{Key}
 use Rattle.ng_base.specs.Faults.{is_memory}
-use Rattle.ng_dom.specs.Document.{rooms, homes, top, next_name, live_count, Remains, Becomes, Stays, Gains}
+use Rattle.ng_dom.specs.Document.{rooms, homes, next_name, Becomes, Stays, Gains}
 use Rattle.ng_link.specs.Sources.{sources, source_of}
 use Rattle.ng_dom.specs.Drawing.{Source, of_text, of_comment, of_element, DrawnAttributes, joined, Stand, Stands, text_stands, comment_stands, element_stands, none_stand, stand_then, drawn_attributes, show, shows}
-use Rattle.ng_dom.specs.Editing.{changed_in, changed, with_kids, with_attributes}
+use Rattle.ng_dom.specs.Editing.{changed_in, with_kids}
 use Rattle.ng_dom.specs.Lists.{filled_with}
 use Rattle.ng_dom.specs.Making.{new_name, is_want, node_limit}
-use Rattle.ng_dom.specs.Nodes.{NamedNode, NamedForest, named_text, named_comment, named_element, nothing_named, named_then, name_of, names_of}
+use Rattle.ng_dom.specs.Nodes.{NamedNode, NamedForest, named_text, named_comment, named_element, nothing_named, name_of, names_of}
 use Rattle.ng_dom.specs.Rooms.{Rooms, ReadsIn}
 use Rattle.ng_dom.specs.declared.dom.Dom.{Dom}
 use Rattle.ng_dom.specs.declared.fault.DomFault.{DomFault}

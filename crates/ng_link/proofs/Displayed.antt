@@ -1,19 +1,17 @@
 -- A page that stands displays the drawing of its template with what its instance has kept.
-use Rattle.std.proofs.Common.{◌≡◌, ◌≤◌, ◌<◌, ◌+◌, ℕ, zero, suc, Bool, true, false, List, [], ◌∷◌, ◌++◌, Option, Some, None, refl, ap, ◌∙◌, sym, subst, map, length, arith, slice_get}
-use Rattle.std.specs.List.{flat_map}
-use Rattle.ng_base.specs.declared.path.Key.{Key}
-use Rattle.ng_markup.specs.Forest.{Attributes, Node, Forest, element, text, comment, no_nodes, node}
+use Rattle.std.proofs.Common.{◌≡◌, ◌<◌, ◌+◌, ℕ, zero, suc, List, [], ◌∷◌, ◌++◌, Option, Some, refl, ap, ◌∙◌, sym, subst, arith, slice_get}
+use Rattle.ng_markup.specs.Forest.{Attributes, Node, Forest, element, text, no_nodes, node}
 use Rattle.ng_dom.specs.Drawing.{Stands, none_stand, shows}
 use Rattle.ng_dom.specs.Nodes.{plain}
-use Rattle.ng_drawing.specs.Drawing.{Look, draw_piece, draw_pieces, draw_attributes, draw_part, draw}
+use Rattle.ng_drawing.specs.Drawing.{Look, draw_pieces, draw_attributes, draw_part, draw}
 use Rattle.ng_drawing.specs.Instance.{SiteState, state_text, shown}
 use Rattle.ng_drawing.specs.Template.{Piece, word, hole, PartAttributes, Part, Parts, text_part, comment_part, element_part, no_parts, part_then, Template}
-use Rattle.ng_template.specs.Holes.{PieceBelow, PiecesBelow, ValuesBelow, PartBelow, HolesBelow}
+use Rattle.ng_template.specs.Holes.{PiecesBelow, ValuesBelow, PartBelow, HolesBelow}
 use Rattle.ng_watch.specs.Table.{Table}
 use Rattle.ng_link.specs.Laws.{PageDisplaysInstance}
-use Rattle.ng_link.specs.Shape.{key_on, shape}
+use Rattle.ng_link.specs.Shape.{key_on}
 use Rattle.ng_link.specs.Standing.{HasShape, IsShape, IsPage, Standing, Displays}
-use Rattle.ng_link.specs.State.{Page, keys_of, page_of, table_of, templates_of, template_at, texts_of, site_state, site_states, instance_at}
+use Rattle.ng_link.specs.State.{Page, keys_of, table_of, templates_of, texts_of, site_state, site_states, instance_at}
 use Rattle.ng_link.specs.declared.works.Works.{Works}
 use Rattle.ng_link.proofs.Shapes.{shape_draws}
 

@@ -1,13 +1,13 @@
 -- The fire of a text.
-use Rattle.std.proofs.Common.{◌≡◌, ℕ, Bool, true, false, cond, List, [], ◌∷◌, ◌++◌, Option, Some, None, refl, ap, ◌∙◌, sym, subst, length}
-use Rattle.std.specs.Prelude.{IsSome, is_some, option_map, option_and_then}
+use Rattle.std.proofs.Common.{◌≡◌, ℕ, Bool, true, false, cond, List, [], ◌∷◌, Option, Some, None, refl, ap, ◌∙◌, sym, subst, length}
+use Rattle.std.specs.Prelude.{IsSome, option_map, option_and_then}
 use Rattle.std.specs.Option.{ForSome}
 use Rattle.std.specs.BTreeMap.{BTreeMap, get}
 use Rattle.std.proofs.Math.Path.{fun_ext}
 use Rattle.ng_base.specs.declared.name.NodeId.{NodeId}
 use Rattle.ng_base.specs.Views.{ViewTree}
 use Rattle.ng_base.specs.declared.path.Key.{Key}
-use Rattle.ng_dom.specs.Document.{rooms, top, Becomes, Stays, Shows}
+use Rattle.ng_dom.specs.Document.{rooms, Shows}
 use Rattle.ng_link.specs.Sources.{sources, source_of}
 use Rattle.ng_dom.specs.Drawing.{Stand, Stands, Bodies, text_stands, comment_stands, element_stands, block_stands, none_stand, stand_then, no_bodies, body_then, show_bodies, Place, Source, in_text, of_text, of_comment, of_element, joined, drawn_attributes, DrawnAttributes, show, shows, HolesAt, AttributesAt, Held, HeldAll, HeldBodies, DifferAt}
 use Rattle.ng_dom.specs.Editing.{changed_in, with_text}
@@ -15,13 +15,12 @@ use Rattle.ng_dom.specs.Nodes.{NamedForest, name_of, names_of}
 use Rattle.ng_dom.specs.Rooms.{ReadsIn}
 use Rattle.ng_dom.specs.declared.dom.Dom.{Dom}
 use Rattle.ng_dom.specs.declared.record.Piece.{Piece}
-use Rattle.ng_dom.specs.declared.record.Piece.TheVariants.{Words, Hole}
 use Rattle.ng_dom.proofs.Focus.{text_written, other, others}
 use Rattle.ng_drawing.specs.Instance.{kept_text}
 use Rattle.ng_watch.specs.Keys.{key_cmp, is_key}
 use Rattle.ng_watch.specs.Seen.{Watcher, WatchStands}
-use Rattle.ng_watch.specs.Table.{Table, found, kept_at, keeping, with_kept}
-use Rattle.ng_link.specs.Firing.{text_in, Tells, Writes, WritesAt}
+use Rattle.ng_watch.specs.Table.{Table, found, keeping, with_kept}
+use Rattle.ng_link.specs.Firing.{text_in, Tells, WritesAt}
 use Rattle.ng_link.specs.Placing.{node_name}
 use Rattle.ng_link.specs.Standing.{Standing}
 use Rattle.ng_act.specs.State.{State}

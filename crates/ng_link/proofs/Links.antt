@@ -1,6 +1,6 @@
 -- What a link leaves stands.
 use Rattle.std.proofs.Common.{◌≡◌, ◌≤◌, ◌<◌, ◌+◌, ℕ, zero, suc, Bool, true, false, cond, List, [], ◌∷◌, ◌++◌, Option, Some, None, refl, ap, ◌∙◌, sym, subst, map, length, arith, slice_get}
-use Rattle.std.specs.Prelude.{◌==◌, IsSome, option_map, option_and_then, ◌&&◌}
+use Rattle.std.specs.Prelude.{◌==◌, IsSome, option_map, option_and_then}
 use Rattle.std.proofs.lemmas.Bool.{eqb-true}
 use Rattle.std.specs.BTreeMap.{BTreeMap, get}
 use Rattle.std.proofs.lemmas.Option.{slice_get-get_or}
@@ -16,11 +16,10 @@ use Rattle.ng_link.specs.Sources.{sources}
 use Rattle.ng_dom.specs.Drawing.{Stands, shows}
 use Rattle.std.specs.List.{list_all}
 use Rattle.ng_drawing.specs.Template as template
-use Rattle.ng_template.specs.Holes.{PieceBelow, PiecesBelow, ValuesBelow, PartBelow, HolesBelow}
+use Rattle.ng_template.specs.Holes.{PiecesBelow, ValuesBelow, PartBelow, HolesBelow}
 use Rattle.ng_link.specs.Building.{unset, HomedAll, AllAt}
 use Rattle.ng_link.specs.Linked.{Links}
 use Rattle.ng_link.specs.Rows.{fresh_rows}
-use Rattle.ng_link.specs.Standing.{Standing}
 use Rattle.ng_act.specs.State.{State}
 use Rattle.ng_link.specs.State.{core_of, table_of, templates_of, page_of, template_at, places_of}
 use Rattle.ng_link.specs.declared.works.Works.{Works}

@@ -1,24 +1,23 @@
 -- Steps of the loops that build nodes.
-use Rattle.std.proofs.Common.{◌≡◌, ◌≤◌, ◌<◌, ◌+◌, ℕ, zero, suc, Bool, true, false, cond, List, [], ◌∷◌, ◌++◌, Option, Some, None, refl, ap, ◌∙◌, sym, subst, map, take, drop, length, get_or, arith}
-use Rattle.std.specs.Prelude.{◌==◌, IsSome, option_map}
+use Rattle.std.proofs.Common.{◌≡◌, ◌≤◌, ◌<◌, ◌+◌, ℕ, zero, suc, true, List, [], ◌∷◌, ◌++◌, Option, Some, None, refl, ap, ◌∙◌, sym, subst, map, take, drop, length, get_or, arith}
+use Rattle.std.specs.Prelude.{IsSome, option_map}
 use Rattle.std.specs.BTreeMap.{insert_entry, get}
 use Rattle.std.specs.Ordering.{nat_cmp}
 use Rattle.std.proofs.lemmas.Bool.{eq-eqb}
 use Rattle.ng_base.specs.Order.{txt_cmp}
 use Rattle.ng_base.specs.declared.name.NodeId.{NodeId}
 use Rattle.ng_base.specs.declared.path.Key.{Key}
-use Rattle.ng_dom.specs.Document.{rooms, homes, next_name, live_count, Becomes}
+use Rattle.ng_dom.specs.Document.{rooms, homes, next_name, Becomes}
 use Rattle.ng_dom.specs.Drawing.{joined, drawn_attributes, DrawnAttributes}
 use Rattle.ng_dom.specs.Editing.{changed_in, with_attributes, attribute_set}
 use Rattle.ng_dom.specs.Kept.{room_kept}
 use Rattle.ng_dom.specs.Rooms.{Room, ReadsIn}
 use Rattle.ng_dom.specs.declared.dom.Dom.{Dom}
-use Rattle.ng_dom.specs.declared.record.Home.{Home}
 use Rattle.ng_dom.specs.declared.record.Piece.{Piece}
 use Rattle.ng_dom.specs.declared.record.Record.{Record}
 use Rattle.ng_dom.proofs.Adding.{standing_below}
 use Rattle.ng_drawing.specs.Nodes.{part_nodes, nodes}
-use Rattle.ng_drawing.specs.Template.{Part, Parts, part_then, parts_from}
+use Rattle.ng_drawing.specs.Template.{Part, parts_from}
 use Rattle.ng_link.specs.Building.{unset, IsThere}
 use Rattle.ng_link.specs.Order.{names_rise, HasRising, HaveRising}
 use Rattle.ng_link.specs.Seen.{lone_element}

@@ -1,24 +1,22 @@
 -- The watchers and places of an instance that was linked just now.
-use Rattle.std.proofs.Common.{◌≡◌, ◌≤◌, ◌<◌, ◌+◌, ℕ, zero, suc, Bool, true, false, cond, List, [], ◌∷◌, ◌++◌, Option, Some, None, refl, ap, ◌∙◌, sym, subst, map, length, arith, slice_get, get_or}
-use Rattle.std.specs.Prelude.{◌==◌, IsSome, option_map, option_and_then}
+use Rattle.std.proofs.Common.{◌≡◌, ◌<◌, ◌+◌, ℕ, suc, Bool, true, false, cond, List, [], ◌∷◌, ◌++◌, Option, Some, None, refl, ap, ◌∙◌, sym, subst, length, arith, slice_get, get_or}
+use Rattle.std.specs.Prelude.{◌==◌, IsSome, option_and_then}
 use Rattle.std.specs.Option.{ForSome}
-use Rattle.std.specs.Map.{lookup}
 use Rattle.std.specs.BTreeMap.{insert_entry}
-use Rattle.std.specs.Ordering.{nat_cmp, ordering_then, match_ordering}
+use Rattle.std.specs.Ordering.{nat_cmp, ordering_then}
 use Rattle.std.specs.declared.cmp.Ordering.{Ordering}
-use Rattle.std.specs.declared.cmp.Ordering.TheVariants.{Less, Equal, Greater}
+use Rattle.std.specs.declared.cmp.Ordering.TheVariants.{Greater}
 use Rattle.std.proofs.Math.Path.{fun_ext}
 use Rattle.std.proofs.lemmas.Cmp.{tied_itself}
-use Rattle.ng_base.specs.Order.{path_cmp, path_cmp_total}
+use Rattle.ng_base.specs.Order.{path_cmp_total}
 use Rattle.ng_base.specs.declared.path.Key.{Key}
-use Rattle.ng_base.specs.Views.{ViewTree}
 use Rattle.ng_dom.specs.Drawing.{Place, in_text}
 use Rattle.ng_drawing.specs.Instance.{kept_text}
 use Rattle.ng_drawing.specs.Template.{Site}
 use Rattle.ng_drawing.specs.declared.kind.SiteKind.{SiteKind}
 use Rattle.ng_drawing.specs.declared.kind.SiteKind.TheVariants as sites
 use Rattle.ng_watch.specs.Keys.{key_cmp, is_key}
-use Rattle.ng_watch.specs.Seen.{Watching, Watcher, WatchStands, DestStands}
+use Rattle.ng_watch.specs.Seen.{Watcher, WatchStands, DestStands}
 use Rattle.ng_watch.specs.Table.{Table, found, kept_at, with_watch}
 use Rattle.ng_link.specs.Shape.{key_on, keys_from}
 use Rattle.std.proofs.lemmas.Bool.{eqb-true, eqb-false}

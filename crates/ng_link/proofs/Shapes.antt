@@ -2,19 +2,18 @@
 use Rattle.std.proofs.Common.{◌≡◌, ◌≤◌, ◌<◌, ◌+◌, ℕ, Bool, true, false, List, [], ◌∷◌, ◌++◌, Option, Some, None, refl, ap, ◌∙◌, sym, cond, map, length, arith, length-append, append-nil}
 use Rattle.std.specs.Prelude.{◌==◌, ◌&&◌, option_and_then}
 use Rattle.std.proofs.lemmas.Bool.{eqb-true}
-use Rattle.std.specs.List.{list_all, flat_map}
+use Rattle.std.specs.List.{list_all}
 use Rattle.ng_base.specs.declared.path.Key.{Key}
-use Rattle.ng_markup.specs.Forest.{Attributes, Node, Forest, element, text, comment, no_nodes, node}
-use Rattle.ng_dom.specs.Nodes.{named_then, nothing_named, NamedForest, NamedNode, plain, plain_node, followed_by, names_of}
-use Rattle.ng_dom.specs.Drawing.{DrawnAttributes, Place, Source, in_text, in_attribute, of_text, of_comment, of_element, Stand, Stands, text_stands, comment_stands, element_stands, none_stand, stand_then, joined, drawn_attributes, show, shows, HolesAt, AttributesAt, Held, HeldAll}
-use Rattle.ng_dom.specs.declared.record.Piece.{Piece}
-use Rattle.ng_drawing.specs.Drawing.{Look, draw_piece, draw_pieces, draw_attributes, draw_part, draw}
+use Rattle.ng_markup.specs.Forest.{Attributes, Forest, element, text, no_nodes, node}
+use Rattle.ng_dom.specs.Nodes.{plain, plain_node, followed_by}
+use Rattle.ng_dom.specs.Drawing.{Place, Source, in_text, in_attribute, Stand, Stands, none_stand, stand_then, joined, drawn_attributes, show, shows, HolesAt, AttributesAt, Held, HeldAll}
+use Rattle.ng_drawing.specs.Drawing.{draw_pieces, draw_attributes, draw_part, draw}
 use Rattle.ng_drawing.specs.Nodes.{part_nodes, nodes}
 use Rattle.ng_drawing.specs.Template as template
 use Rattle.ng_drawing.specs.Template.{word, hole, PartAttributes, Part, Parts, text_part, comment_part, element_part, no_parts, part_then, parts_from}
-use Rattle.ng_link.specs.Shape.{linked_piece, linked_pieces, linked_values, part_shape, shape, piece_holes, part_holes, holes}
+use Rattle.ng_link.specs.Shape.{linked_pieces, linked_values, part_shape, shape, piece_holes, part_holes, holes}
 use Rattle.ng_link.specs.Order.{after_pieces, after_part, after_parts, are_plain, are_regular, names_rise, is_plain_piece}
-use Rattle.ng_link.specs.Building.{unset, Homed, HomedAll, AllAt}
+use Rattle.ng_link.specs.Building.{Homed, HomedAll, AllAt}
 
 -- pieces with the keys of their holes join as they are drawn
 module _ (keys : ℕ → Key) (v : Key → List ℕ) where

@@ -1,7 +1,7 @@
 -- The fire of a text: the node of a hole shows what is kept now, and nothing else is changed.
 use Rattle.std.specs.Prelude.{ℕ, ◌≡◌, List, Option, None, Some}
 use Rattle.ng_base.specs.declared.path.Key.{Key}
-use Rattle.ng_dom.specs.Document.{rooms, Becomes, Stays}
+use Rattle.ng_dom.specs.Document.{Becomes, Stays}
 use Rattle.ng_link.specs.Sources.{sources}
 use Rattle.ng_dom.specs.Drawing.{Source, of_text, of_comment, of_element, joined}
 use Rattle.ng_dom.specs.Editing.{changed_in, with_text}

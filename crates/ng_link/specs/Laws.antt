@@ -1,5 +1,5 @@
 -- What is proved of what stands.
-use Rattle.std.specs.Prelude.{ℕ, ◌≡◌, List, Option, Some}
+use Rattle.std.specs.Prelude.{ℕ, ◌≡◌, List, Some}
 use Rattle.ng_base.specs.declared.path.Key.{Key}
 use Rattle.ng_dom.specs.Drawing.{Stands, shows}
 use Rattle.ng_dom.specs.Nodes.{plain}

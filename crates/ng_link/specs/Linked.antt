@@ -1,5 +1,5 @@
 -- What a link leaves.
-use Rattle.std.specs.Prelude.{ℕ, ◌≡◌, ◌+◌, length, map, Option, Some}
+use Rattle.std.specs.Prelude.{ℕ, ◌≡◌, ◌+◌, length, Some}
 use Rattle.ng_behaviour.specs.Scopes.{path_at, object_at}
 use Rattle.ng_dom.specs.Drawing.{Stands}
 use Rattle.ng_drawing.specs.Template.{Template}

@@ -1,5 +1,5 @@
 -- The places of holes, as the code keeps them.
-use Rattle.std.specs.Prelude.{ℕ, ◌≡◌, ◌+◌, ◌<◌, List, Option, None, Some, option_map, slice_get, IsSome}
+use Rattle.std.specs.Prelude.{ℕ, ◌≡◌, ◌<◌, List, Option, Some, option_map, slice_get, IsSome}
 use Rattle.std.specs.BTreeMap.{BTreeMap, get}
 use Rattle.ng_base.specs.declared.name.NodeId.{NodeId}
 use Rattle.ng_base.specs.declared.path.Key.{Key}

@@ -1,10 +1,9 @@
 -- The watchers of the sites of a template, right after they were linked.
 use Rattle.std.specs.Prelude.{ℕ, ◌+◌, List, [], ◌∷◌, None}
-use Rattle.ng_base.specs.declared.path.Key.{Key}
 use Rattle.ng_drawing.specs.Template.{Site}
 use Rattle.ng_drawing.specs.declared.kind.SiteKind.{SiteKind}
 use Rattle.ng_drawing.specs.declared.kind.SiteKind.TheVariants as sites
-use Rattle.ng_watch.specs.Seen.{Watching, Watcher}
+use Rattle.ng_watch.specs.Seen.{Watching}
 use Rattle.ng_watch.specs.Table.{Table}
 use Rattle.ng_watch.specs.declared.watch.WatchKind.{WatchKind}
 use Rattle.ng_watch.specs.declared.watch.WatchKind.TheVariants as kinds

@@ -6,7 +6,6 @@ use Rattle.ng_dom.specs.Document.{rooms, top, live_count, Shows}
 use Rattle.ng_link.specs.Sources.{sources}
 use Rattle.ng_dom.specs.Drawing.{Stands, none_stand, HeldAll, shows}
 use Rattle.ng_dom.specs.Nodes.{NamedForest, plain}
-use Rattle.ng_dom.specs.declared.dom.Dom.{Dom}
 use Rattle.ng_drawing.specs.Template.{Template}
 use Rattle.ng_markup.specs.Forest.{Forest}
 use Rattle.ng_template.specs.Holes.{HolesBelow}

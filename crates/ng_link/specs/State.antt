@@ -1,5 +1,5 @@
 -- What contracts see of the works of a page.
-use Rattle.std.specs.Prelude.{ℕ, zero, suc, ◌+◌, List, [], ◌∷◌, Option, None, Some, option_map, slice_get, not, is_some}
+use Rattle.std.specs.Prelude.{ℕ, zero, suc, ◌+◌, List, [], ◌∷◌, Option, option_map, slice_get, not, is_some}
 use Rattle.std.specs.BTreeMap.{get}
 use Rattle.ng_base.specs.declared.path.Key.{Key}
 use Rattle.ng_act.specs.Frames.{state_of}

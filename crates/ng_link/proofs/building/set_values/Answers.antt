@@ -1,4 +1,4 @@
-use Rattle.std.proofs.Common.{arith, ap, sym, subst, ◌∙◌, ◌≡◌, ◌++◌, ◌∷◌, [], List, ℕ, take, drop, map, suc, ◌+◌}
+use Rattle.std.proofs.Common.{ap, sym, subst, ◌∙◌, ◌≡◌, ◌++◌, ◌∷◌, [], take, drop, map, suc, ◌+◌}
 use Rattle.std.proofs.lemmas.List.{map_more}
 use Rattle.ng_dom.specs.Document.{rooms}
 use Rattle.ng_dom.specs.Drawing.{DrawnAttributes, drawn_attributes}

@@ -1,4 +1,4 @@
-use Rattle.std.proofs.Common.{◌≡◌, ℕ, List, [], Option, take, map}
+use Rattle.std.proofs.Common.{ℕ, List, [], Option, take, map}
 use Rattle.ng_dom.specs.Document.{rooms, Stays}
 use Rattle.ng_dom.specs.Drawing.{drawn_attributes}
 use Rattle.ng_dom.specs.Rooms.{ReadsIn}

@@ -1,8 +1,8 @@
-use Rattle.std.proofs.Common.{arith, ap, sym, ◌∙◌, ◌≡◌, ◌+◌, ◌++◌, ◌∷◌, [], List, ℕ, length, map, take, length-take}
+use Rattle.std.proofs.Common.{arith, ap, sym, ◌∙◌, ◌≡◌, ◌+◌, ◌++◌, ◌∷◌, [], List, length, map, take, length-take}
 use Rattle.std.proofs.lemmas.List.{map_more, length-map}
 use Rattle.ng_drawing.specs.Template.{Site}
 use Rattle.ng_template.specs.SiteOf.{site_of}
-use Rattle.ng_watch.specs.Table.{Table, watchers_of, with_watch}
+use Rattle.ng_watch.specs.Table.{watchers_of, with_watch}
 use Rattle.ng_link.specs.Rows.{watching_site, fresh_rows}
 use Rattle.ng_link.proofs.Rows.{rows_then}
 use Rattle.ng_link.proofs.placing.watch_all.Goals as goal
