@@ -6,3 +6,4 @@ pub mod Faults
 pub mod FilterFaults
 pub mod TreeFaults
 pub mod Kept
+pub mod TreeNodes

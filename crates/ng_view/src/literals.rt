@@ -1,5 +1,6 @@
 //! The values of names, numbers and words.
-ghost use Rattle.std.specs.Prelude.{◌≡◌, ◌<◌, ℕ, pos, List, length, IfOk, option_copied};
+ghost use Rattle.std.specs.Prelude.{◌≡◌, ◌<◌, ℕ, pos, List, length, IfOk, option_copied, Ok};
+ghost use Rattle.ng_base.specs.declared.value.Value.TheVariants.{Text};
 ghost use Rattle.std.specs.Map.{lookup};
 ghost use Rattle.std.specs.Str.{bytes_eq};
 ghost use Rattle.ng_base.specs.Faults.{is_memory};
@@ -90,4 +91,28 @@ pub fn named(store: &Store, scope: Oid, locals: &Locals, name: &Txt) -> Result<V
         Some(v) => Ok(View::of_value(v.copied()?)),
         None => Ok(undefined()),
     }
+}
+
+/// A bare name, as evaluation wants it.
+#[inline(never)]
+pub(crate) fn bare_name(
+    store: &Store,
+    scope: Oid,
+    locals: &Locals,
+    name: &Txt,
+) -> Result<View, Fault>
+    requires scope { scope.0 < length store.now }
+    requires locals { LocalsStand (length store.now) locals.now }
+    ensures value { Gives is_memory view_of (Ok (named store.now scope.0 locals.now name.now)) result }
+    ensures stands { IfOk result (λ v. ViewStands (length store.now) (view_of v)) }
+{
+    Ok(named(store, scope, locals, name)?)
+}
+
+/// A text as it is written.
+#[inline(never)]
+pub(crate) fn text(t: &Txt) -> Result<View, Fault>
+    ensures { Gives is_memory view_of (Ok (prim (Text t.now))) result }
+{
+    Ok(View::of_value(Value::Text(t.copied()?)))
 }
