@@ -6,6 +6,7 @@ ghost use Rattle.ng_base.specs.Word.{IsWord};
 ghost use Rattle.ng_base.specs.declared.heap.ObjKind.TheVariants.{Scope as a_scope};
 ghost use Rattle.ng_language.specs.Objects.{new_object, set_name};
 ghost use Rattle.ng_store.specs.Answers.{is_want, next_name};
+ghost use Rattle.ng_scopes.specs.Others.{LeavesOthers};
 ghost use Rattle.ng_behaviour.specs.ScopeObjects.{named, id_name, parent_name, root_name};
 
 use ng_base::fault::Memory;
@@ -29,6 +30,7 @@ fn set_word(
     requires object { object.0 < length store.old }
     requires value { StandsAmong (length store.old) value }
     ensures ok { OnOk result (store.new ≡ set_name store.old object.0 word.now value) }
+    ensures others { LeavesOthers store.old object.0 store.new }
     ensures len { length store.new ≡ length store.old }
     ensures refused { IfErr result (λ e. e ≡ Memory.Refused) }
 {
@@ -50,6 +52,7 @@ pub fn name_scope(
     requires parent { StandsAmong (length store.old) parent }
     requires root { root.0 < length store.old }
     ensures ok { OnOk result (store.new ≡ named store.old object.0 id parent root.0) }
+    ensures others { LeavesOthers store.old object.0 store.new }
     ensures len { length store.new ≡ length store.old }
     ensures refused { IfErr result (λ e. e ≡ Memory.Refused) }
 {

@@ -5,6 +5,7 @@ ghost use Rattle.ng_store.specs.Answers.{is_want};
 ghost use Rattle.ng_behaviour.specs.Scopes.{root_of, with_child, without_scope, path_at, parent_at, object_at, live_at, at, of_object, next_scope, IsNextScope, NoneAhead, IsScopeTree, child_of};
 ghost use Rattle.ng_behaviour.specs.ScopeObjects.{with_scope_object, named, AreAmong};
 ghost use Rattle.ng_scopes.specs.Answers.{next_scope_name, next_number};
+ghost use Rattle.ng_scopes.specs.Others.{LeavesOthers};
 ghost use Rattle.ng_scopes.specs.Rows.{tree_of};
 
 use crate::index::first_ahead;
@@ -176,6 +177,7 @@ impl Scopes {
     pub fn name_root(&self, store: &mut Store) -> Result<(), Memory>
         requires { AreAmong (length store.old) self.now }
         ensures ok { OnOk result (store.new ≡ named store.old (object_at self.now 0) 1 Value.Null (object_at self.now 0)) }
+        ensures others { LeavesOthers store.old (object_at self.now 0) store.new }
         ensures len { length store.new ≡ length store.old }
         ensures refused { IfErr result (λ e. e ≡ Memory.Refused) }
     {
