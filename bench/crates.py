@@ -17,7 +17,7 @@ ROWS = [
     ('listeners, walked and taken out from the front', 'front', 10_000),
     ('listeners, walked and taken out from the back', 'back', 10_000),
     ('listeners, walked and taken out from the middle', 'middle', 10_000),
-    ('scopes dropped, of which each tenth has a listener', 'drop', 1_000),
+    ('scopes dropped, of which each tenth has a listener', 'drop', 10_000),
     ('scopes, made and met in the order of their paths', 'scopes', 10_000),
     ('evaluations of `a.b.c + d * 2 > 10 ? e.f : g[h]`', 'choice', 100_000),
     ("a hundred evaluations of `xs | orderBy:'n' | limitTo:10` over so many objects", 'order', 10_000),
