@@ -6,7 +6,7 @@ pub mod Later
 pub mod LaterPrograms
 pub mod Copied
 pub mod ActLaws
-pub mod Growing
+pub mod MoreScopes
 pub mod FirstCore
 pub mod DeadScopes
 pub mod FoundFunctions

@@ -12,11 +12,12 @@
 //! [`core_state::Core`] keeps what programs leave for the digest: tasks, probes, and what the watchers are to become. A command
 //! sets the count of bodies to 0.
 //!
-//! In reading order: `core_state` and `pending` have the core, `beginning` the one that a page begins with, `called` what a
-//! call calls, `callees` what a function does, `reading` the programs that are given as texts, `binding` the values of
-//! arguments, `keeping` what is written into the store, `places` what an assignment writes to, `scope_calls` what scopes
-//! register, `burying` the death of a scope, `event_objects` the objects of events, `opening` bodies, events and walks as
-//! they are opened and closed, `leaves` the expressions without parts, and `laws` what a reader may take from the definitions.
+//! In reading order: `core_state` and `pending` have the core, `beginning` the one that a page begins with, `growing` the
+//! scopes that a page adds, `called` what a call calls, `callees` what a function does, `reading` the programs that are
+//! given as texts, `binding` the values of arguments, `keeping` what is written into the store, `places` what an assignment
+//! writes to, `scope_calls` what scopes register, `burying` the death of a scope, `event_objects` the objects of events,
+//! `opening` bodies, events and walks as they are opened and closed, `leaves` the expressions without parts, and `laws`
+//! what a reader may take from the definitions.
 //!
 //! Not here yet: the walk over a program's tree and over the listeners of an event, which runs these steps. The digest, and
 //! what a fired watch does, are the page's.
@@ -29,6 +30,7 @@ pub mod called;
 pub mod callees;
 pub mod core_state;
 pub mod event_objects;
+pub mod growing;
 pub mod keeping;
 pub mod laws;
 pub mod leaves;

@@ -1,6 +1,9 @@
 -- What holds of a core holds where a scope more is made.
-use Rattle.std.proofs.Common.{◌≡◌, ◌<◌, ◌≤◌, ℕ, suc, List, length, map, Some, None, arith, inl, inr, ◌⊎◌, sym, ◌∙◌, ap, refl}
-use Rattle.ng_behaviour.specs.ScopeObjects.{AreAmong}
+use Rattle.std.proofs.Common.{length-append, Option, ◌≡◌, ◌<◌, ◌≤◌, ℕ, suc, List, length, map, Some, None, arith, inl, inr, ◌⊎◌, sym, ◌∙◌, ap, refl}
+use Rattle.std.specs.Prelude.{Result, Ok, Err, OnOk}
+use Rattle.ng_base.specs.Objects.{Object}
+use Rattle.ng_scopes.proofs.Lengths.{update-length}
+use Rattle.ng_behaviour.specs.ScopeObjects.{AreAmong, with_scope_object}
 use Rattle.ng_behaviour.specs.Scopes.{Scope, parent_at, with_child}
 use Rattle.ng_behaviour.proofs.ScopeTree.{grown-length, grown-new, grown-keeps, scope-past}
 use Rattle.ng_events.specs.Stands.{open_of}
@@ -63,3 +66,11 @@ sound_grown c d p o s h es among more el ef et ec ed eo =
     }
 
 pub ruleset scope_grown = (sound_grown)
+
+-- the objects with a scope's object more are no fewer
+pub object_grown : (objects : List Object) (t : List Scope) (proto : Option ℕ) (c : ℕ) → length objects ≤ length (with_scope_object objects t proto c)
+object_grown objects t proto c = simp (update-length, length-append) (omega arith)
+
+pub ok_and : {T E : Type 0} {A B C : Type 0} (r : Result T E) → OnOk r A → OnOk r B → (A → B → C) → OnOk r C
+ok_and (Ok v) a b f = f a b
+ok_and (Err e) a b f = tt
