@@ -10,3 +10,4 @@ pub mod Standing
 pub mod Linked
 pub mod Firing
 pub mod Laws
+pub mod Untroubled

@@ -3,7 +3,7 @@ ghost use Rattle.std.specs.Prelude.{◌≡◌, [], None, option_map};
 ghost use Rattle.ng_act.specs.Frames.{state_of, IsSound};
 ghost use Rattle.ng_act.specs.State.{with_fault};
 
-use ng_act::core_state::Core;
+use ng_act::core_state::{Core, Handed};
 use ng_base::fault::Fault;
 use ng_base::name::{NodeId, ScopeId, TplId};
 use ng_base::path::{Key, Path};
@@ -42,6 +42,7 @@ pub struct Works {
 impl Works {
     ghost use Rattle.ng_link.specs.State.{linked_of, core_of, table_of, templates_of, page_of};
     ghost use Rattle.ng_template.specs.Kept.{templates_of as kept_templates};
+    ghost use Rattle.ng_link.specs.Untroubled.{untroubled};
     ghost use Rattle.ng_link.specs.Standing.{IsBare, Standing};
     ghost use Rattle.ng_dom.specs.Drawing.{Stands, none_stand};
 
@@ -81,6 +82,21 @@ impl Works {
         ensures page { page_of self.new ≡ page_of self.old }
     {
         self.core.hand_over(f);
+    }
+
+    /// No fault was handed over yet.
+    pub fn forget_faults(&mut self)
+        ensures core { core_of self.new ≡ untroubled (core_of self.old) }
+        ensures sound { IsSound self.old.core → IsSound self.new.core }
+        ensures stands { (ts : Stands) → Standing self.old ts → Standing self.new ts }
+        ensures table { table_of self.new ≡ table_of self.old }
+        ensures templates { templates_of self.new ≡ templates_of self.old }
+        ensures page { page_of self.new ≡ page_of self.old }
+    {
+        self.core.handed = Handed {
+            count: 0,
+            first: None,
+        };
     }
 
     /// The watchers.
