@@ -52,6 +52,10 @@ site_now objects scopes None s = shown_as []
 site_now objects scopes (Some x) None = shown_as []
 site_now objects scopes (Some x) (Some s) = if s.rests then shown_as (kept_text s.kept) else rendered_text (text_now objects (object_at scopes s.scope) x.program)
 
+-- what the hole of each site shows now
+abbrev pub instance_now : List Object → List Scope → List Site → List SiteState → Now
+instance_now objects scopes sites states n = site_now objects scopes (slice_get sites n) (slice_get states n)
+
 -- The rendering of an instance over data and scopes: no watcher and no node is asked.
 abbrev pub rendering : List Object → List Scope → Template → Instance → Rendered Forest
-rendering objects scopes t i = render (λ n. site_now objects scopes (slice_get t.sites n) (slice_get i.sites n)) t.parts
+rendering objects scopes t i = render (instance_now objects scopes t.sites i.sites) t.parts

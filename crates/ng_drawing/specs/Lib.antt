@@ -2,4 +2,5 @@ pub mod Template
 pub mod Nodes
 pub mod Drawing
 pub mod Instance
+pub mod InstanceOf
 pub mod Laws
