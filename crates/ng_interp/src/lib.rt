@@ -11,7 +11,7 @@
 //!
 //! In reading order: `cutting` cuts a text at its holes, `escapes` reads backslashes, `pieces` has the types of the parts,
 //! `splitting` the two calls. `cut_text` gives the cuts alone, and the law `laws::cuts_spell_text` says that they spell
-//! the text.
+//! the text. `read_part` and `read_hole` read one cut, for a reader that has read some of the holes before.
 //!
 //! No program is evaluated here, and no filter is looked up.
 #![tactic(auto)]
@@ -24,4 +24,4 @@ pub mod splitting;
 
 pub use cutting::{Cut, Cuts, cut_text};
 pub use pieces::{InterpFault, InterpKind, Part, Parts};
-pub use splitting::{join, split};
+pub use splitting::{any_hole, join, read_hole, read_part, split};

@@ -20,8 +20,8 @@ use ng_lex::lex;
 use ng_parse::{Program, one_time, parse};
 use std::alloc::Global;
 
-/// Whether one of them is a hole.
-fn any_hole(cuts: &[Cut]) -> bool
+/// Whether one of them is a hole: then escapes are read in the words.
+pub fn any_hole(cuts: &[Cut]) -> bool
     ensures { result ≡ has_hole cuts.now }
 {
     for cut in cuts {
@@ -124,7 +124,7 @@ fn read_expression(alloc: Global, place: u64, text: &str) -> Result<Program, Int
 }
 
 /// The hole with this text, which begins at a place.
-fn read_hole(alloc: Global, place: usize, text: &Txt) -> Result<Part, InterpFault>
+pub fn read_hole(alloc: Global, place: usize, text: &Txt) -> Result<Part, InterpFault>
     ensures { Gives is_free piece_of (hole_at place text.now) result }
 {
     let (one_time, expression) = one_time(text.as_str());
@@ -134,8 +134,8 @@ fn read_hole(alloc: Global, place: usize, text: &Txt) -> Result<Part, InterpFaul
     Ok(Part::Hole { one_time, program })
 }
 
-/// The part of a cut.
-fn read_part(alloc: Global, escapes: bool, cut: &Cut) -> Result<Part, InterpFault>
+/// The part of a cut of a text, in which escapes are read or not.
+pub fn read_part(alloc: Global, escapes: bool, cut: &Cut) -> Result<Part, InterpFault>
     ensures { Gives is_free piece_of (piece_at escapes cut.now) result }
 {
     match cut {

@@ -1,0 +1,13 @@
+pub mod Free
+pub mod PieceOf
+pub mod ValueOf
+pub mod Seen
+pub mod SiteOf
+pub mod Texts
+pub mod Compiles
+pub mod Holes
+pub mod TemplateOf
+pub mod Order
+pub mod Laws
+pub mod TplNames
+pub mod Kept

@@ -1,0 +1,57 @@
+//! Sites, the watched expressions of a template (guide: Scopes, "`$digest`").
+ghost use Rattle.std.specs.Prelude.{◌≡◌, true, IfOk};
+ghost use Rattle.ng_parse.specs.ProgramOf.{program as trees};
+ghost use Rattle.ng_view.specs.Purity.{are_pure, all_filters_known};
+
+use ng_drawing::kind::SiteKind;
+use ng_parse::Program;
+
+/// What is watched. Its program is pure and names known filters alone.
+#[derive(Drop)]
+pub struct Site {
+    kind: SiteKind,
+    one_time: bool,
+    program: Program,
+    ghost known: { all_filters_known (trees program) ≡ true },
+    ghost pure: { are_pure (trees program) ≡ true },
+}
+
+impl Site {
+    ghost use Rattle.ng_template.specs.SiteOf.{site_of, site_with};
+
+    /// A site of a program.
+    pub fn new(kind: SiteKind, one_time: bool, program: Program) -> Site
+        requires known { all_filters_known (trees program) ≡ true }
+        requires pure { are_pure (trees program) ≡ true }
+        ensures { site_of result ≡ site_with kind one_time (trees program) }
+    {
+        Site {
+            kind,
+            one_time,
+            program,
+        }
+    }
+
+    /// What a watcher keeps of the value.
+    pub fn kind(&self) -> SiteKind
+        ensures { result ≡ (site_of self.now).kind }
+    {
+        self.kind
+    }
+
+    /// Whether it ends once it has a value (guide: Expressions, "One-time binding").
+    pub fn one_time(&self) -> bool
+        ensures { result ≡ (site_of self.now).one_time }
+    {
+        self.one_time
+    }
+
+    /// The program.
+    pub fn program(&self) -> &Program
+        ensures program { trees result.now ≡ (site_of self.now).program }
+        ensures known { all_filters_known (trees result.now) ≡ true }
+        ensures pure { are_pure (trees result.now) ≡ true }
+    {
+        &self.program
+    }
+}

@@ -1,0 +1,97 @@
+//! The templates of a page.
+ghost use Rattle.std.specs.Prelude.{◌≡◌, ◌++◌, ◌∷◌, ◌<◌, ◌≤◌, [], length, false, Some, None, option_map, slice_get, IfOk, IfErr, IfSome, OnOk, OnErr, IsNone, ◌↔◌};
+ghost use Rattle.std.specs.List.{list_any};
+ghost use Rattle.ng_base.specs.Meets.{Gives};
+ghost use Rattle.ng_template.specs.TplNames.{is_refused_memory, is_name, next_name};
+
+use crate::tpl::Tpl;
+use ng_base::fault::Memory;
+use ng_base::name::TplId;
+use ng_base::txt::Txt;
+use std::alloc::Global;
+
+/// A template, and the name that `ng-include` knows it by.
+#[derive(Drop)]
+struct Kept {
+    name: Option<Txt>,
+    template: Tpl,
+}
+
+/// The templates of a page: its own, those of the application and those of its directives. A template has a name of
+/// its own, by the order in which they were added. Contracts see them as the list `templates_of`, each with its name.
+#[derive(Drop)]
+pub struct Templates {
+    items: Vec<Kept>,
+    ghost few: { length items.items ≤ 4294967295 },
+}
+
+/// The name after as many templates.
+fn next(count: usize) -> Result<TplId, Memory>
+    ensures next { Gives is_refused_memory (λ t. t.0) (next_name count) result }
+    ensures few { IfOk result (λ _. count < 4294967295) }
+{
+    if count < 4_294_967_295 {
+        Ok(TplId(count as u32))
+    } else {
+        Err(Memory::Worn)
+    }
+}
+
+/// Whether it is this name.
+fn is_word(word: &Txt, name: &Option<Txt>) -> bool
+    ensures { result ≡ is_name word.now name.now }
+{
+    match name {
+        None => false,
+        Some(name) => name.same(word),
+    }
+}
+
+impl Templates {
+    ghost use Rattle.ng_template.specs.Kept.{templates_of, is_named, named_from};
+    ghost use Rattle.ng_template.specs.TemplateOf.{template_of};
+
+    /// No template.
+    pub fn new(alloc: Global) -> Templates
+        ensures { templates_of result ≡ [] }
+    {
+        Templates {
+            items: Vec::new(alloc),
+        }
+    }
+
+    /// Keeps a template under a new name. With a name of an application's template, which no other has, `ng-include` finds it by that.
+    pub fn add(&mut self, name: Option<Txt>, t: Tpl) -> Result<TplId, Memory>
+        ensures answer { Gives is_refused_memory (λ t. t.0) (next_name (length (templates_of self.old))) result }
+        ensures added { OnOk result (templates_of self.new ≡ templates_of self.old ++ (name, template_of t) ∷ []) }
+        ensures unchanged { OnErr result (templates_of self.new ≡ templates_of self.old) }
+    {
+        let id = next(self.items.len())?;
+        self.items.push(Kept { name, template: t })?;
+        Ok(id)
+    }
+
+    /// The template of a name that `add` gave.
+    pub fn get(&self, t: TplId) -> &Tpl
+        requires { t.0 < length (templates_of self.now) }
+        ensures { option_map (λ k. k.1) (slice_get (templates_of self.now) t.0) ≡ Some (template_of result.now) }
+    {
+        &self.items[t.0 as usize].template
+    }
+
+    /// The application's template of a name (API: ngInclude).
+    pub fn named(&self, name: &Txt) -> Option<TplId>
+        ensures first { option_map (λ t. t.0) result ≡ named_from 0 name.now (templates_of self.now) }
+        ensures none { IsNone result ↔ (list_any (is_named name.now) (templates_of self.now) ≡ false) }
+        ensures there { IfSome result (λ t. t.0 < length (templates_of self.now)) }
+    {
+        let mut id = 0;
+        for kept in self.items.as_slice() {
+            if is_word(name, &kept.name) {
+                return Some(TplId(id));
+            }
+            id += 1;
+        }
+        None
+    }
+}

@@ -1,0 +1,179 @@
+//! Texts: their parts and what is wrong with them (guide: Interpolation).
+ghost use Rattle.std.specs.Prelude.{◌≡◌, ◌++◌, ◌∷◌, ◌+◌, ◌≤◌, [], map, length, true, None, IfOk, OnOk};
+ghost use Rattle.std.specs.List.{list_all, list_any};
+ghost use Rattle.ng_base.specs.Meets.{Gives};
+ghost use Rattle.ng_interp.specs.Parts.{is_free, piece_of, pieces_on, pieces_in};
+ghost use Rattle.ng_template.specs.Compiles.{site_limit};
+ghost use Rattle.ng_template.specs.Free.{is_tpl_want};
+ghost use Rattle.ng_template.specs.TemplateOf.{sites_of};
+ghost use Rattle.ng_template.specs.Texts.{refused, is_known, is_pure as is_pure_piece, is_one_time, wrong as wrong_with, judged, numbered, sites_in};
+
+use crate::fault::{TplFault, TplKind};
+use crate::pieces::{Piece, Pieces};
+use crate::site::Site;
+use ng_base::fault::Memory;
+use ng_base::txt::Txt;
+use ng_drawing::kind::SiteKind;
+use ng_interp::{Cut, InterpFault, InterpKind, Part, any_hole, cut_text, read_part};
+use ng_view::{filters_known, is_pure};
+use std::alloc::{AllocError, Global};
+
+/// The refusal of what stands at a place.
+pub(crate) fn refusal(kind: TplKind, place: u64) -> TplFault
+    ensures { result ≡ refused kind place }
+{
+    TplFault { place, kind }
+}
+
+/// Memory was refused.
+pub(crate) fn want() -> TplFault
+    ensures { is_tpl_want result ≡ true }
+{
+    refusal(TplKind::Memory(Memory::Refused), 0)
+}
+
+/// Adds a part at the end.
+fn push(parts: &mut Vec<Part>, part: Part) -> Result<(), AllocError>
+    ensures { OnOk result (parts.new.items ≡ parts.old.items ++ part ∷ []) }
+{
+    parts.push(part)?;
+    Ok(())
+}
+
+/// The parts of cuts.
+fn read_cuts(alloc: Global, escapes: bool, cuts: &[Cut]) -> Result<Vec<Part>, InterpFault>
+    ensures { Gives is_free (λ v. map piece_of v.items) (pieces_on escapes [] cuts.now) result }
+{
+    let mut parts = Vec::new(alloc);
+    for cut in cuts {
+        let part = read_part(alloc, escapes, cut)?;
+        push(&mut parts, part)?;
+    }
+    Ok(parts)
+}
+
+/// The parts of a text.
+fn read_pieces(alloc: Global, text: &Txt) -> Result<Vec<Part>, InterpFault>
+    ensures { Gives is_free (λ v. map piece_of v.items) (pieces_in text.now) result }
+{
+    let cuts = cut_text(alloc, text)?;
+    read_cuts(alloc, any_hole(cuts.as_slice()), cuts.as_slice())
+}
+
+/// Whether the filters of all holes are there.
+fn are_known(parts: &[Part]) -> bool
+    ensures { result ≡ list_all is_known (map piece_of parts.now) }
+{
+    for part in parts {
+        if let Part::Hole { program, .. } = part {
+            if !filters_known(program) {
+                return false;
+            }
+        }
+    }
+    true
+}
+
+/// Whether all holes are pure.
+fn are_pure(parts: &[Part]) -> bool
+    ensures { result ≡ list_all is_pure_piece (map piece_of parts.now) }
+{
+    for part in parts {
+        if let Part::Hole { program, .. } = part {
+            if !is_pure(program) {
+                return false;
+            }
+        }
+    }
+    true
+}
+
+/// Whether a hole begins with `::`.
+fn has_one_time(parts: &[Part]) -> bool
+    ensures { result ≡ list_any is_one_time (map piece_of parts.now) }
+{
+    for part in parts {
+        if let Part::Hole { one_time, .. } = part {
+            if *one_time {
+                return true;
+            }
+        }
+    }
+    false
+}
+
+/// What is wrong with the holes of a text.
+fn wrong(parts: &[Part]) -> Option<TplKind>
+    ensures wrong { result ≡ wrong_with (map piece_of parts.now) }
+    ensures known { result ≡ None → list_all is_known (map piece_of parts.now) ≡ true }
+    ensures pure { result ≡ None → list_all is_pure_piece (map piece_of parts.now) ≡ true }
+{
+    if !are_known(parts) {
+        return Some(TplKind::UnknownFilter);
+    }
+    if !are_pure(parts) {
+        return Some(TplKind::Impure);
+    }
+    if has_one_time(parts) {
+        return Some(TplKind::Later);
+    }
+    None
+}
+
+/// The parts of a text that begins at a place, unless something is wrong with its holes.
+pub(crate) fn read_text(alloc: Global, place: u64, text: &Txt) -> Result<Vec<Part>, TplFault>
+    ensures parts { Gives is_tpl_want (λ v. map piece_of v.items) (judged place (pieces_in text.now)) result }
+    ensures known { IfOk result (λ v. list_all is_known (map piece_of v.items) ≡ true) }
+    ensures pure { IfOk result (λ v. list_all is_pure_piece (map piece_of v.items) ≡ true) }
+{
+    match read_pieces(alloc, text) {
+        Err(fault) => match fault.kind {
+            InterpKind::Memory(_) => Err(want()),
+            _ => Err(refusal(TplKind::Expression, place)),
+        },
+        Ok(parts) => match wrong(parts.as_slice()) {
+            Some(kind) => Err(refusal(kind, place)),
+            None => Ok(parts),
+        },
+    }
+}
+
+/// How many holes there are.
+pub(crate) fn count_holes(parts: &[Part]) -> usize
+    ensures count { result ≡ length (sites_in (map piece_of parts.now)) }
+    ensures few { result ≤ length parts.now }
+{
+    let mut count = 0;
+    for part in parts {
+        if let Part::Hole { .. } = part {
+            count += 1;
+        }
+    }
+    count
+}
+
+/// The pieces of a text, whose sites come after those before.
+pub(crate) fn place_text(
+    alloc: Global,
+    before: Vec<Site>,
+    parts: Vec<Part>,
+) -> Result<(Pieces, Vec<Site>), AllocError>
+    requires known { list_all is_known (map piece_of parts.items) ≡ true }
+    requires pure { list_all is_pure_piece (map piece_of parts.items) ≡ true }
+    requires fits { length before.items + length (sites_in (map piece_of parts.items)) ≤ site_limit }
+    ensures pieces { IfOk result (λ r. r.0 ≡ numbered (length before.items) (map piece_of parts.items)) }
+    ensures sites { IfOk result (λ r. sites_of r.1.items ≡ sites_of before.items ++ sites_in (map piece_of parts.items)) }
+{
+    let mut pieces = Pieces::new(alloc);
+    let mut sites = before;
+    for part in parts {
+        match part {
+            Part::Words(text) => pieces.push(Piece::Word(text))?,
+            Part::Hole { one_time, program } => {
+                pieces.push(Piece::Hole(sites.len() as u32))?;
+                sites.push(Site::new(SiteKind::Text, one_time, program))?;
+            }
+        }
+    }
+    Ok((pieces, sites))
+}
