@@ -7,3 +7,4 @@ pub mod Found
 pub mod Soon
 pub mod Spans
 pub mod Cuts
+pub mod Watched
