@@ -8,3 +8,4 @@ pub mod Soon
 pub mod Spans
 pub mod Cuts
 pub mod Watched
+pub mod Crowded

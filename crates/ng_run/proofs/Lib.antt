@@ -1,5 +1,6 @@
 pub mod Forms
 pub mod Fetching
+pub mod AllTexts
 pub mod OpensOne
 pub mod One
 pub mod Causes

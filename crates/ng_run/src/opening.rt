@@ -1,5 +1,6 @@
 //! The step that opens a page.
 ghost use Rattle.std.specs.Prelude.{◌≡◌, IfOk};
+ghost use Rattle.ng_page.specs.Opening.{AreTexts};
 ghost use Rattle.ng_page.specs.PageOf.{Displays};
 ghost use Rattle.ng_markup.specs.Forest.{Forest as Document};
 ghost use Rattle.ng_run.specs.ReplyOf.{document_lines, opening_lines as lines_of, opening_status as status_of, accepted_of, IsReplyTo};
@@ -65,6 +66,7 @@ fn opening_lines(alloc: Global, page: &Page, outcome: &Outcome) -> Result<Vec<u8
 
 /// Opens the page, and tells what its step prints.
 pub(crate) fn open(alloc: Global, accepted: Accepted) -> Result<Reply, Memory>
+    requires { AreTexts (accepted_of accepted).template.sites }
     ensures { IfOk result (λ r. IsReplyTo (OpensPage (accepted_of accepted)) r) }
 {
     let Accepted { app, template } = accepted;

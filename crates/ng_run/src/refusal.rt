@@ -1,6 +1,7 @@
 //! What opens, or the first refusal in the order of work.
 ghost use Rattle.std.specs.Prelude.{◌≡◌, false, None, IfOk};
 ghost use Rattle.ng_base.specs.Meets.{Gives};
+ghost use Rattle.ng_page.specs.Opening.{AreTexts};
 ghost use Rattle.ng_run.specs.Free.{is_want};
 ghost use Rattle.ng_run.specs.Refusals.{accepted, refusal_status};
 ghost use Rattle.ng_run.specs.ReplyOf.{accepted_of, inputs_of};
@@ -90,9 +91,10 @@ impl Refusal {
     }
 }
 
-/// What a page is opened from, unless a file is refused.
+/// What a page is opened from, unless a file is refused. Holes of texts are all that its template watches.
 pub(crate) fn accept(alloc: Global, inputs: Inputs) -> Result<Accepted, Refusal>
-    ensures { Gives is_want accepted_of (accepted (inputs_of inputs)) result }
+    ensures accepted { Gives is_want accepted_of (accepted (inputs_of inputs)) result }
+    ensures texts { IfOk result (λ a. AreTexts (accepted_of a).template.sites) }
 {
     let source = read(alloc, inputs.template.as_slice())?;
     let app = App::read(alloc, inputs.application.as_slice())?;

@@ -10,5 +10,5 @@ returns c =
     let o = c.in_ok-page.outcome in
     let p = c.in_ok-page.page in
     opens_page (accepted_of c.args.accepted) p o.digest o.faults o.first (record { status = c.opening_status-status.result; piece = c.in_ok-piece.piece; page = Some p })
-    c.in_ok-page.ensures.state c.in_ok-page.ensures.shown c.in_ok-page.ensures.settled c.in_ok-page.ensures.rendering c.in_ok-page.ensures.faults.0 c.in_ok-page.ensures.faults.1
+    c.in_ok-page.ensures.state c.in_ok-page.ensures.shown c.in_ok-page.ensures.settled (c.in_ok-page.ensures.rendering c.requires) c.in_ok-page.ensures.faults.0 c.in_ok-page.ensures.faults.1
     c.opening_status-status.ensures (c.in_ok-piece.ensures (shown (state_of p)) c.in_ok-page.ensures.shown) refl
