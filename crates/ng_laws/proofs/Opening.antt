@@ -8,7 +8,6 @@ use Rattle.ng_page.specs.PageMachine.{page_machine, readied}
 use Rattle.ng_page.specs.State.{State}
 use Rattle.ng_run.specs.Refusals.{Accepted, accepted}
 use Rattle.ng_run.specs.Session.{Reply, link_count, link_fault, opened, refused, OpensPage, SessionOf}
-use Rattle.ng_run.specs.declared.refusal.Refusal.{Refusal}
 use Rattle.ng_laws.specs.Sessions.{DigestEnds, SessionIsThere}
 use Rattle.ng_laws.proofs.Ends.{digest_ends}
 use Rattle.ng_laws.proofs.Watched.{tested_keys, fired_keys, opening_sorted}
@@ -19,9 +18,8 @@ page_ends s sorted = digest_ends page_machine page_laws.total (λ t. refl) teste
 opened_so : (a : Accepted) → (answer : Result (ℕ × ℕ) DigestFault) × (end : Plain State) × PlainDigests page_machine (readied (opening a.facts a.template)) answer end → (r : Reply) × OpensPage a r
 opened_so a (answer, end, d) = (opened (link_count a) (link_fault a) answer end.state, (answer, end.state, (end, d, refl), refl))
 
-some_session : (c : Result Accepted Refusal) → (r : Reply) × SessionOf c r
-some_session (Ok a) = opened_so a (page_ends (readied (opening a.facts a.template)) (opening_sorted a.facts a.template))
-some_session (Err f) = (refused f, refl)
-
 pub session_some : SessionIsThere
-session_some i = some_session (accepted i)
+session_some i = elim (accepted i) as (λ c. (r : Reply) × SessionOf c r) [
+    Ok a ↦ opened_so a (page_ends (readied (opening a.facts a.template)) (opening_sorted a.facts a.template))
+  | Err f ↦ (refused f, refl)
+  ]

@@ -1,0 +1,5 @@
+use Rattle.ng_run.proofs.One.{session_one}
+use Rattle.ng_run.proofs.laws.session_is_one.Goals as goal
+
+pub returns : goal.returns
+returns c = session_one
