@@ -1,5 +1,5 @@
 -- The nodes of a drawing.
-use Rattle.std.proofs.Common.{◌≡◌, ℕ, ◌+◌, refl, ap, ◌∙◌}
+use Rattle.std.proofs.Common.{◌≡◌, ◌+◌, refl, ap, ◌∙◌}
 use Rattle.ng_drawing.specs.Template.{Part, Parts, text_part, comment_part, element_part, no_parts, part_then}
 use Rattle.ng_drawing.specs.Drawing.{Look, draw_part, draw}
 use Rattle.ng_drawing.specs.Nodes.{node_count, forest_count, part_nodes, nodes}

@@ -13,7 +13,7 @@ use Rattle.ng_language.specs.Trees.{Trees}
 use Rattle.ng_markup.specs.Forest.{Forest}
 use Rattle.ng_view.specs.Evaluation.{evaluated_program}
 use Rattle.ng_drawing.specs.Template.{Site, Template}
-use Rattle.ng_drawing.specs.Drawing.{Look, draw, Now, Rendered, ◌>>-◌, shown_as, render}
+use Rattle.ng_drawing.specs.Drawing.{draw, Now, Rendered, shown_as, render}
 
 pub record SiteState : Type 0 where
   pub key : Key
