@@ -15,4 +15,5 @@ pub mod Filling
 pub mod Emptying
 pub mod Fresh
 pub mod Levels
+pub mod Ways
 pub mod Standing

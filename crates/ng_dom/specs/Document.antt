@@ -5,6 +5,7 @@ use Rattle.ng_base.specs.declared.name.NodeId.{NodeId}
 use Rattle.ng_dom.specs.Nodes.{NamedNode, NamedForest, name_of, names_of, nothing_named, named_then}
 use Rattle.ng_dom.specs.Walks.{read, read_all}
 use Rattle.ng_dom.specs.Printed.{level, inner, counted_level, seek, found, IsRead}
+use Rattle.ng_dom.specs.Paths.{StandsIn}
 use Rattle.ng_dom.specs.Editing.{changed_in, with_kids, node_inserted, node_moved}
 use Rattle.ng_dom.specs.Rooms.{Rooms, ReadsIn}
 use Rattle.ng_dom.specs.Removal.{IsThere}
@@ -127,3 +128,9 @@ child_in d o i = found (seek None i (level (read_all (read (next_name d) (rooms 
 abbrev pub Counts : Dom → Option NodeId → ℕ → Type 0
 Counts d None k = (f : NamedForest) → Shows d f → k ≡ counted_level f
 Counts d (Some p) k = (x : NamedNode) → name_of x ≡ p.made.0 → IsRead (rooms d) x → k ≡ counted_level (inner x)
+
+-- a node of this name stands in the document
+pub record Stands (d : Dom) (n : ℕ) : Type 0 where
+  pub forest : NamedForest
+  pub shows : Shows d forest
+  pub inside : StandsIn n forest

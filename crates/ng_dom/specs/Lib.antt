@@ -7,6 +7,7 @@ pub mod Kept
 pub mod Making
 pub mod Asked
 pub mod Printed
+pub mod Paths
 pub mod Document
 pub mod Walks
 pub mod Drawing

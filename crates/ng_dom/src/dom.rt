@@ -11,6 +11,7 @@ ghost use Rattle.ng_markup.specs.Forest.{print};
 ghost use Rattle.ng_html.specs.Seen.{forest_of};
 ghost use Rattle.ng_dom.specs.Asked.{is_element_room, attribute_in, first_with_id};
 ghost use Rattle.ng_dom.specs.Printed.{followed, at_place};
+ghost use Rattle.ng_dom.specs.Paths.{path_in};
 ghost use Rattle.ng_dom.specs.Rooms.{room_changed, room_added, shape_of, shape_told, shape_with_attributes, shape_with_kids, shape_with_groups, HasRoom, ReadsInside, ReadsIn};
 ghost use Rattle.ng_dom.specs.Making.{new_name, new_node, new_part, is_want};
 ghost use Rattle.ng_dom.specs.Kept.{shape_kept};
@@ -22,10 +23,11 @@ use crate::nodes::{
     add, cut_group, cut_name, drop_attribute, empty_group, fill, move_kid, parent_of, pick_groups,
     put_group, put_kid, set_attribute, take, tell,
 };
+use crate::paths::{Way, reversed, way_all};
 use crate::printing::add_all;
 use crate::record::{Content, Group, Home, NewNode, Part, Record};
 use crate::removal::take_away;
-use crate::seeking::{Sought, found, is_anchor, passed, reversed, seek_all, seek_kids};
+use crate::seeking::{found, passed, seek_all, seek_kids};
 use ng_base::fault::Memory;
 use ng_base::lists::Numbers;
 use ng_base::name::{NodeId, Serial};
@@ -52,7 +54,7 @@ pub struct Dom {
 }
 
 impl Dom {
-    ghost use Rattle.ng_dom.specs.Document.{rooms, homes, top, next_name, live_count, IsElement, IsLive, IsParent, Shows, Becomes, Stays, Unchanged, Gains, IsPlaced, IsApart, IsMoved, IsMovedUnder, Keeps, Undone, Fewer, Leaves, Counts, child_in};
+    ghost use Rattle.ng_dom.specs.Document.{rooms, homes, top, next_name, live_count, IsElement, IsLive, IsParent, Shows, Becomes, Stays, Unchanged, Gains, IsPlaced, IsApart, IsMoved, IsMovedUnder, Keeps, Undone, Fewer, Leaves, Counts, Stands, child_in};
 
     /// No node.
     pub fn new(alloc: Global) -> Dom
@@ -502,76 +504,27 @@ impl Dom {
         self.follow(p.as_slice())
     }
 
-    /// The path of a node that stands in the document, in what is printed. It costs the siblings on the way down. Of another node
-    /// it tells none, and answers as for want of memory.
+    /// The path of a node that stands in the document, in what is printed: the way to its first place in document order. It costs
+    /// what is printed before the node. The only want besides memory's is that of a number for a node that has as many siblings as
+    /// a `u32` counts.
     pub fn path(&self, n: NodeId) -> Result<Path, Memory>
+        requires stands { Stands self.now n.made.0 }
+        ensures path { (f : NamedForest) → Shows self.now f → IfOk result (λ p. path_in n.made.0 f ≡ Some p) }
         ensures stands { IfOk result (λ p. (f : NamedForest) → Shows self.now f → option_map name_of (at_place p f) ≡ Some n.made.0) }
         ensures refused { IfErr result (λ e. e ≡ Memory.Refused) }
     {
-        let path = self.upwards(n.made.0)?;
-        match self.place_at(&path) {
-            None => Err(Memory::Refused),
-            Some(m) => {
-                if m == n.made.0 {
-                    Ok(path)
-                } else {
-                    Err(Memory::Refused)
-                }
-            }
+        let way = way_all(
+            &self.nodes,
+            self.alloc,
+            self.next,
+            n.made.0,
+            0,
+            self.top.as_slice(),
+        )?;
+        match way {
+            Way::Reached(up) => Ok(reversed(self.alloc, up.as_slice())?),
+            Way::Passed(_) => unreachable!(),
         }
-    }
-
-    /// The numbers on the way up from a node, from the top downwards.
-    fn upwards(&self, n: u64) -> Result<Path, AllocError> {
-        let mut up = Vec::new(self.alloc);
-        let mut below = n;
-        while let Some((i, parent)) = self.step_up(below) {
-            up.push(i)?;
-            match parent {
-                None => break,
-                Some(p) => {
-                    if p >= below {
-                        break;
-                    }
-                    below = p;
-                }
-            }
-        }
-        reversed(self.alloc, up.as_slice())
-    }
-
-    /// The number of a node among those that are printed beside it, and what it is printed inside of: an element, or the top.
-    fn step_up(&self, n: u64) -> Option<(u32, Option<u64>)> {
-        let parent = self.printed_parent(n)?;
-        let sought = match parent {
-            None => seek_all(
-                &self.nodes,
-                self.next,
-                Some(n),
-                u32::MAX,
-                self.top.as_slice(),
-            ),
-            Some(p) => seek_kids(&self.nodes, self.next, Some(n), u32::MAX, p),
-        };
-        match sought {
-            Sought::Found(_, left) => Some((u32::MAX - left, parent)),
-            Sought::Left(_) => None,
-        }
-    }
-
-    /// The nearest node above that is no anchor.
-    fn printed_parent(&self, n: u64) -> Option<Option<u64>> {
-        let mut below = n;
-        while let Some(parent) = parent_of(&self.nodes, below)? {
-            if !is_anchor(&self.nodes, parent) {
-                return Some(Some(parent));
-            }
-            if parent >= below {
-                return None;
-            }
-            below = parent;
-        }
-        Some(None)
     }
 
     /// The document without names: an anchor is an empty comment, and its groups stand after it.

@@ -40,6 +40,7 @@ pub mod fault;
 pub mod finding;
 pub mod laws;
 pub mod nodes;
+pub mod paths;
 pub mod printing;
 pub mod record;
 pub mod removal;

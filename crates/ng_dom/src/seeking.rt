@@ -7,8 +7,6 @@ ghost use Rattle.ng_dom.specs.Nodes.{NamedNode, named_anchor, name_of};
 ghost use Rattle.ng_dom.specs.Kept.{rooms_of, shape_kept};
 
 use crate::record::{Content, Record};
-use ng_base::path::Path;
-use std::alloc::{AllocError, Global};
 use std::collections::BTreeMap;
 
 /// A node that was found, with the places that were left; or the places that are left once all were passed.
@@ -194,26 +192,4 @@ pub fn passed(s: Sought) -> u32
         Sought::Found(_, _) => u32::MAX,
         Sought::Left(j) => u32::MAX - j,
     }
-}
-
-/// Whether a node is an anchor.
-pub fn is_anchor(nodes: &BTreeMap<u64, Record>, n: u64) -> bool {
-    match nodes.get(&n) {
-        None => false,
-        Some(node) => match &node.content {
-            Content::Anchor(_) => true,
-            Content::Text(_) => false,
-            Content::Comment(_) => false,
-            Content::Element { .. } => false,
-        },
-    }
-}
-
-/// A path of these numbers, from the last to the first.
-pub fn reversed(alloc: Global, numbers: &[u32]) -> Result<Path, AllocError> {
-    let mut path = Path::new(alloc);
-    for i in 0..numbers.len() {
-        path.push(numbers[numbers.len() - 1 - i])?;
-    }
-    Ok(path)
 }
