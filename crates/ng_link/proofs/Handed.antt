@@ -1,5 +1,5 @@
 -- A fault that is handed over, and those that are forgotten, leave what stands.
-use Rattle.std.proofs.Common.{◌≡◌, ap, length}
+use Rattle.std.proofs.Common.{◌≡◌, ap}
 use Rattle.ng_base.specs.declared.fault.Fault.{Fault}
 use Rattle.ng_act.specs.Frames.{state_of}
 use Rattle.ng_act.specs.State.{State, with_fault}

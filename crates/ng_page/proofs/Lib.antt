@@ -5,3 +5,4 @@ pub mod Rendering
 pub mod Opened
 pub mod Stages
 pub mod LinkedPage
+pub mod Registered

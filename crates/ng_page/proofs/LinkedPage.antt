@@ -1,11 +1,10 @@
 -- A page whose template was linked, and one whose template found no room.
-use Rattle.std.proofs.Common.{◌≡◌, ℕ, zero, suc, ◌+◌, ◌<◌, List, [], ◌∷◌, ◌++◌, arith, Option, None, Some, Result, Ok, Err, refl, ap, sym, subst, ◌∙◌, length}
+use Rattle.std.proofs.Common.{◌≡◌, ℕ, zero, suc, ◌<◌, List, [], ◌∷◌, ◌++◌, arith, Option, None, Some, Ok, Err, refl, ap, sym, subst, ◌∙◌, length}
 use Rattle.std.specs.Prelude.{option_map}
 use Rattle.ng_act.specs.State as act
 use Rattle.ng_base.specs.declared.fault.Fault.{Fault}
 use Rattle.ng_base.specs.declared.path.Key.{Key}
-use Rattle.ng_behaviour.specs.Scopes.{object_at, path_at}
-use Rattle.ng_dom.specs.Drawing.{Stands, none_stand}
+use Rattle.ng_behaviour.specs.Scopes.{path_at}
 use Rattle.ng_drawing.specs.Template.{Template}
 use Rattle.ng_link.specs.Linked.{Links}
 use Rattle.ng_link.specs.Shape.{linked}
@@ -13,12 +12,11 @@ use Rattle.ng_link.specs.Standing.{Standing, IsPage, IsShape, Displays}
 use Rattle.ng_link.specs.State.{Page, core_of, table_of, templates_of, page_of, template_at, instance_at}
 use Rattle.ng_link.specs.declared.works.Works.{Works}
 use Rattle.ng_link.proofs.Displayed.{page_displays, bare_displays}
-use Rattle.ng_watch.specs.Table.{Table}
 use Rattle.ng_page.specs.Opening.{first_page, opening_by, opening}
 use Rattle.ng_page.specs.PlaceOf.{linked_of, seen_of, IsStanding}
 use Rattle.ng_template.specs.Kept.{Named}
 use Rattle.ng_template.specs.TplNames.{next_name}
-use Rattle.ng_page.specs.State.{Linked, State, instance_in, shown_in, shown}
+use Rattle.ng_page.specs.State.{Linked, instance_in, shown_in, shown}
 
 abbrev with_page : Page → Template → Linked
 with_page p t = record { template = t; page = p }
@@ -27,9 +25,9 @@ pub linked_ok : (old new : Works) (n : ℕ) (t : Template) → template_at (temp
 linked_ok old new n t at is room l =
     let page : Page = record { template = n; scope = 0; path = path_at (core_of old).scopes 0; first = (core_of old).serial; count = length t.sites } in
     let stands : linked_of (templates_of new) (page_of new) ≡ Some (with_page (first_page (core_of old) t) t) =
-        ap (linked_of (templates_of new)) l.page
-        ∙ (ap (λ (o : Option Template). option_map (with_page page) o) (ap (λ ts. template_at ts n) l.templates ∙ at)
-        ∙ ap (λ k. Some (with_page (record page { template = k }) t)) is) in
+    ap (linked_of (templates_of new)) l.page
+    ∙ (ap (λ (o : Option Template). option_map (with_page page) o) (ap (λ ts. template_at ts n) l.templates ∙ at)
+    ∙ ap (λ k. Some (with_page (record page { template = k }) t)) is) in
     let whole : seen_of new [] ≡ opening_by (core_of old) t (Ok tt) = λ i. record { core = l.core i; watchers = l.table i; told = []; linked = stands i } in
     whole ∙ sym (ap (opening_by (core_of old) t) room)
 

@@ -1,5 +1,5 @@
 -- Where no watcher is dirty, the document that is shown is the rendering.
-use Rattle.std.proofs.Common.{◌≡◌, ℕ, zero, suc, ◌+◌, Bool, false, List, [], ◌∷◌, length, Option, None, Some, Result, Ok, Err, refl, ap, sym, subst, ◌∙◌, slice_get}
+use Rattle.std.proofs.Common.{◌≡◌, ℕ, zero, suc, ◌+◌, List, [], ◌∷◌, length, Option, None, Some, Result, Ok, Err, refl, ap, sym, subst, ◌∙◌, slice_get}
 use Rattle.std.specs.Prelude.{option_map, option_and_then, is_some, not, IfOk}
 use Rattle.std.specs.Map.{lookup}
 use Rattle.std.proofs.lemmas.Map.Made.{lookup-map_values}
@@ -9,25 +9,25 @@ use Rattle.ng_base.specs.Objects.{Object}
 use Rattle.ng_base.specs.Views.{ViewTree}
 use Rattle.ng_base.specs.declared.fault.Fault.{Fault}
 use Rattle.ng_base.specs.declared.path.Key.{Key}
-use Rattle.ng_behaviour.specs.Scopes.{Scope, object_at}
+use Rattle.ng_behaviour.specs.Scopes.{object_at}
 use Rattle.ng_digest.specs.declared.log.Report.{Report}
 use Rattle.ng_digest.specs.declared.rounds.DigestFault.{DigestFault}
-use Rattle.ng_drawing.specs.Drawing.{Rendered, shown_as}
+use Rattle.ng_drawing.specs.Drawing.{shown_as}
 use Rattle.ng_drawing.specs.Instance.{SiteState, kept_text, state_text, text_now, rendered_text, site_now}
 use Rattle.ng_drawing.specs.Template.{Site}
 use Rattle.ng_drawing.proofs.Fresh.{fresh_parts}
 use Rattle.ng_language.specs.Texts.{show_text}
 use Rattle.ng_link.specs.Shape.{key_on}
-use Rattle.ng_link.specs.State.{Page, site_state, site_states, instance_at}
+use Rattle.ng_link.specs.State.{site_state, site_states, instance_at}
 use Rattle.ng_watch.specs.Keys.{is_key}
 use Rattle.ng_watch.specs.Laws.{is_two_way}
 use Rattle.ng_watch.specs.Now.{value_now, text_view, now}
 use Rattle.ng_watch.specs.Seen.{Watching, Watcher}
-use Rattle.ng_watch.specs.Table.{Table, found, kept_at}
+use Rattle.ng_watch.specs.Table.{Table, found}
 use Rattle.ng_watch.specs.Verdicts.{clean, verdict}
 use Rattle.ng_watch.proofs.Judging.{clean_has_kept}
 use Rattle.ng_page.specs.Answered.{WhenOk}
-use Rattle.ng_page.specs.Settled.{IsSettled, watches, HasSameData, text_watch, watch_at, AreWatched, IsLinked, IsLinkedIn, IsWatched}
+use Rattle.ng_page.specs.Settled.{IsSettled, watches, HasSameData, text_watch, watch_at, AreWatched, IsLinkedIn, IsWatched}
 use Rattle.ng_page.specs.State.{State, Linked, shown_in, shown, rendering_in, rendering}
 
 -- what a text keeps is the text that it shows
@@ -75,7 +75,7 @@ settled_in c t None settled h = refl
 settled_in c t (Some l) settled h =
     fresh_parts (λ n. state_text (slice_get (instance_at t l.page).sites n)) (λ n. site_now c.objects c.scopes (slice_get l.template.sites n) (slice_get (instance_at t l.page).sites n))
     (λ n. subst (λ k. site_now c.objects c.scopes (slice_get l.template.sites n) (slice_get (site_states t l.page.scope l.page.path l.page.first k) n) ≡ shown_as (state_text (slice_get (site_states t l.page.scope l.page.path l.page.first k) n)))
-        (sym h.count) (sites_show c t settled l.page.scope l.page.path l.page.first l.template.sites n h.watched))
+    (sym h.count) (sites_show c t settled l.page.scope l.page.path l.page.first l.template.sites n h.watched))
     l.template.parts
 
 pub settled_renders : (s : State) → IsSettled s → IsWatched s → rendering s ≡ shown_as (shown s)

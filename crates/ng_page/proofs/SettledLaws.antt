@@ -1,5 +1,5 @@
 -- After a digest that answered Ok each watcher has kept what is there now; and a digest leaves the core, but for its faults.
-use Rattle.std.proofs.Common.{◌≡◌, ◌≢◌, ℕ, Bool, true, false, refl, sym, ap, subst, ◌∙◌, List, [], ◌∷◌, cond, map, inl, inr, Option, None, Some, Result, Ok, Err, is_some, IfOk, IsOk, ◌↔◌}
+use Rattle.std.proofs.Common.{◌≡◌, ◌≢◌, ℕ, Bool, true, false, refl, sym, ap, subst, ◌∙◌, [], ◌∷◌, cond, inl, inr, Option, None, Some, Result, Ok, Err, is_some, IfOk, IsOk, ◌↔◌}
 use Rattle.std.specs.Map.{lookup, keys_of}
 use Rattle.ng_act.specs.State as act
 use Rattle.ng_base.specs.Views.{ViewTree}
@@ -18,7 +18,7 @@ use Rattle.ng_watch.specs.Seen.{Watcher}
 use Rattle.ng_watch.specs.Table.{Table, found, keeping, with_kept}
 use Rattle.ng_watch.specs.Verdicts.{Judged, clean, dirty, verdict}
 use Rattle.ng_page.specs.PageLaws.{key_is, by_test, quiet, quiet_of, same_quiet}
-use Rattle.ng_page.specs.PageMachine.{found_as, verdict_of, is_told, told_at, handed_on_at, keeps, fired, counted, handed_over, page_machine, readied}
+use Rattle.ng_page.specs.PageMachine.{found_as, verdict_of, is_told, handed_on_at, keeps, fired, counted, handed_over, page_machine, readied}
 use Rattle.ng_page.specs.Settled.{IsSettled, watches, HasSameData}
 use Rattle.ng_page.specs.State.{State}
 use Rattle.ng_page.proofs.Keeps.{KeepsEach, digest_keeps}

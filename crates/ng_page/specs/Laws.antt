@@ -1,8 +1,6 @@
 -- What is proved of pages by their definitions alone.
 use Rattle.std.specs.Prelude.{◌≡◌}
-use Rattle.ng_digest.specs.Laws.{HasLaws}
 use Rattle.ng_drawing.specs.Drawing.{shown_as}
-use Rattle.ng_page.specs.PageMachine.{page_machine}
 use Rattle.ng_page.specs.Settled.{IsSettled, IsWatched}
 use Rattle.ng_page.specs.State.{State, shown, rendering}
 

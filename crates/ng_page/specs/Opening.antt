@@ -1,5 +1,5 @@
 -- How a page is opened: its template is linked on the root scope.
-use Rattle.std.specs.Prelude.{ℕ, ◌≡◌, ◌+◌, List, [], ◌∷◌, length, Option, Some, None, Result, Ok, Err}
+use Rattle.std.specs.Prelude.{◌≡◌, ◌+◌, List, [], length, Option, Some, None, Result, Ok, Err}
 use Rattle.std.specs.List.{AllByRecursion}
 use Rattle.ng_act.specs.State as act
 use Rattle.ng_base.specs.declared.fault.Fault.{Fault}

@@ -1,5 +1,5 @@
 //! What an application file gives.
-ghost use Rattle.std.specs.Prelude.{◌<◌, length};
+ghost use Rattle.std.specs.Prelude.{◌≡◌, ◌<◌, length};
 ghost use Rattle.ng_behaviour.specs.ScopeObjects.{AreAmong};
 
 use ng_act::core_state::Core;
@@ -12,14 +12,15 @@ pub struct App {
     pub(crate) registry: Registry,
     ghost root: { 0 < length core.scopes },
     ghost objects: { AreAmong (length core.store) core.scopes },
+    ghost none: { length registry ≡ 0 },
 }
 
 impl App {
-    ghost use Rattle.std.specs.Prelude.{◌≡◌};
+    ghost use Rattle.std.specs.Prelude.{[]};
 
-    /// The core's directives, and those of the application.
+    /// The core's directives, and those of the application, which has none today.
     pub fn registry(&self) -> &Registry
-        ensures { result.now ≡ self.now.registry }
+        ensures { result.now ≡ [] }
     {
         &self.registry
     }

@@ -1,4 +1,4 @@
-use Rattle.std.proofs.Common.{◌≡◌, ap, sym, subst, ◌∙◌}
+use Rattle.std.proofs.Common.{◌≡◌, sym, subst, ◌∙◌}
 use Rattle.ng_drawing.specs.Drawing.{shown_as}
 use Rattle.ng_template.specs.TemplateOf.{template_of}
 use Rattle.ng_page.specs.AppOf.{facts}
