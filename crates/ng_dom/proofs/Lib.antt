@@ -16,4 +16,5 @@ pub mod Emptying
 pub mod Fresh
 pub mod Levels
 pub mod Ways
+pub mod Stands
 pub mod Standing

@@ -112,8 +112,12 @@ leads_first n i xs ys q h = record { step = h.step; rest = h.rest; is = h.is; th
 leads_second : (n i j : ℕ) (xs ys : List NamedNode) (q : List ℕ) → j ≡ length xs + i → Leads n j ys q → Leads n i (xs ++ ys) q
 leads_second n i j xs ys q e h =
     let places : h.step + j ≡ (length xs + h.step) + i = omega arith in
-    record { step = length xs + h.step; rest = h.rest; is = h.is ∙ ap (λ (k : ℕ). k ∷ h.rest) places
-           ; there = ap (λ (o : Option NamedNode). option_map name_of (went o h.rest)) (nth_in_second h.step xs ys) ∙ h.there }
+    record {
+      step = length xs + h.step;
+      rest = h.rest;
+      is = h.is ∙ ap (λ (k : ℕ). k ∷ h.rest) places;
+      there = ap (λ (o : Option NamedNode). option_map name_of (went o h.rest)) (nth_in_second h.step xs ys) ∙ h.there;
+    }
 
 leads_to : (n i : ℕ) (x : NamedNode) (xs : List NamedNode) (q r : List ℕ) → q ≡ i ∷ r → option_map name_of (went (Some x) r) ≡ Some n → Leads n i (x ∷ xs) q
 leads_to n i x xs q r e h =

@@ -1,12 +1,14 @@
 -- The laws of the drawing: an edit of one node is a change at one place of what stands.
 use Rattle.std.specs.Prelude.{ℕ, ◌≡◌, true, List, Option, Some, None, option_map}
 use Rattle.ng_base.specs.declared.path.Key.{Key}
-use Rattle.ng_dom.specs.Nodes.{NamedNode, NamedForest, NamedGroups, names_of, group_names, plain}
+use Rattle.ng_dom.specs.Nodes.{NamedNode, NamedForest, NamedGroups, name_of, names_of, group_names, plain}
 use Rattle.ng_dom.specs.Editing.{changed_in, with_text, with_groups, with_attributes, attribute_set}
 use Rattle.ng_dom.specs.Rooms.{Rooms, Room, ReadsIn, anchor_shape}
 use Rattle.ng_dom.specs.Lists.{among}
 use Rattle.ng_dom.specs.Removal.{Spares}
+use Rattle.ng_dom.specs.Asked.{first_with_id}
 use Rattle.ng_dom.specs.Printed.{at_place, plain_at, plain_node_of}
+use Rattle.ng_dom.specs.Paths.{StandsIn}
 use Rattle.ng_dom.specs.Drawing.{Stands, Bodies, Place, Source, DrawnAttributes, AtPlace, in_text, in_attribute, of_text, of_element, HeldAll, DifferAt, joined, shows, show_bodies, at_block_all}
 use Rattle.ng_dom.specs.declared.record.Piece.{Piece}
 
@@ -47,3 +49,11 @@ NewNamesAreSpared = (r : Rooms) (p : Option ℕ) (f : NamedForest) (names : List
 -- the node at a path is printed there
 abbrev pub PlacesArePrinted : Type 0
 PlacesArePrinted = (p : List ℕ) (f : NamedForest) → plain_at p (plain f) ≡ option_map plain_node_of (at_place p f)
+
+-- a node that is printed at a path stands there
+abbrev pub PlacesStand : Type 0
+PlacesStand = (p : List ℕ) (f : NamedForest) (n : ℕ) → option_map name_of (at_place p f) ≡ Some n → StandsIn n f
+
+-- an element that is found by its id stands there
+abbrev pub FoundStand : Type 0
+FoundStand = (id : List ℕ) (f : NamedForest) (n : ℕ) → first_with_id id f ≡ Some n → StandsIn n f

@@ -504,9 +504,8 @@ impl Dom {
         self.follow(p.as_slice())
     }
 
-    /// The path of a node that stands in the document, in what is printed: the way to its first place in document order. It costs
-    /// what is printed before the node. The only want besides memory's is that of a number for a node that has as many siblings as
-    /// a `u32` counts.
+    /// The path of a node that stands in the document, in what is printed. It costs what is printed before the node. A place that
+    /// no `u32` counts is answered as want of memory, and `NODE_LIMIT` keeps documents far from it.
     pub fn path(&self, n: NodeId) -> Result<Path, Memory>
         requires stands { Stands self.now n.made.0 }
         ensures path { (f : NamedForest) → Shows self.now f → IfOk result (λ p. path_in n.made.0 f ≡ Some p) }

@@ -1,5 +1,5 @@
 //! The laws of the drawing: an edit of one node is a change at one place of what stands.
-ghost use Rattle.ng_dom.specs.Laws.{AttributeWritten, GroupsChanged, NewNamesAreSpared, NewNamesStandApart, OneReading, PlacesArePrinted, TextWritten};
+ghost use Rattle.ng_dom.specs.Laws.{AttributeWritten, GroupsChanged, NewNamesAreSpared, NewNamesStandApart, OneReading, PlacesArePrinted, PlacesStand, FoundStand, TextWritten};
 
 /// A key has a new text: to write the text of its node is to draw what stands anew.
 pub fn text_written()
@@ -34,4 +34,14 @@ pub fn new_names_are_spared()
 /// The node at a path is printed there.
 pub fn places_are_printed()
     ensures { PlacesArePrinted }
+{}
+
+/// A node at a path stands in the document.
+pub fn places_stand()
+    ensures { PlacesStand }
+{}
+
+/// An element with an id stands in the document.
+pub fn found_stand()
+    ensures { FoundStand }
 {}

@@ -24,8 +24,10 @@
 //! - `kids`, `at`, `path`, `forest`, `print` and `by_id` go by the document as it is printed: an anchor is an empty comment, and the
 //!   nodes of its groups follow it as its siblings. `insert`, `add_part` and `move_to` count the children that a parent holds: an
 //!   anchor with all its groups is one of them.
-//! - `forest`, `print` and `by_id` walk the document from the top. No walk goes deeper than names were given, as a child has a later
-//!   name than its parent.
+//! - `path` asks for a node that stands in the document, as one that `at` or `by_id` answers does ([`laws::places_stand`],
+//!   [`laws::found_stand`]): then it wants for nothing but memory.
+//! - `forest`, `print`, `by_id` and `path` walk the document from the top. No walk goes deeper than names were given, as a child has a
+//!   later name than its parent.
 //!
 //! `Drawing` says what is drawn for what stands of a template, given the text of each hole, and [`laws`] what carries linking and
 //! firing: to write a text is to draw with the new text of its key, to change an anchor's groups is to change the bodies of its
