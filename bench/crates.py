@@ -25,6 +25,8 @@ ROWS = [
     ('a plan of a repeat whose rows come in reverse', 'reversed', 10_000),
     ('a plan of a repeat of which each tenth row is gone', 'tenths', 10_000),
     ('commands of a script, read', 'script', 10_000),
+    ('paragraphs of a document, built and shown, and the text of each written', 'texts', 9_999),
+    ('a thousand groups, inserted in the middle of so many at an anchor', 'groups', 9_900),
 ]
 
 

@@ -2,3 +2,12 @@ pub mod SoundCores
 pub mod Targets
 pub mod Turns
 pub mod Steps
+pub mod Later
+pub mod LaterPrograms
+pub mod Copied
+pub mod ActLaws
+pub mod Growing
+pub mod FirstCore
+pub mod DeadScopes
+pub mod FoundFunctions
+pub mod Announced

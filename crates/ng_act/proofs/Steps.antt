@@ -1,5 +1,5 @@
 -- Each step of the loops over expressions and scopes.
-use Rattle.std.proofs.Common.{◌≡◌, ◌<◌, ◌≤◌, ◌+◌, ◌-◌, ℕ, zero, suc, Bool, true, false, List, [], ◌∷◌, ◌++◌, length, map, drop, get_or, Option, Some, None, Result, Ok, Err, refl, ap, sym, ◌∙◌, arith, add-one, subst, bytes_eq, max}
+use Rattle.std.proofs.Common.{◌≡◌, ◌<◌, ◌≤◌, ◌+◌, ◌-◌, ℕ, zero, suc, true, false, List, [], ◌∷◌, ◌++◌, length, map, drop, get_or, Option, Some, None, Ok, refl, ap, sym, ◌∙◌, arith, add-one, subst, bytes_eq, max}
 use Rattle.indexmap.specs.IndexMap.{insert_entry}
 use Rattle.ng_base.specs.Views.{ViewTree}
 use Rattle.ng_language.specs.Heights.{height, heights, pair_height, pair_heights}
@@ -9,7 +9,7 @@ use Rattle.ng_parse.specs.declared.tree.Expr.{Expr}
 use Rattle.ng_parse.specs.declared.tree.Pair.{Pair}
 use Rattle.ng_view.specs.Evaluation.{Field}
 use Rattle.ng_behaviour.specs.Scopes.{parent_at, path_at, next_scope}
-use Rattle.ng_act.specs.Actions.{Event, acted, acted_all, acted_pair, acted_pairs, statements, does, rises, sweeps, visits}
+use Rattle.ng_act.specs.Actions.{Doing, Event, acted, acted_all, acted_pair, acted_pairs, statements, does, rises, sweeps, visits, hushes, hushed}
 use Rattle.ng_act.specs.State.{State, Run, is_stopped}
 
 drop_expr : (ps : List Expr) (i : ℕ) (p : Expr) → i < length ps → p ≡ get_or ps i p → drop i ps ≡ p ∷ drop (suc i) ps
@@ -78,4 +78,22 @@ pub sweep_step : (d0 d a b top last at : ℕ) (e : Event) (s t x : State) → a 
 sweep_step d0 d a b top last at e s t x ea eo ed run inv =
     let r : t ≡ visits (does (64 - d0)) e at s = subst (λ k. t ≡ visits (does (64 - k)) e at s) ed run in
     let step : sweeps a (does (64 - d0)) e top last s ≡ sweeps b (does (64 - d0)) e top at t = rw (ea, eo, sym r) refl in
+    sym step ∙ inv
+
+-- above the root no scope is reached, and after the last one none
+pub rise_none : (k : ℕ) (go : Doing) (e : Event) (s : State) → rises k go e None s ≡ s
+rise_none zero go e s = refl
+rise_none (suc k) go e s = refl
+
+pub sweep_none : (k : ℕ) (go : Doing) (e : Event) (top last : ℕ) (s : State) → next_scope s.scopes (path_at s.scopes last) (path_at s.scopes top) ≡ None → sweeps k go e top last s ≡ s
+sweep_none zero go e top last s h = refl
+sweep_none (suc k) go e top last s h = rw h refl
+
+pub hush_none : (k top last : ℕ) (s : State) → next_scope s.scopes (path_at s.scopes last) (path_at s.scopes top) ≡ None → hushes k top last s ≡ s
+hush_none zero top last s h = refl
+hush_none (suc k) top last s h = rw h refl
+
+pub hush_step : (a b top last at : ℕ) (s t x : State) → a ≡ suc b → next_scope s.scopes (path_at s.scopes last) (path_at s.scopes top) ≡ Some at → t ≡ hushed at s → hushes a top last s ≡ x → hushes b top at t ≡ x
+hush_step a b top last at s t x ea eo run inv =
+    let step : hushes a top last s ≡ hushes b top at t = rw (ea, eo, run) refl in
     sym step ∙ inv

@@ -1,5 +1,5 @@
 -- What a call is made on stands.
-use Rattle.std.proofs.Common.{◌≡◌, ◌<◌, ◌≤◌, ◌+◌, ℕ, zero, suc, Bool, true, false, List, [], ◌∷◌, length, Option, Some, None, refl, ap, sym, subst, arith, eqb, if◌then◌else◌, bytes_eq, map}
+use Rattle.std.proofs.Common.{◌≡◌, ◌<◌, ◌+◌, ℕ, suc, Bool, true, false, List, [], ◌∷◌, length, Option, Some, None, refl, arith, eqb, if◌then◌else◌, bytes_eq, map}
 use Rattle.std.specs.List.{AllByRecursion}
 use Rattle.indexmap.specs.IndexMap.{insert_entry}
 use Rattle.ng_base.specs.Objects.{Object, object_at, StandsAmong}
@@ -108,7 +108,7 @@ after_stand n ls name v a s = by (is_local ls name)
     by true = insert_stands n ls name v a s
     by false = a
 
-value_stands : (n : ℕ) (t : ViewTree) → ViewStands n t → StandsAmong n (value_in t)
+pub value_stands : (n : ℕ) (t : ViewTree) → ViewStands n t → StandsAmong n (value_in t)
 value_stands n (prim v) s = s
 value_stands n (list ts) s = tt
 value_stands n (rec fs) s = tt

@@ -1,18 +1,18 @@
 -- The turns of a walk, and the walks that stay open round it.
-use Rattle.std.proofs.Common.{◌≡◌, ◌<◌, ◌≤◌, ◌+◌, ◌-◌, ℕ, zero, suc, Bool, true, false, List, [], ◌∷◌, length, set, Option, Some, None, IsSome, refl, ap, sym, ◌∙◌, arith, cond, subst, option_map}
-use Rattle.std.specs.Prelude.{slice_set, option_and_then}
+use Rattle.std.proofs.Common.{◌≡◌, ◌<◌, ◌≤◌, ◌+◌, ◌-◌, ℕ, zero, suc, Bool, true, false, List, length, set, Option, Some, None, IsSome, refl, ap, sym, ◌∙◌, arith, cond, option_map}
+use Rattle.std.specs.Prelude.{option_and_then}
 use Rattle.std.proofs.lemmas.List.{set-set, set-get_or, get_or-set_same}
 use Rattle.std.proofs.Math.Path.{fun_ext}
 use Rattle.ng_base.specs.declared.name.FunId.{FunId}
-use Rattle.ng_behaviour.specs.Listeners.{Listener, Heard, stands_at, heard_at, called, place_of, NobodyAhead}
+use Rattle.ng_behaviour.specs.Listeners.{Listener, stands_at, heard_at, called, place_of, NobodyAhead}
 use Rattle.ng_behaviour.specs.Scopes.{live_at}
 use Rattle.ng_chain.specs.Walked.{walk_at}
 use Rattle.ng_chain.specs.declared.chain.Span.{Span}
 use Rattle.ng_events.specs.Stands.{Table, IsOpen, Begins, Goes, Ends, Hears, lists_of, walks_at, put_walk, is_at}
 use Rattle.ng_events.specs.declared.stands.EventWalk.{EventWalk}
 use Rattle.ng_events.specs.declared.stands.EventWalk.TheVariants.{Bare, On}
-use Rattle.ng_act.specs.Actions.{Doing, Event, turned, takes_turn, listener_at, turns, upfrom, visited, does}
-use Rattle.ng_act.specs.State.{State}
+use Rattle.ng_act.specs.Actions.{Doing, Event, turned, takes_turn, turns, upfrom, visited, does}
+use Rattle.ng_act.specs.State.{State, with_heard}
 use Rattle.ng_act.specs.Turns.{left_turns, walk_turns, closed, left_of, ahead_of}
 
 -- opening, moving and closing a walk
@@ -72,7 +72,7 @@ turn_called go e sc i k s id h = by (stands_at (heard_at s.heard i).entries k) h
     by None q = absurd (cc)
     by (Some l) q = let p : l.id ≡ id = cc in ap (λ j. turned go e sc (live_at s.scopes sc) (called s.heard j) s) p
 
-turn-none : (go : Doing) (e : Event) (sc i k : ℕ) (s : State) → stands_at (heard_at s.heard i).entries k ≡ None → takes_turn go e sc i k s ≡ s
+pub turn-none : (go : Doing) (e : Event) (sc i k : ℕ) (s : State) → stands_at (heard_at s.heard i).entries k ≡ None → takes_turn go e sc i k s ≡ s
 turn-none go e sc i k s h = rw h refl
 
 -- turns of listeners that don't stand do nothing
@@ -154,3 +154,11 @@ ahead_falls t u v Bare id o g q = absurd (none-some id g.0)
 ahead_falls t u v (On i w) id o g q =
     let k : Hears (heard_at (lists_of t) i).entries (walk_at (walks_at t i) w.slot) (Some id) (walk_at (walks_at v i) w.slot) = rw (ap (λ f. f i) q) g.0 in
     left_falls (heard_at (lists_of t) i).entries (walk_at (walks_at t i) w.slot) (walk_at (walks_at v i) w.slot) id o k
+
+-- a walk that has begun has all places ahead that were given until then
+pub walk_begun : (go : Doing) (e : Event) (sc : ℕ) (t u : Table) (n : List ℕ) (w : EventWalk) (s : State) → Begins t sc n w u → s.heard ≡ lists_of t → walk_turns go e sc u w s ≡ visited go e sc (place_of s.heard sc n) s
+walk_begun go e sc t u n Bare s b h = rw (h, b.0) refl
+walk_begun go e sc t u n (On i w) s b h =
+    let r : walk_at (walks_at u i) w.slot ≡ Some (record { place = 0; end = (heard_at (lists_of t) i).last }) = ap (λ ws. walk_at (ws i) w.slot) b.5 ∙ put-read (walks_at t) i w.slot _ b.4 in
+    let n0 : (heard_at (lists_of t) i).last - 0 ≡ (heard_at (lists_of t) i).last = omega arith in
+    rw (r, h, b.0) (ap (λ (k : ℕ). turns go e sc i (upfrom 0 k) (with_heard (lists_of t) s)) n0)

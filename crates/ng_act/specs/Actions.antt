@@ -1,6 +1,6 @@
 -- What an action does (guide: Expressions; Scopes): by cases on the tree, from left to right. The first fault stands, and
 -- what was done before it stays.
-use Rattle.std.specs.Prelude.{ℕ, zero, suc, ◌+◌, ◌-◌, Bool, true, false, List, [], ◌∷◌, ◌++◌, length, map, drop, codes, Option, Some, None, option_and_then, Result, Ok, Err, pos, slice_get, nat_lt, is_some, if◌then◌else◌}
+use Rattle.std.specs.Prelude.{ℕ, zero, suc, Bool, true, false, List, [], ◌∷◌, ◌++◌, length, map, drop, codes, Option, Some, None, option_and_then, Result, Ok, Err, pos, slice_get, nat_lt, if◌then◌else◌}
 use Rattle.std.specs.Str.{bytes_eq}
 use Rattle.indexmap.specs.IndexMap.{insert_entry}
 use Rattle.ng_base.specs.Objects.{Object}
@@ -8,32 +8,31 @@ use Rattle.ng_base.specs.Views.{ViewTree, prim, list, rec, no_fields, views_from
 use Rattle.ng_base.specs.declared.fault.Fault.{Fault}
 use Rattle.ng_base.specs.declared.fault.Fault.TheVariants.{NotAFunction, NotAssignable, Depth, CallLimit, StoreFull, InProgress, OutOfProfile, Syntax}
 use Rattle.ng_base.specs.declared.heap.ObjKind.TheVariants as kinds
-use Rattle.ng_base.specs.declared.name.FunId.{FunId}
 use Rattle.ng_base.specs.declared.value.Value.{Value}
 use Rattle.ng_base.specs.declared.value.Value.TheVariants as value
 use Rattle.ng_behaviour.specs.Listeners.{Listener, Heard, stands_at, heard_at, place_of, called, with_listener, without_listener, without_listeners_of}
-use Rattle.ng_behaviour.specs.Scopes.{Scope, object_at, path_at, parent_at, live_at, next_scope, without_scope, begins}
+use Rattle.ng_behaviour.specs.Scopes.{object_at, path_at, parent_at, live_at, next_scope, without_scope}
 use Rattle.ng_language.specs.Objects.{new_object, set_name}
 use Rattle.ng_language.specs.Operators.{in_range, truthy}
 use Rattle.ng_language.specs.Sums.{as_view}
 use Rattle.ng_language.specs.Texts.{to_text}
+use Rattle.ng_language.specs.declared.snapshots.SnapKind.{SnapKind}
+use Rattle.ng_language.specs.declared.snapshots.SnapKind.TheVariants as snaps
 use Rattle.ng_language.specs.Trees.{Tree, Trees, PairTree, Pairs, a_number, a_text, a_name, the_scope, a_constant, member_of, item_of, call_of, a_list, a_record, in_brackets, signed, combined, both_of, either_of, choice_of, assigned, filtered, no_trees, tree_then, labelled, shorthand, computed, no_pairs, pair_then}
 use Rattle.ng_view.specs.Applied.{known, applied}
 use Rattle.ng_view.specs.Evaluation.{Local, Field, named, constant_value, label_name, sign_value, operator_value}
 use Rattle.ng_view.specs.Members.{member, item, has_members}
 use Rattle.ng_view.specs.Methods.{argument, method_value}
-use Rattle.ng_view.specs.declared.methods.Method.{Method}
 use Rattle.ng_write.specs.Assigning.{name_assigned, locals_after, member_assigned}
 use Rattle.ng_write.specs.Making.{value_in, made_member}
 use Rattle.ng_write.specs.Changing.{changed}
 use Rattle.ng_write.specs.Events.{event_called}
 use Rattle.ng_write.specs.Storing.{stored}
 use Rattle.ng_write.specs.Written.{Written}
-use Rattle.ng_write.specs.declared.changing.Change.{Change}
 use Rattle.ng_write.specs.declared.events.EventCall.{EventCall}
 use Rattle.ng_write.specs.declared.events.EventCall.TheVariants as event_calls
-use Rattle.ng_act.specs.Calling.{scope_method, called_on, value_called, is_nothing, outlives, program_given, bound_from}
-use Rattle.ng_act.specs.State.{State, Run, Fun, a_declared, a_taker, ◌>>=◌, with_objects, with_scopes, with_heard, with_funs, with_locals, with_stopped, with_body, handed, given, written, is_stopped, stop, without_stop}
+use Rattle.ng_act.specs.Calling.{scope_method, called_on, value_called, is_nothing, outlives, program_given, watch_given, watch_kind, Found, no_function, takes, unwatches, opens, found_in}
+use Rattle.ng_act.specs.State.{State, Run, Fun, a_taker, an_unwatcher, adds, removes, leaves, ◌>>=◌, with_task, with_change, with_serial, with_objects, with_scopes, with_heard, with_funs, with_locals, with_stopped, with_body, handed, given, written, is_stopped, stop, without_stop}
 use Rattle.ng_act.specs.declared.called.Called.{Called}
 use Rattle.ng_act.specs.declared.called.Called.TheVariants as calls
 use Rattle.ng_act.specs.declared.called.ScopeMethod.{ScopeMethod}
@@ -125,11 +124,16 @@ name_called scope name s = by (scope_method name)
 abbrev pub item_called : State → ViewTree → List ℕ → Called
 item_called s t name = if has_members t then called_on s.objects s.scopes t name else calls.Nothing
 
--- a function is called: its body with its parameters as locals; or it takes out the listener of its name
+-- what a function does, by its name
+abbrev pub found_run : Doing → ℕ → Found → State → Run ViewTree
+found_run go f no_function s = (s, Err NotAFunction)
+found_run go f takes s = (with_heard (without_listener s.heard f) s, Ok nothing)
+found_run go f (unwatches scope serial) s = (with_change (removes scope serial) s, Ok nothing)
+found_run go f (opens scope ls p) s = go (a_body scope ls p) s
+
+-- a function is called
 abbrev pub function_run : Doing → ℕ → Option Fun → List ViewTree → State → Run ViewTree
-function_run go f None args s = (s, Err NotAFunction)
-function_run go f (Some (a_declared scope params p)) args s = go (a_body scope (bound_from 0 params args) p) s
-function_run go f (Some a_taker) args s = (with_heard (without_listener s.heard f) s, Ok nothing)
+function_run go f o args s = found_run go f (found_in s.objects o args) s
 
 -- the listener is registered under the name of the function that takes it out, which is the value
 abbrev pub listens : ℕ → List ℕ → Trees → State → Run ViewTree
@@ -139,6 +143,19 @@ listens scope name p s =
 -- `$on`: the event's name is a text, the listener a program
 abbrev pub ons : ℕ → List ViewTree → State → Run ViewTree
 ons scope args s = given s (to_text s.objects (argument args 0)) >>= λ name t. given t (program_given (argument args 1)) >>= λ p u. listens scope name p u
+
+-- a watch more, under the next number; its value is the function that takes it out
+abbrev pub watches : ℕ → SnapKind → Trees → Trees → State → Run ViewTree
+watches scope kind e p s =
+    (with_serial (with_change (adds (record { scope = scope; serial = s.serial; kind = kind; watched = e; body = p })) (with_funs (s.funs ++ an_unwatcher scope s.serial ∷ []) s)), Ok (prim (value.Fun (record { 0 = length s.funs }))))
+
+-- `$watch` and `$watchCollection`: what is watched and what runs are programs
+abbrev pub declares : ℕ → SnapKind → List ViewTree → State → Run ViewTree
+declares scope kind args s = given s (watch_given (argument args 0)) >>= λ e t. given t (program_given (argument args 1)) >>= λ p u. watches scope kind e p u
+
+-- `$evalAsync`: the program waits for the digest
+abbrev pub defers : ℕ → List ViewTree → State → Run ViewTree
+defers scope args s = given s (program_given (argument args 0)) >>= λ p t. (with_task (record { scope = scope; body = p }) t, Ok nothing)
 
 abbrev pub evals : Doing → ℕ → List ViewTree → State → Run ViewTree
 evals go scope args s = given s (program_given (argument args 0)) >>= λ p t. go (a_body scope [] p) t
@@ -169,23 +186,30 @@ hushes (suc k) top last s = next_then (next_scope s.scopes (path_at s.scopes las
 abbrev pub deadened : ℕ → State → State
 deadened scope s = with_scopes (without_scope s.scopes scope) s
 
--- a scope and all below it are not live, and their listeners are gone
+-- a scope and all below it are not live, and their listeners and declared watches are gone
 abbrev pub buried : ℕ → State → State
-buried scope s = deadened scope (hushes (many s) scope scope (hushed scope s))
+buried scope s = deadened scope (hushes (many s) scope scope (hushed scope (with_change (leaves scope) s)))
 
 -- the broadcast of `$destroy` on a live scope, whose fault is handed over; then the scope and all below it die
 abbrev pub destroys : Doing → ℕ → State → State
 destroys go scope s = if live_at s.scopes scope then buried scope (handed (go (a_broadcast scope (codes "$destroy") []) s)) else s
+
+-- `$destroy()` gives undefined
+abbrev pub destroys_run : Doing → ℕ → State → Run ViewTree
+destroys_run go scope s = (destroys go scope s, Ok nothing)
 
 -- a method of a scope that has it still
 abbrev pub method_run : Doing → ℕ → ScopeMethod → List ViewTree → State → Run ViewTree
 method_run go scope methods.On args s = ons scope args s
 method_run go scope methods.Emit args s = emits go scope args s
 method_run go scope methods.Broadcast args s = broadcasts go scope args s
-method_run go scope methods.Destroy args s = (destroys go scope s, Ok nothing)
+method_run go scope methods.Destroy args s = destroys_run go scope s
 method_run go scope methods.Eval args s = evals go scope args s
 method_run go scope methods.Apply args s = (s, Err InProgress)
 method_run go scope methods.Digest args s = (s, Err InProgress)
+method_run go scope methods.Watch args s = declares scope (watch_kind (argument args 2)) args s
+method_run go scope methods.WatchCollection args s = declares scope snaps.Collection args s
+method_run go scope methods.EvalAsync args s = defers scope args s
 method_run go scope methods.LeftOut args s = (s, Err OutOfProfile)
 
 -- on a dead scope every method but `$eval` does nothing
@@ -208,6 +232,13 @@ runs go (calls.Pure m) t args s = stores_result (method_value s.objects m t args
 runs go (calls.OfArray o m) t args s = as_view_run (written (changed s.objects m o.0 (map value_in args)) s)
 runs go (calls.OfEvent e m) t args s = (event_run e.0 m s, Ok nothing)
 runs go (calls.OfScope scope m) t args s = scope_run go scope.0 m args s
+
+abbrev pub and_called : Run ViewTree → Run (ViewTree × Called)
+and_called r = r >>= λ v a. (a, Ok (v, value_called v))
+
+-- what a value calls, once it is evaluated
+abbrev pub whole_reached : (State → Run ViewTree) → State → Run (ViewTree × Called)
+whole_reached whole s = and_called (whole s)
 
 abbrev mutual
   pub acted : Doing → ℕ → Tree → State → Run ViewTree
@@ -235,7 +266,7 @@ abbrev mutual
   reached go scope whole (member_of t n) s = acted go scope t s >>= λ v a. (a, Ok (v, called_on a.objects a.scopes v n))
   reached go scope whole (item_of t i) s = acted go scope t s >>= λ v a. acted go scope i a >>= λ w b. given b (index_name b.objects v w) >>= λ n c. (c, Ok (v, item_called c v n))
   reached go scope whole (a_name n) s = (s, Ok (nothing, name_called scope n s))
-  reached go scope whole t s = whole s >>= λ v a. (a, Ok (v, value_called v))
+  reached go scope whole t s = whole_reached whole s
 
   -- the left side of an assignment
   pub left : Doing → ℕ → Tree → State → Run Place

@@ -5,3 +5,7 @@ pub mod Frames
 pub mod EventOf
 pub mod PlaceOf
 pub mod Turns
+pub mod Beginning
+pub mod CalleeOf
+pub mod Running
+pub mod Laws

@@ -1,5 +1,5 @@
 -- What places and callees of the code stand for, and which of them stand.
-use Rattle.std.specs.Prelude.{ℕ, ◌<◌, List}
+use Rattle.std.specs.Prelude.{ℕ, ◌<◌}
 use Rattle.ng_base.specs.ViewOf.{view_of}
 use Rattle.ng_base.specs.Views.{ViewTree}
 use Rattle.ng_base.specs.declared.view.View.{View}

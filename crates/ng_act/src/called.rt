@@ -30,6 +30,9 @@ pub enum ScopeMethod {
     Eval,
     Apply,
     Digest,
+    Watch,
+    WatchCollection,
+    EvalAsync,
     LeftOut,
 }
 
@@ -53,9 +56,6 @@ fn is_left_out(name: &Txt) -> bool
         || name.is_word("$watchGroup")
         || name.is_word("$applyAsync")
         || name.is_word("$$postDigest")
-        || name.is_word("$watch")
-        || name.is_word("$watchCollection")
-        || name.is_word("$evalAsync")
 }
 
 /// The method of scopes of a name.
@@ -76,6 +76,12 @@ pub fn scope_method(name: &Txt) -> Option<ScopeMethod>
         Some(ScopeMethod::Apply)
     } else if name.is_word("$digest") {
         Some(ScopeMethod::Digest)
+    } else if name.is_word("$watch") {
+        Some(ScopeMethod::Watch)
+    } else if name.is_word("$watchCollection") {
+        Some(ScopeMethod::WatchCollection)
+    } else if name.is_word("$evalAsync") {
+        Some(ScopeMethod::EvalAsync)
     } else if is_left_out(name) {
         Some(ScopeMethod::LeftOut)
     } else {
@@ -204,5 +210,8 @@ pub fn outlives(method: ScopeMethod) -> bool
         ScopeMethod::Destroy => false,
         ScopeMethod::Apply => false,
         ScopeMethod::Digest => false,
+        ScopeMethod::Watch => false,
+        ScopeMethod::WatchCollection => false,
+        ScopeMethod::EvalAsync => false,
     }
 }

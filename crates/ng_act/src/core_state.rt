@@ -2,14 +2,16 @@
 ghost use Rattle.std.specs.Prelude.{◌≡◌};
 ghost use Rattle.ng_act.specs.State.{handed_over};
 
+use crate::pending::{Task, WatchChange};
 use ng_base::fault::Fault;
 use ng_base::lists::Names;
 use ng_base::locals::Locals;
-use ng_base::name::ScopeId;
+use ng_base::name::{ScopeId, Serial};
 use ng_events::listeners::Listeners;
 use ng_parse::Program;
 use ng_scopes::scopes::Scopes;
 use ng_store::Store;
+use std::collections::VecDeque;
 
 /// What a function's name stands for.
 #[derive(Drop)]
@@ -18,6 +20,10 @@ pub enum Function {
     Declared(ScopeId, Names, Program),
     /// The function that takes out the listener of the same name.
     Taker,
+    /// The function that takes out the declared watch of a scope and a number.
+    Unwatcher(ScopeId, Serial),
+    /// A program on an outer scope, as a directive's `&` binding gives (guide: Directives).
+    Outer(ScopeId, Program),
 }
 
 /// How many faults were handed over, and the first of them.
@@ -38,6 +44,14 @@ pub struct Core {
     pub locals: Locals,
     /// The events whose `stopPropagation` was called and that go on.
     pub stopped: Vec<u32>,
+    /// The programs that wait for the digest, in order.
+    pub tasks: VecDeque<Task>,
+    /// The programs whose values the digest gives once it has settled, in order.
+    pub probes: Vec<Program>,
+    /// What the watchers are to become, in order.
+    pub changes: Vec<WatchChange>,
+    /// The next registration number.
+    pub serial: Serial,
     /// How many bodies this command entered.
     pub bodies: u32,
     /// How many bodies and events are open.

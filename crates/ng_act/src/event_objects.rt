@@ -1,26 +1,35 @@
 //! The objects of events.
-ghost use Rattle.std.specs.Prelude.{◌≡◌, ◌<◌, ◌≤◌, ◌+◌, length, IfOk, IfErr, OnOk, true};
+ghost use Rattle.std.specs.Prelude.{not, eqb, ◌≡◌, ◌<◌, ◌≤◌, ◌+◌, length, IfOk, IfErr, OnOk, true};
 ghost use Rattle.ng_base.specs.Faults.{is_memory};
 ghost use Rattle.ng_base.specs.Objects.{StandsAmong};
-ghost use Rattle.ng_base.specs.ViewOf.{view_of};
+ghost use Rattle.ng_base.specs.ViewOf.{view_of, views_of};
 ghost use Rattle.ng_base.specs.Word.{IsWord};
+ghost use Rattle.ng_behaviour.specs.Scopes.{object_at};
 ghost use Rattle.ng_language.specs.Objects.{set_name};
-ghost use Rattle.ng_act.specs.Actions.{with_event, shows_current, event_locals};
+ghost use Rattle.std.specs.List.{AllByRecursion};
+ghost use Rattle.ng_base.specs.Views.{views_list};
+ghost use Rattle.ng_language.specs.Views.{ViewStands};
+ghost use Rattle.ng_act.specs.Actions.{with_event, announced, shows_current, event_locals, ended, finished};
 ghost use Rattle.ng_act.specs.EventOf.{event_of};
-ghost use Rattle.ng_act.specs.Frames.{state_of, held, IsSound};
-ghost use Rattle.ng_act.specs.State.{is_stopped};
+ghost use Rattle.ng_act.specs.Frames.{state_of, held, IsSound, Acts};
+ghost use Rattle.ng_act.specs.State.{is_stopped, with_objects, with_stopped, without_stop};
 
 use crate::binding::value_copied;
 use crate::core_state::Core;
+use crate::keeping::keep;
 use ng_base::fault::{Fault, Memory};
 use ng_base::heap::ObjKind;
 use ng_base::locals::Locals;
-use ng_base::name::Oid;
+use ng_base::name::{Oid, ScopeId};
 use ng_base::txt::Txt;
 use ng_base::value::Value;
-use ng_base::view::View;
+use ng_base::view::{View, Views};
 use ng_store::{Store, StoreFault};
+use ng_view::lists::list_view;
 use std::alloc::Global;
+
+/// As many objects stand at most.
+const OBJECT_LIMIT: usize = 1_000_000;
 
 /// An event: its object, the list of its arguments, and its name.
 #[derive(Drop)]
@@ -108,4 +117,109 @@ pub fn is_stopped(core: &Core, e: &Event) -> bool
     ensures { result ≡ is_stopped core.now.stopped.items e.now.object.0 }
 {
     core.stopped.iter().any(|stopped| e.object.0 == *stopped)
+}
+
+/// The event's own object, in the core.
+#[tactic(auto, using(crate::proofs::SoundCores::grown))]
+fn add_event(core: &mut Core, alloc: Global, scope: ScopeId, name: &Txt) -> Result<Oid, Fault>
+    requires sound { IsSound core.old }
+    requires scope { scope.0 < length core.old.scopes }
+    requires room { length core.old.store + 1 < 1000000 }
+    ensures run { OnOk result (state_of core.new ≡ with_objects (with_event core.old.store (object_at core.old.scopes scope.0) name.now) (state_of core.old)) }
+    ensures want { IfErr result (λ e. is_memory e ≡ true) }
+    ensures object { IfOk result (λ o. o.0 ≡ length core.old.store) }
+    ensures below { IfOk result (λ o. o.0 < length core.new.store) }
+    ensures sound { IsSound core.new }
+    ensures held { held core.new ≡ held core.old }
+    ensures depth { core.new.depth ≡ core.old.depth }
+    ensures count { length core.new.scopes ≡ length core.old.scopes }
+    ensures grown { length core.old.store ≤ length core.new.store }
+{
+    let target = core.scopes.object(scope);
+    event_object(&mut core.store, alloc, target, name)
+}
+
+/// The objects of an event, if both have room.
+#[tactic(auto, using(crate::proofs::Announced::kept))]
+pub fn announce(
+    core: &mut Core,
+    alloc: Global,
+    scope: ScopeId,
+    name: &Txt,
+    args: Views,
+) -> Result<Event, Fault>
+    requires sound { IsSound core.old }
+    requires scope { scope.0 < length core.old.scopes }
+    requires args { AllByRecursion (ViewStands (length core.old.store)) (views_list (views_of args)) }
+    ensures run { Acts event_of result (state_of core.new) (announced scope.0 name.now (views_list (views_of args)) (state_of core.old)) }
+    ensures sound { IsSound core.new }
+    ensures held { held core.new ≡ held core.old }
+    ensures depth { core.new.depth ≡ core.old.depth }
+    ensures count { length core.new.scopes ≡ length core.old.scopes }
+    ensures grown { length core.old.store ≤ length core.new.store }
+    ensures object { IfOk result (λ e. e.object.0 < length core.new.store) }
+    ensures args { IfOk result (λ e. ViewStands (length core.new.store) (view_of e.args)) }
+{
+    if core.store.count() >= OBJECT_LIMIT - 1 {
+        return Err(Fault::StoreFull);
+    }
+    let object = add_event(core, alloc, scope, name)?;
+    let list = list_view(args);
+    let args = keep(core, alloc, &list)?;
+    let name = name.copied()?;
+    Ok(Event { object, args, name })
+}
+
+/// Whether an event is another one.
+fn is_another(object: u32, stopped: u32) -> bool
+    ensures { result ≡ not (eqb object stopped) }
+{
+    object != stopped
+}
+
+/// That `stopPropagation` was called is forgotten.
+#[tactic(auto, using(crate::proofs::SoundCores::grown))]
+fn forget_stop(core: &mut Core, object: u32)
+    requires sound { IsSound core.old }
+    ensures run { state_of core.new ≡ with_stopped (without_stop object core.old.stopped.items) (state_of core.old) }
+    ensures sound { IsSound core.new }
+    ensures held { held core.new ≡ held core.old }
+    ensures depth { core.new.depth ≡ core.old.depth }
+    ensures count { length core.new.scopes ≡ length core.old.scopes }
+    ensures store { core.new.store ≡ core.old.store }
+{
+    core.stopped.retain(|stopped| is_another(object, *stopped));
+}
+
+/// An event is over: no scope is current.
+#[tactic(auto, using(crate::proofs::SoundCores::grown))]
+fn end_event(core: &mut Core, alloc: Global, e: &Event) -> Result<(), Memory>
+    requires sound { IsSound core.old }
+    requires object { e.now.object.0 < length core.old.store }
+    ensures run { OnOk result (state_of core.new ≡ ended (event_of e.now) (state_of core.old)) }
+    ensures sound { IsSound core.new }
+    ensures held { held core.new ≡ held core.old }
+    ensures depth { core.new.depth ≡ core.old.depth }
+    ensures count { length core.new.scopes ≡ length core.old.scopes }
+    ensures grown { length core.old.store ≤ length core.new.store }
+{
+    show_current(core, alloc, e, Value::Null)?;
+    forget_stop(core, e.object.0);
+    Ok(())
+}
+
+/// An event is over, and its object is the value.
+pub fn finish(core: &mut Core, alloc: Global, e: &Event) -> Result<View, Fault>
+    requires sound { IsSound core.old }
+    requires object { e.now.object.0 < length core.old.store }
+    ensures run { Acts view_of result (state_of core.new) (finished (event_of e.now) (state_of core.old)) }
+    ensures sound { IsSound core.new }
+    ensures held { held core.new ≡ held core.old }
+    ensures depth { core.new.depth ≡ core.old.depth }
+    ensures count { length core.new.scopes ≡ length core.old.scopes }
+    ensures grown { length core.old.store ≤ length core.new.store }
+    ensures stands { IfOk result (λ w. ViewStands (length core.new.store) (view_of w)) }
+{
+    end_event(core, alloc, e)?;
+    Ok(View::of_value(Value::Obj(e.object)))
 }

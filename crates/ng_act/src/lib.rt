@@ -6,23 +6,34 @@
 //! scopes below it; each listener that stood there has one turn, in order, and one that was taken out meanwhile, or whose scope
 //! died, doesn't run. A listener's fault is handed over, and the walk goes on.
 //!
-//! The code has the core and the steps that open no body and no event, each with its definition as its contract: it leaves the
-//! state and gives the value or the fault that the definition says, want of memory apart; every walk over listeners that was
-//! open stays open at its place, as many bodies and events are open as before, and what holds of a core holds after it.
+//! What the crates above use: [`running::act`] runs a program, [`running::emit`] and [`running::broadcast`] an event, and
+//! [`running::destroy`] ends a scope. Each leaves the core in the state of its definition and gives the value or the fault
+//! that it says, want of memory apart; every walk over listeners that was open stays open at its place, as many bodies and
+//! events are open as before, and what holds of a core holds after it. [`core_state::Core`] keeps what programs leave for
+//! the digest: tasks, probes, and what the watchers are to become. A command sets the count of bodies to 0.
 //!
-//! In reading order: `core_state` has the core, `called` what a call calls, `reading` the programs that are given as texts,
-//! `binding` the values of arguments, `keeping` what is written into the store, `places` what an assignment writes to,
-//! `scope_calls` the registration of listeners and the methods of events, and `event_objects` the objects of events.
+//! In reading order: `core_state` and `pending` have the core, `beginning` the one that a page begins with, `called` what a
+//! call calls, `callees` what a function does, `reading` the programs that are given as texts, `binding` the values of
+//! arguments, `keeping` what is written into the store, `places` what an assignment writes to, `scope_calls` what scopes
+//! register, `burying` the death of a scope, `event_objects` the objects of events, `opening` bodies, events and walks as
+//! they are opened and closed, `leaves` the expressions without parts, `act` all that opens bodies and events, and `running`
+//! the calls.
 //!
-//! Not here yet: the walk over a program's tree and over the listeners of an event, which runs these steps. Watches, tasks and
-//! the digest are the page's.
+//! Not here: the digest, and what a fired watch does; those are the page's.
 #![tactic(auto)]
 
+pub mod beginning;
 pub mod binding;
+pub mod burying;
 pub mod called;
+pub mod callees;
 pub mod core_state;
 pub mod event_objects;
 pub mod keeping;
+pub mod laws;
+pub mod leaves;
+pub mod opening;
+pub mod pending;
 pub mod places;
 pub mod reading;
 pub mod scope_calls;

@@ -14,12 +14,15 @@
 //!   and a `limitTo` over so many objects;
 //! - `watches` tests so many clean watchers one after another;
 //! - `reversed` plans a repeat whose so many rows come in reverse, and `tenths` one of which each tenth row is gone;
-//! - `script` reads a script of so many commands.
+//! - `script` reads a script of so many commands;
+//! - `texts` builds a document of so many paragraphs and writes the text of each, and `groups` inserts a thousand groups in the middle of
+//!   so many at an anchor.
 //!
 //! It decides nothing and no other crate stands on it.
 #![tactic(auto)]
 
 mod digests;
+mod documents;
 mod listening;
 mod planning;
 mod scoping;
@@ -52,6 +55,8 @@ fn counted(alloc: Global, workload: &str, size: u64) -> Option<u64> {
         "reversed" => planning::planned(alloc, Order::Falling, size),
         "tenths" => planning::planned(alloc, Order::WithoutTenths, size),
         "script" => scripting::commands(alloc, size),
+        "texts" => documents::written(alloc, size),
+        "groups" => documents::grouped(alloc, size),
         _ => None,
     }
 }

@@ -1,6 +1,7 @@
 pub mod Log
 pub mod Machine
 pub mod Place
+pub mod Progress
 pub mod Laws
 pub mod Short
 pub mod Ends

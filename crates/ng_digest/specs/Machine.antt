@@ -65,7 +65,10 @@ adds_at m s None = false
 adds_at m s (Some k) = m.adds s k
 
 -- the cursor stands at the remembered key
+abbrev pub same_key : {K : Type 0} → (K → K → Ordering) → Option K → Option K → Bool
+same_key order (Some c) (Some k) = is_eq (order c k)
+same_key order (Some c) None = false
+same_key order None k = false
+
 abbrev pub is_same : {S K : Type 0} → Machine S K → Option K → Option K → Bool
-is_same m (Some c) (Some k) = is_eq (m.order c k)
-is_same m (Some c) None = false
-is_same m None k = false
+is_same m = same_key m.order

@@ -4,6 +4,7 @@ use Rattle.std.specs.Ordering.{nat_cmp}
 use Rattle.ng_digest.specs.declared.sheet.Sheet.{Sheet}
 use Rattle.ng_digest.specs.Machine.{Machine}
 use Rattle.ng_digest.specs.Place.{Place, Moves}
+use Rattle.ng_digest.specs.Progress.{place}
 use Rattle.ng_digest.specs.Board.{State, view, verdict, tested, fired, waits, ran, unset, live_from}
 
 abbrev pub board_machine : Machine State ℕ
@@ -22,10 +23,10 @@ board_machine = record {
 }
 
 abbrev pub place_of : Sheet → Place State ℕ
-place_of w = record { state = view w.board; cursor = w.cursor; remembered = w.remembered; log = w.log; stage = w.stage }
+place_of w = place (view w.board) w.progress
 
 abbrev pub sheet_moves : Moves Sheet
-sheet_moves = record { State = State; Key = ℕ; machine = board_machine; at = place_of }
+sheet_moves = record { State = State; Key = ℕ; machine = board_machine; at = place_of; Holds = λ w. Unit {0} }
 
 -- a state before a digest: nothing was handed over
 abbrev pub readied : State → State

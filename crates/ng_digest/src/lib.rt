@@ -20,6 +20,7 @@
 
 pub mod board;
 pub mod log;
+pub mod progress;
 pub mod rounds;
 pub mod sheet;
 pub mod watches;

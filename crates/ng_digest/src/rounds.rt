@@ -12,7 +12,7 @@ ghost use Rattle.ng_digest.specs.Plain.{Plain, PlainDigests};
 ghost use Rattle.ng_digest.specs.Early.{plain_of, plain_answer, IsFresh, OnSettled};
 ghost use Rattle.ng_digest.specs.Ends.{StageFound, StageWalked, StageRound, StageEnd, CountsRound, Finishes};
 
-use crate::log::{Log, Report};
+use crate::log::Report;
 use crate::world::{Tested, World};
 use ng_base::fault::{Fault, Memory};
 use thiserror::Error;
@@ -76,39 +76,37 @@ pub enum DigestFault {
 }
 
 /// Runs tasks while one waits. Answers whether ten thousand have run and another waits.
-fn drain<W: World>(w: &mut W, log: &mut Log) -> Result<bool, Memory>
+fn drain<W: World>(w: &mut W) -> Result<bool, Memory>
     requires stage { (W.moves.at w.old).stage ≡ Draining }
-    requires log { log.old ≡ (W.moves.at w.old).log }
+    requires holds { W.moves.Holds w.old }
     ensures run { IfOk result (λ over. Drains W.moves.machine (W.moves.at w.old) over (W.moves.at w.new)) }
     ensures stage { OnOk result ((W.moves.at w.new).stage ≡ Draining) }
     ensures calm { IfOk result (λ over. over ≡ false → W.moves.machine.waits (W.moves.at w.new).state ≡ false) }
-    ensures log { OnOk result (log.new ≡ (W.moves.at w.new).log) }
-    ensures rounds { OnOk result (log.new.dirty_rounds ≡ log.old.dirty_rounds) }
+    ensures holds { OnOk result (W.moves.Holds w.new) }
+    ensures rounds { OnOk result ((W.moves.at w.new).log.dirty_rounds ≡ (W.moves.at w.old).log.dirty_rounds) }
 {
     while w.waits() {
-        if log.tasks >= MANY_TASKS {
+        if w.log().tasks >= MANY_TASKS {
             return Ok(true);
         }
         let _ran = w.task()?;
-        log.count_task();
     }
     Ok(false)
 }
 
 /// Goes on to the next dirty key.
-fn next_dirty<W: World>(w: &mut W, log: &mut Log) -> Result<Found, Memory>
+fn next_dirty<W: World>(w: &mut W) -> Result<Found, Memory>
     requires stage { MayAdvance (W.moves.at w.old).stage (W.moves.machine.waits (W.moves.at w.old).state) }
-    requires log { log.old ≡ (W.moves.at w.old).log }
+    requires holds { W.moves.Holds w.old }
     ensures run { IfOk result (λ found. Skips W.moves.machine (W.moves.at w.old) found (W.moves.at w.new)) }
     ensures stage { IfOk result (λ found. (W.moves.at w.new).stage ≡ StageFound found) }
-    ensures log { OnOk result (log.new ≡ (W.moves.at w.new).log) }
-    ensures fires { OnOk result (log.new.fires ≡ log.old.fires) }
-    ensures rounds { OnOk result (log.new.dirty_rounds ≡ log.old.dirty_rounds) }
+    ensures holds { OnOk result (W.moves.Holds w.new) }
+    ensures fires { OnOk result ((W.moves.at w.new).log.fires ≡ (W.moves.at w.old).log.fires) }
+    ensures rounds { OnOk result ((W.moves.at w.new).log.dirty_rounds ≡ (W.moves.at w.old).log.dirty_rounds) }
 {
     while w.next_after()? {
         let remembered = w.last_dirty();
         let tested = w.test();
-        log.count_test();
         match tested {
             Tested::Dirty => return Ok(Found::Fireable),
             Tested::Memory(e) => return Err(e),
@@ -122,49 +120,46 @@ fn next_dirty<W: World>(w: &mut W, log: &mut Log) -> Result<Found, Memory>
 }
 
 /// Fires each dirty key, from the cursor upwards.
-fn walk<W: World>(w: &mut W, log: &mut Log) -> Result<Walked, Memory>
+fn walk<W: World>(w: &mut W) -> Result<Walked, Memory>
     requires stage { MayAdvance (W.moves.at w.old).stage (W.moves.machine.waits (W.moves.at w.old).state) }
-    requires log { log.old ≡ (W.moves.at w.old).log }
+    requires holds { W.moves.Holds w.old }
     ensures run { IfOk result (λ end. Walks W.moves.machine (W.moves.at w.old) end (W.moves.at w.new)) }
     ensures stage { IfOk result (λ end. (W.moves.at w.new).stage ≡ StageWalked end) }
-    ensures log { OnOk result (log.new ≡ (W.moves.at w.new).log) }
-    ensures rounds { OnOk result (log.new.dirty_rounds ≡ log.old.dirty_rounds) }
+    ensures holds { OnOk result (W.moves.Holds w.new) }
+    ensures rounds { OnOk result ((W.moves.at w.new).log.dirty_rounds ≡ (W.moves.at w.old).log.dirty_rounds) }
 {
     loop {
-        match next_dirty(w, log)? {
+        match next_dirty(w)? {
             Found::Nothing => return Ok(Walked::ToEnd),
             Found::Stopped => return Ok(Walked::Stopped),
             Found::Fireable => {}
         }
-        if log.fires >= MANY_FIRES {
+        if w.log().fires >= MANY_FIRES {
             return Ok(Walked::Limit);
         }
         w.fire()?;
-        log.count_fire();
     }
 }
 
 /// One round, up to its close.
-fn round<W: World>(w: &mut W, log: &mut Log) -> Result<RoundEnd, Memory>
+fn round<W: World>(w: &mut W) -> Result<RoundEnd, Memory>
     requires stage { (W.moves.at w.old).stage ≡ Between }
-    requires log { log.old ≡ (W.moves.at w.old).log }
+    requires holds { W.moves.Holds w.old }
     ensures run { IfOk result (λ end. Round W.moves.machine (W.moves.at w.old) end (W.moves.at w.new)) }
     ensures stage { IfOk result (λ end. StageRound end (W.moves.at w.new).stage) }
-    ensures log { OnOk result (log.new ≡ (W.moves.at w.new).log) }
-    ensures count { IfOk result (λ end. CountsRound end log.old.dirty_rounds log.new.dirty_rounds) }
+    ensures holds { OnOk result (W.moves.Holds w.new) }
+    ensures count { IfOk result (λ end. CountsRound end (W.moves.at w.old).log.dirty_rounds (W.moves.at w.new).log.dirty_rounds) }
 {
     w.start_round();
-    log.count_round();
-    if drain(w, log)? {
+    if drain(w)? {
         return Ok(RoundEnd::AsyncLimit);
     }
-    let cut = match walk(w, log)? {
+    let cut = match walk(w)? {
         Walked::Limit => return Ok(RoundEnd::FireLimit),
         Walked::ToEnd => false,
         Walked::Stopped => true,
     };
     let dirty = w.close_round();
-    log.count_close(dirty);
     if dirty {
         Ok(RoundEnd::Busy)
     } else {
@@ -173,22 +168,22 @@ fn round<W: World>(w: &mut W, log: &mut Log) -> Result<RoundEnd, Memory>
 }
 
 /// Rounds, up to one that isn't dirty.
-fn settle<W: World>(w: &mut W, log: &mut Log) -> Result<End, Memory>
+fn settle<W: World>(w: &mut W) -> Result<End, Memory>
     requires stage { (W.moves.at w.old).stage ≡ Between }
-    requires log { log.old ≡ (W.moves.at w.old).log }
-    requires few { log.old.dirty_rounds ≤ 10 }
+    requires holds { W.moves.Holds w.old }
+    requires few { (W.moves.at w.old).log.dirty_rounds ≤ 10 }
     ensures run { IfOk result (λ end. Rounds W.moves.machine (W.moves.at w.old) end (W.moves.at w.new)) }
     ensures stage { IfOk result (λ end. StageEnd end (W.moves.at w.new).stage) }
-    ensures log { OnOk result (log.new ≡ (W.moves.at w.new).log) }
+    ensures holds { OnOk result (W.moves.Holds w.new) }
 {
     'rounds: loop {
-        match round(w, log)? {
+        match round(w)? {
             RoundEnd::Quiet(cut) => return Ok(End::Settled(cut)),
             RoundEnd::FireLimit => return Ok(End::FireLimit),
             RoundEnd::AsyncLimit => return Ok(End::AsyncLimit),
             RoundEnd::Busy => {}
         }
-        if log.dirty_rounds >= MANY_ROUNDS {
+        if w.log().dirty_rounds >= MANY_ROUNDS {
             return Ok(End::Infdig);
         }
     }
@@ -196,8 +191,10 @@ fn settle<W: World>(w: &mut W, log: &mut Log) -> Result<End, Memory>
 
 /// What comes once the rounds have settled.
 fn finish<W: World>(w: &mut W, report: Report) -> Result<Report, DigestFault>
-    requires { (W.moves.at w.old).stage ≡ Calm }
-    ensures { Finishes W.moves.machine (W.moves.at w.old) report result (W.moves.at w.new) }
+    requires stage { (W.moves.at w.old).stage ≡ Calm }
+    requires holds { W.moves.Holds w.old }
+    ensures end { Finishes W.moves.machine (W.moves.at w.old) report result (W.moves.at w.new) }
+    ensures holds { Unless result (W.moves.Holds w.new) }
 {
     match w.post() {
         Ok(()) => {}
@@ -213,16 +210,17 @@ fn finish<W: World>(w: &mut W, report: Report) -> Result<Report, DigestFault>
 fn run<W: World>(w: &mut W) -> Result<Report, DigestFault>
     requires stage { (W.moves.at w.old).stage ≡ Between }
     requires log { (W.moves.at w.old).log ≡ zero_log }
-    ensures { Digests W.moves.machine (W.moves.at w.old) result (W.moves.at w.new) }
+    requires holds { W.moves.Holds w.old }
+    ensures run { Digests W.moves.machine (W.moves.at w.old) result (W.moves.at w.new) }
+    ensures holds { Unless result (W.moves.Holds w.new) }
 {
-    let mut log = Log::new();
-    let end = match settle(w, &mut log) {
+    let end = match settle(w) {
         Ok(end) => end,
         Err(e) => return Err(DigestFault::Memory(e)),
     };
     match end {
         End::Settled(stopped) => {
-            let report = log.report(stopped);
+            let report = w.log().report(stopped);
             finish(w, report)
         }
         End::Infdig => {
@@ -245,6 +243,7 @@ pub fn digest<W: World>(w: &mut W) -> Result<Report, DigestFault>
     requires stage { (W.moves.at w.old).stage ≡ Between }
     requires log { (W.moves.at w.old).log ≡ zero_log }
     requires forgotten { (W.moves.at w.old).remembered ≡ None }
+    requires holds { W.moves.Holds w.old }
     ensures short { Digests W.moves.machine (W.moves.at w.old) result (W.moves.at w.new) }
     ensures plain { Unless result (PlainDigests W.moves.machine (W.moves.at w.old).state (plain_answer result) (plain_of (W.moves.at w.new))) }
     ensures fresh { OnSettled result (λ tests. IsFresh W.moves.machine tests (W.moves.at w.new).state) }
@@ -254,6 +253,7 @@ pub fn digest<W: World>(w: &mut W) -> Result<Report, DigestFault>
     ensures faulted { Unless result ((first : Fault) (count : ℕ) → result ≡ Err (Faulted first count) ↔ HasSettled W.moves.machine (Some (first, count)) (W.moves.at w.new)) }
     ensures settled { Unless result (IsOk result ↔ HasSettled W.moves.machine None (W.moves.at w.new)) }
     ensures report { IfOk result (λ report. IsReport report (W.moves.at w.new).log) }
+    ensures holds { Unless result (W.moves.Holds w.new) }
 {
     run(w)
 }

@@ -15,18 +15,16 @@ ghost use Rattle.ng_digest.specs.BoardLaws.{board_laws};
 
 use crate::board::Board;
 use crate::log::{Log, Report};
+use crate::progress::Progress;
 use crate::rounds::{DigestFault, digest};
 use crate::watches;
-use crate::world::{Stage, Tested, World};
+use crate::world::{Tested, World};
 use ng_base::fault::{Fault, Memory};
 /// A board, and where a digest over it stands.
 #[derive(Debug, Drop)]
 pub struct Sheet {
     pub board: Board,
-    pub cursor: Option<usize>,
-    pub remembered: Option<usize>,
-    pub stage: Stage,
-    pub log: Log,
+    pub progress: Progress<usize>,
 }
 
 /// The least live key above the cursor.
@@ -51,17 +49,6 @@ fn test_at(board: &mut Board, cursor: Option<usize>) -> Tested
     }
 }
 
-/// Which call may come after a test.
-fn stage_after(same: bool, tested: Tested) -> Stage
-    ensures { (v : Verdict) → Answers v tested → OnTested tested (result ≡ stage_tested same v) }
-{
-    match tested {
-        Tested::Dirty => Stage::Pending,
-        Tested::Clean | Tested::Faulted => { if same { Stage::Through } else { Stage::Passed } }
-        Tested::Memory(_) => Stage::Passed,
-    }
-}
-
 impl Sheet {
     /// A sheet over a board, ready for a digest.
     pub fn new(board: Board) -> Sheet
@@ -69,10 +56,7 @@ impl Sheet {
     {
         Sheet {
             board,
-            cursor: None,
-            remembered: None,
-            stage: Stage::Between,
-            log: Log::new(),
+            progress: Progress::new(),
         }
     }
 
@@ -83,10 +67,7 @@ impl Sheet {
         self.board.told.clear();
         self.board.failed.clear();
         self.board.handed = None;
-        self.cursor = None;
-        self.remembered = None;
-        self.stage = Stage::Between;
-        self.log = Log::new();
+        self.progress = Progress::new();
     }
 
     /// A digest over it.
@@ -104,9 +85,7 @@ impl World for Sheet {
     ghost laws = { board_laws };
 
     fn start_round(&mut self) {
-        self.cursor = None;
-        self.stage = Stage::Draining;
-        self.log.count_round();
+        self.progress.begin_round();
     }
 
     fn waits(&self) -> bool {
@@ -114,68 +93,52 @@ impl World for Sheet {
     }
 
     fn task(&mut self) -> Result<bool, Memory> {
-        let some = watches::run_task(&mut self.board)?;
-        if some {
-            self.remembered = None;
-            self.log.count_task();
-        }
-        Ok(some)
+        let ran = watches::run_task(&mut self.board)?;
+        self.progress.after_task(ran);
+        Ok(ran)
     }
 
     fn next_after(&mut self) -> Result<bool, Memory> {
-        match next_of(&self.board, self.cursor) {
-            None => {
-                self.stage = Stage::Through;
-                Ok(false)
-            }
-            Some(key) => {
-                self.cursor = Some(key);
-                self.stage = Stage::AtKey;
-                Ok(true)
-            }
-        }
+        let next = next_of(&self.board, self.progress.cursor().copied());
+        Ok(self.progress.come_to(next))
     }
 
     fn last_dirty(&self) -> bool {
-        match (self.cursor, self.remembered) {
-            (Some(key), Some(last)) => key == last,
-            _ => false,
-        }
+        self.progress.at_remembered()
     }
 
     fn test(&mut self) -> Tested {
         let same = self.last_dirty();
-        let tested = test_at(&mut self.board, self.cursor);
-        self.log.count_test();
-        self.stage = stage_after(same, tested);
+        let tested = test_at(&mut self.board, self.progress.cursor().copied());
+        self.progress.after_test(tested, same);
         tested
     }
 
     fn fire(&mut self) -> Result<(), Memory> {
-        if let Some(key) = self.cursor {
+        if let Some(key) = self.progress.cursor().copied() {
             watches::fire(&mut self.board, key)?;
         }
-        self.remembered = if self.board.added { None } else { self.cursor };
-        self.stage = Stage::Passed;
-        self.log.count_fire();
+        self.progress.after_fire(self.board.added);
         Ok(())
     }
 
     fn close_round(&mut self) -> bool {
-        let dirty = self.log.round_fires > 0 || self.waits();
-        self.stage = if dirty { Stage::Between } else { Stage::Calm };
-        self.log.count_close(dirty);
-        dirty
+        let waits = self.waits();
+        self.progress.close(waits)
     }
 
     fn post(&mut self) -> Result<(), Memory> {
         watches::unset_failed(&mut self.board);
-        self.stage = Stage::Over;
+        self.progress.post();
         Ok(())
     }
 
     fn fail(&mut self) {
         watches::unset_failed(&mut self.board);
+    }
+
+    fn log(&self) -> &Log {
+        self.progress.log()
     }
 
     fn handed(&self) -> Option<(Fault, u32)> {

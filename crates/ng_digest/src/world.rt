@@ -4,6 +4,7 @@ ghost use Rattle.ng_digest.specs.Laws.{HasLaws, InOrder};
 ghost use Rattle.ng_digest.specs.Machine.{next_key, ahead, found_dirty};
 ghost use Rattle.ng_digest.specs.Place.{Moves, MayAdvance, begun, after_task, advanced, found, after_test, after_fire, is_remembered, is_dirty, closed, posted, given_up, Answers, OnTested};
 
+use crate::log::Log;
 use ng_base::fault::{Fault, Memory};
 
 /// What a test of a watcher found.
@@ -38,13 +39,16 @@ pub enum Stage {
 
 /// Watchers under keys, a cursor that goes up over the live keys, and tasks.
 pub trait World {
-    /// Its states and keys, what its calls do to a state, and where it stands.
+    /// Its states and keys, what its calls do to a state, where it stands, and what else holds of it between its
+    /// calls. After a call that wanted memory nothing is said of it.
     ghost moves: { Moves Self };
 
     /// Begins a round, and puts the cursor before the least key.
     fn start_round(&mut self)
-        requires { (moves.at self.old).stage ≡ Stage.Between }
-        ensures { moves.at self.new ≡ begun (moves.at self.old) };
+        requires stage { (moves.at self.old).stage ≡ Stage.Between }
+        requires holds { moves.Holds self.old }
+        ensures step { moves.at self.new ≡ begun (moves.at self.old) }
+        ensures holds { moves.Holds self.new };
 
     /// Whether a task waits.
     fn waits(&self) -> bool
@@ -54,15 +58,19 @@ pub trait World {
     fn task(&mut self) -> Result<bool, Memory>
         requires stage { (moves.at self.old).stage ≡ Stage.Draining }
         requires few { (moves.at self.old).log.tasks < 10000 }
+        requires holds { moves.Holds self.old }
         ensures answer { IfOk result (λ ran. ran ≡ moves.machine.waits (moves.at self.old).state) }
-        ensures step { IfOk result (λ ran. moves.at self.new ≡ after_task ran moves.machine (moves.at self.old)) };
+        ensures step { IfOk result (λ ran. moves.at self.new ≡ after_task ran moves.machine (moves.at self.old)) }
+        ensures holds { OnOk result (moves.Holds self.new) };
 
     /// Moves the cursor to the least live key above it. False where there is none.
     fn next_after(&mut self) -> Result<bool, Memory>
-        requires { MayAdvance (moves.at self.old).stage (moves.machine.waits (moves.at self.old).state) }
+        requires stage { MayAdvance (moves.at self.old).stage (moves.machine.waits (moves.at self.old).state) }
+        requires holds { moves.Holds self.old }
         ensures answer { IfOk result (λ more. more ≡ is_some (next_key moves.machine (moves.at self.old).state (moves.at self.old).cursor)) }
         ensures step { OnOk result (moves.at self.new ≡ advanced moves.machine (moves.at self.old)) }
-        ensures sorted { OnOk result (InOrder moves.machine (moves.at self.old).state) };
+        ensures sorted { OnOk result (InOrder moves.machine (moves.at self.old).state) }
+        ensures holds { OnOk result (moves.Holds self.new) };
 
     /// Whether the cursor stands at the remembered key.
     fn last_dirty(&self) -> bool
@@ -70,30 +78,44 @@ pub trait World {
 
     /// Tests the watcher at the cursor.
     fn test(&mut self) -> Tested
-        requires { (moves.at self.old).stage ≡ Stage.AtKey }
+        requires stage { (moves.at self.old).stage ≡ Stage.AtKey }
+        requires holds { moves.Holds self.old }
         ensures answer { Answers (found moves.machine (moves.at self.old)) result }
-        ensures step { OnTested result (moves.at self.new ≡ after_test moves.machine (moves.at self.old)) };
+        ensures step { OnTested result (moves.at self.new ≡ after_test moves.machine (moves.at self.old)) }
+        ensures holds { OnTested result (moves.Holds self.new) };
 
     /// Fires the watcher at the cursor, which was dirty.
     fn fire(&mut self) -> Result<(), Memory>
         requires stage { (moves.at self.old).stage ≡ Stage.Pending }
         requires few { (moves.at self.old).log.fires < 1000000 }
-        ensures { OnOk result (moves.at self.new ≡ after_fire moves.machine (moves.at self.old)) };
+        requires holds { moves.Holds self.old }
+        ensures step { OnOk result (moves.at self.new ≡ after_fire moves.machine (moves.at self.old)) }
+        ensures holds { OnOk result (moves.Holds self.new) };
 
     /// Ends the round, and tells whether it was dirty.
     fn close_round(&mut self) -> bool
-        requires { (moves.at self.old).stage ≡ Stage.Through }
+        requires stage { (moves.at self.old).stage ≡ Stage.Through }
+        requires holds { moves.Holds self.old }
         ensures answer { result ≡ is_dirty moves.machine (moves.at self.old) }
-        ensures step { moves.at self.new ≡ closed moves.machine (moves.at self.old) };
+        ensures step { moves.at self.new ≡ closed moves.machine (moves.at self.old) }
+        ensures holds { moves.Holds self.new };
 
     /// Does what comes once the rounds have settled.
     fn post(&mut self) -> Result<(), Memory>
-        requires { (moves.at self.old).stage ≡ Stage.Calm }
-        ensures { OnOk result (moves.at self.new ≡ posted moves.machine (moves.at self.old)) };
+        requires stage { (moves.at self.old).stage ≡ Stage.Calm }
+        requires holds { moves.Holds self.old }
+        ensures step { OnOk result (moves.at self.new ≡ posted moves.machine (moves.at self.old)) }
+        ensures holds { OnOk result (moves.Holds self.new) };
 
     /// Does what comes once the rounds were given up.
     fn fail(&mut self)
-        ensures { moves.at self.new ≡ given_up moves.machine (moves.at self.old) };
+        requires { moves.Holds self.old }
+        ensures step { moves.at self.new ≡ given_up moves.machine (moves.at self.old) }
+        ensures holds { moves.Holds self.new };
+
+    /// What was counted in this digest.
+    fn log(&self) -> &Log
+        ensures { result.now ≡ (moves.at self.now).log };
 
     /// The first fault that was handed over in this digest, and their count.
     fn handed(&self) -> Option<(Fault, u32)>

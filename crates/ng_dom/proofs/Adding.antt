@@ -8,7 +8,8 @@ use Rattle.std.proofs.lemmas.Bool.{eqb-true, eq-eqb, ne_eqb}
 use Rattle.ng_dom.specs.Lists.{put_at}
 use Rattle.ng_dom.specs.Nodes.{NamedNode, NamedForest, NamedGroups, named_text, named_comment, named_element, named_anchor, nothing_named, named_then, no_groups, group_then, name_of, names_of}
 use Rattle.ng_dom.specs.Editing.{changed_in, node_inserted, with_kids}
-use Rattle.ng_dom.specs.Rooms.{Shape, Room, Rooms, shape_of, room_of, HasRoom, ReadsInside, ReadsIn, ReadsGroups, room_changed, room_added, shape_with_kids}
+use Rattle.ng_dom.specs.Rooms.{Shape, Room, Rooms, shape_of, room_of, IsAfter, HasRoom, ReadsInside, ReadsIn, ReadsGroups, room_changed, room_added, shape_with_kids}
+use Rattle.ng_dom.specs.Removal.{room_gone}
 use Rattle.ng_dom.specs.Kept.{rooms_of, room_kept}
 use Rattle.ng_dom.specs.Asked.{is_element_room}
 use Rattle.ng_dom.specs.Making.{new_node, new_part}
@@ -147,11 +148,11 @@ part_at_top r s i k x shape e free rooms =
     top_reads r s i (new_part k x) (rw (name_part k x) free) (bare_part k x) (rw (name_part k x, sym e) rooms)
 
 -- a new part stands apart
-pub part_apart : (r s : Rooms) (p k : ℕ) (x : Part) (shape : Shape) → shape ≡ shape_of (new_part k x) → p < k
-    → ((q : ℕ) → s q ≡ room_added k (record { parent = Some p; shape = shape }) r q)
-    → ReadsIn s (Some p) (named_then (new_part k x) nothing_named)
+pub part_apart : (r s : Rooms) (p : Option ℕ) (k : ℕ) (x : Part) (shape : Shape) → shape ≡ shape_of (new_part k x) → IsAfter p k
+    → ((q : ℕ) → s q ≡ room_added k (record { parent = p; shape = shape }) r q)
+    → ReadsIn s p (named_then (new_part k x) nothing_named)
 part_apart r s p k x shape e above rooms =
-    let there : s k ≡ Some (record { parent = Some p; shape = shape }) = rooms k ∙ rw (eq-eqb k k refl) refl in
+    let there : s k ≡ Some (record { parent = p; shape = shape }) = rooms k ∙ rw (eq-eqb k k refl) refl in
     ((rw (name_part k x) above, rw (name_part k x, sym e) there), bare_part k x s, tt)
 
 -- the names at the top, where a new part is among them
@@ -165,3 +166,11 @@ element_shape_room (Some x) e = refl
 -- an element is live
 pub element_lives : (nodes : BTreeMap ℕ Record) (n : ℕ) → is_element_room (rooms_of nodes n) ≡ true → IsSome (rooms_of nodes n)
 element_lives nodes n e = element_shape_room (rooms_of nodes n) e
+
+-- a node that was made and is taken again leaves the table as it was
+pub taken_again : (r s t : Rooms) (k : ℕ) (x : Room) → r k ≡ None → ((q : ℕ) → s q ≡ room_added k x r q) → ((q : ℕ) → t q ≡ room_gone k s q) → (q : ℕ) → t q ≡ r q
+taken_again r s t k x free added gone q = by_test (q == k) refl
+  where
+    by_test : (b : Bool) → (q == k) ≡ b → t q ≡ r q
+    by_test true e = gone q ∙ rw e (sym (ap r (eqb-true q k e) ∙ free))
+    by_test false e = gone q ∙ rw e (added q ∙ rw e refl)

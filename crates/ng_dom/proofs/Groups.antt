@@ -31,7 +31,7 @@ module _ (r s : Rooms) (a : ℕ) (h : Shape → Shape) (rooms : (q : ℕ) → s 
 
 -- a change of groups whose names change in the same way
 module _ (g : NamedGroups → NamedGroups) (h : List (List ℕ) → List (List ℕ)) (names : (gs : NamedGroups) → group_names (g gs) ≡ h (group_names gs)) where
-  name-groups : (x : NamedNode) → name_of (with_groups g x) ≡ name_of x
+  pub name-groups : (x : NamedNode) → name_of (with_groups g x) ≡ name_of x
   name-groups (named_text n u) = refl
   name-groups (named_comment n u) = refl
   name-groups (named_element n e ats f) = refl

@@ -9,3 +9,10 @@ pub mod WithId
 pub mod Moving
 pub mod Attributes
 pub mod Once
+pub mod Removing
+pub mod Sparing
+pub mod Filling
+pub mod Emptying
+pub mod Fresh
+pub mod Levels
+pub mod Standing

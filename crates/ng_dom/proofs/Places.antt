@@ -1,7 +1,8 @@
 -- Places in lists.
 use Rattle.std.proofs.Common.{◌≡◌, ◌≤◌, ◌<◌, ℕ, zero, suc, List, [], ◌∷◌, ◌++◌, length, map, get_or, refl, ap, sym, ◌∙◌, arith}
+use Rattle.std.specs.Prelude.{slice_set}
 use Rattle.std.specs.List.{insert, remove}
-use Rattle.ng_dom.specs.Lists.{put_at, without_at, list_at}
+use Rattle.ng_dom.specs.Lists.{put_at, without_at, list_at, emptied_at}
 
 pub put_at-insert : {X : Type 0} (i : ℕ) (x : X) (xs : List X) → i < length xs → insert xs i x ≡ put_at i x xs
 put_at-insert i x [] h = absurd (omega arith)
@@ -53,3 +54,13 @@ pub list-or : {X Y : Type 0} (f : X → List Y) (i : ℕ) (ys : List X) (d : X) 
 list-or f i [] d h = absurd (omega arith)
 list-or f zero (x ∷ ys) d h = refl
 list-or f (suc i) (x ∷ ys) d h = list-or f i ys d (omega arith)
+
+pub emptied_set : {X Y : Type 0} (f : X → List Y) (i : ℕ) (v : X) (xs : List X) → i < length xs → f v ≡ [] → map f (slice_set xs i v) ≡ emptied_at i (map f xs)
+emptied_set f i v [] h e = absurd (omega arith)
+emptied_set f zero v (x ∷ xs) h e = ap (λ ys. ys ∷ map f xs) e
+emptied_set f (suc i) v (x ∷ xs) h e = ap (λ ys. f x ∷ ys) (emptied_set f i v xs (omega arith) e)
+
+pub emptied_past : {X Y : Type 0} (f : X → List Y) (i : ℕ) (xs : List X) → length xs ≤ i → map f xs ≡ emptied_at i (map f xs)
+emptied_past f i [] h = refl
+emptied_past f zero (x ∷ xs) h = absurd (omega arith)
+emptied_past f (suc i) (x ∷ xs) h = ap (λ ys. f x ∷ ys) (emptied_past f i xs (omega arith))

@@ -44,7 +44,7 @@ module _ (r : Rooms) (top : ℕ) (below : (p : Option ℕ) (x : NamedNode) → H
     read_inside k (named_element n e ats f) le h = ap (λ (g : NamedForest). named_then (named_element n e ats g) nothing_named) (read_forest k n f le h)
     read_inside k (named_anchor n gs) le h = ap (λ (g : NamedGroups). named_then (named_anchor n g) nothing_named) (read_kids k n gs le h)
 
-    read_forest : (k m : ℕ) (f : NamedForest) → top ≤ suc k + m → ReadsIn r (Some m) f → read_all (read k r) (names_of f) ≡ f
+    pub read_forest : (k m : ℕ) (f : NamedForest) → top ≤ suc k + m → ReadsIn r (Some m) f → read_all (read k r) (names_of f) ≡ f
     read_forest k m nothing_named le h = refl
     read_forest k m (named_then x f) le h =
         let after = h.0.0 in

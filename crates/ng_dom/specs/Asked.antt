@@ -1,5 +1,5 @@
 -- What a document is asked for.
-use Rattle.std.specs.Prelude.{ℕ, Bool, true, false, List, [], length, min, Option, Some, None, codes, ◌∷◌, ◌&&◌, ◌||◌, if◌then◌else◌}
+use Rattle.std.specs.Prelude.{ℕ, Bool, true, false, List, [], Option, Some, None, codes, ◌∷◌, ◌&&◌, ◌||◌, if◌then◌else◌}
 use Rattle.std.specs.Str.{bytes_eq}
 use Rattle.std.specs.BTreeMap.{is_at}
 use Rattle.std.specs.Map.{lookup}
@@ -40,10 +40,6 @@ shape_kids (anchor_shape gs) = []
 abbrev pub kids_in : Option Room → List ℕ
 kids_in None = []
 kids_in (Some x) = shape_kids x.shape
-
--- how many there are, as far as a u32 counts
-abbrev pub counted : List ℕ → ℕ
-counted ks = min (length ks) 4294967295
 
 -- the first, or else the second
 abbrev pub first_of_two : Option ℕ → Option ℕ → Option ℕ

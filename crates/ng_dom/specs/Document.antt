@@ -1,10 +1,13 @@
 -- The document that a `Dom` keeps.
-use Rattle.std.specs.Prelude.{ℕ, ◌≡◌, ◌+◌, ◌==◌, List, Option, Some, None, true, IsSome, if◌then◌else◌}
+use Rattle.std.specs.Prelude.{ℕ, ◌≡◌, ◌⊎◌, ◌+◌, ◌==◌, List, Option, Some, None, true, IsSome, if◌then◌else◌}
 use Rattle.std.specs.BTreeMap.{btree_map_len}
 use Rattle.ng_base.specs.declared.name.NodeId.{NodeId}
-use Rattle.ng_dom.specs.Nodes.{NamedNode, NamedForest, names_of, nothing_named, named_then}
+use Rattle.ng_dom.specs.Nodes.{NamedNode, NamedForest, name_of, names_of, nothing_named, named_then}
+use Rattle.ng_dom.specs.Walks.{read, read_all}
+use Rattle.ng_dom.specs.Printed.{level, inner, counted_level, seek, found, IsRead}
 use Rattle.ng_dom.specs.Editing.{changed_in, with_kids, node_inserted, node_moved}
 use Rattle.ng_dom.specs.Rooms.{Rooms, ReadsIn}
+use Rattle.ng_dom.specs.Removal.{IsThere}
 use Rattle.ng_dom.specs.Kept.{rooms_of, homes_of}
 use Rattle.ng_dom.specs.Asked.{kids_in, is_element_room}
 use Rattle.ng_dom.specs.declared.dom.Dom.{Dom}
@@ -77,14 +80,9 @@ abbrev pub IsPlaced : Option NodeId → ℕ → NamedNode → Dom → Dom → Ty
 IsPlaced None i x d e = Remains d e × ((f : NamedForest) → Shows d f → Shows e (node_inserted i x f))
 IsPlaced (Some p) i x d e = Becomes d e (changed_in p.made.0 (with_kids (node_inserted i x))) × (top e ≡ top d)
 
--- a new node is made for an anchor's groups and stands apart, and all else is as it was
-abbrev pub IsApart : ℕ → NamedNode → Dom → Dom → Type 0
-IsApart anchor x d e = Remains d e × ReadsIn (rooms e) (Some anchor) (named_then x nothing_named) × (top e ≡ top d)
-
--- the children of a parent by name
-abbrev pub children : Dom → Option NodeId → List ℕ
-children d None = top d
-children d (Some p) = kids_in (rooms d p.made.0)
+-- a new node is made for what a parent will hold and stands apart, and all else is as it was
+abbrev pub IsApart : Option ℕ → NamedNode → Dom → Dom → Type 0
+IsApart p x d e = Remains d e × ReadsIn (rooms e) p (named_then x nothing_named) × (top e ≡ top d)
 
 abbrev pub IsMovedUnder : Option ℕ → ℕ → ℕ → Dom → Dom → Type 0
 IsMovedUnder None i n d e = ((q : ℕ) → rooms e q ≡ rooms d q) × ((f : NamedForest) → Shows d f → Shows e (node_moved i n f))
@@ -100,3 +98,32 @@ pub record Keeps (d e : Dom) : Type 0 where
   pub homes : (q : ℕ) → homes e q ≡ homes d q
   pub next : next_name e ≡ next_name d
   pub live : live_count e ≡ live_count d
+
+-- nodes may be gone, and none comes: each of the others is drawn from what it was
+pub record Fewer (d e : Dom) : Type 0 where
+  pub homes : (q : ℕ) → (homes e q ≡ homes d q) ⊎ (rooms e q ≡ None)
+  pub next : next_name e ≡ next_name d
+
+-- no node comes or goes, and none is moved
+pub record Undone (d e : Dom) : Type 0 where
+  pub rooms : (q : ℕ) → rooms e q ≡ rooms d q
+  pub top : top e ≡ top d
+  pub live : live_count e ≡ live_count d
+
+-- whatever is read before, in the document or below a node that is still live, is read changed so afterwards
+abbrev pub Leaves : Dom → Dom → (NamedForest → NamedForest) → Type 0
+Leaves d e g = (p : Option ℕ) (f : NamedForest) → ReadsIn (rooms d) p f → IsThere (rooms e) p → ReadsIn (rooms e) p (g f)
+
+-- the names of the children of a node, or of the nodes at the top
+abbrev pub names_under : Dom → Option ℕ → List ℕ
+names_under d None = top d
+names_under d (Some n) = kids_in (rooms d n)
+
+-- the node of a number among those that are printed at the top or inside a node
+abbrev pub child_in : Dom → Option ℕ → ℕ → Option ℕ
+child_in d o i = found (seek None i (level (read_all (read (next_name d) (rooms d)) (names_under d o))))
+
+-- so many nodes are printed at the top, or inside a node
+abbrev pub Counts : Dom → Option NodeId → ℕ → Type 0
+Counts d None k = (f : NamedForest) → Shows d f → k ≡ counted_level f
+Counts d (Some p) k = (x : NamedNode) → name_of x ≡ p.made.0 → IsRead (rooms d) x → k ≡ counted_level (inner x)

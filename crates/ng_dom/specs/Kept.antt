@@ -1,5 +1,5 @@
 -- What the code's record of a node stands for.
-use Rattle.std.specs.Prelude.{ℕ, map, Option, option_map, is_some, ◌≡◌}
+use Rattle.std.specs.Prelude.{ℕ, map, Option, option_map, is_some, None, ◌≡◌, ◌⊎◌}
 use Rattle.std.specs.BTreeMap.{BTreeMap, get, btree_map_len}
 use Rattle.std.specs.Ordering.{nat_cmp}
 use Rattle.ng_dom.specs.Rooms.{Shape, Room, Rooms, text_shape, comment_shape, element_shape, anchor_shape}
@@ -30,3 +30,7 @@ pub record SameNodes (old new : BTreeMap ℕ Record) : Type 0 where
   pub homes : (q : ℕ) → homes_of new q ≡ homes_of old q
   pub live : btree_map_len new ≡ btree_map_len old
   pub there : (q : ℕ) → is_some (get nat_cmp new q) ≡ is_some (get nat_cmp old q)
+
+-- each node is as it was, or no longer there
+pub record Loses (old new : BTreeMap ℕ Record) : Type 0 where
+  pub each : (q : ℕ) → (get nat_cmp new q ≡ get nat_cmp old q) ⊎ (get nat_cmp new q ≡ None)

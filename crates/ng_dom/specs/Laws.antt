@@ -1,9 +1,12 @@
 -- The laws of the drawing: an edit of one node is a change at one place of what stands.
-use Rattle.std.specs.Prelude.{ℕ, ◌≡◌, List, Option, Some}
+use Rattle.std.specs.Prelude.{ℕ, ◌≡◌, true, List, Option, Some, None, option_map}
 use Rattle.ng_base.specs.declared.path.Key.{Key}
-use Rattle.ng_dom.specs.Nodes.{NamedForest, NamedGroups, names_of, group_names}
+use Rattle.ng_dom.specs.Nodes.{NamedNode, NamedForest, NamedGroups, names_of, group_names, plain}
 use Rattle.ng_dom.specs.Editing.{changed_in, with_text, with_groups, with_attributes, attribute_set}
 use Rattle.ng_dom.specs.Rooms.{Rooms, Room, ReadsIn, anchor_shape}
+use Rattle.ng_dom.specs.Lists.{among}
+use Rattle.ng_dom.specs.Removal.{Spares}
+use Rattle.ng_dom.specs.Printed.{at_place, plain_at, plain_node_of}
 use Rattle.ng_dom.specs.Drawing.{Stands, Bodies, Place, Source, DrawnAttributes, AtPlace, in_text, in_attribute, of_text, of_element, HeldAll, DifferAt, joined, shows, show_bodies, at_block_all}
 use Rattle.ng_dom.specs.declared.record.Piece.{Piece}
 
@@ -32,3 +35,15 @@ AttributeWritten =
     (site : Key → Option Place) (home : ℕ → Option Source) (k : Key) (n : ℕ) (a : List ℕ) (ps : List Piece) (ats : DrawnAttributes) (v w : Key → List ℕ) (ms : Stands)
     → site k ≡ Some (in_attribute n a) → home n ≡ Some (of_element ats) → AtPlace a ps ats → HeldAll site home ms → DifferAt k v w
     → changed_in n (with_attributes (attribute_set a (joined w ps))) (shows v ms) ≡ shows w ms
+
+-- what was read before a name was given isn't changed by a change of the node of that name
+abbrev pub NewNamesStandApart : Type 0
+NewNamesStandApart = (r : Rooms) (p : Option ℕ) (f : NamedForest) (k : ℕ) (g : NamedNode → NamedNode) → ReadsIn r p f → r k ≡ None → changed_in k g f ≡ f
+
+-- what was read before some names were given holds none of them
+abbrev pub NewNamesAreSpared : Type 0
+NewNamesAreSpared = (r : Rooms) (p : Option ℕ) (f : NamedForest) (names : List ℕ) → ReadsIn r p f → ((q : ℕ) → among q names ≡ true → r q ≡ None) → Spares names f
+
+-- the node at a path is printed there
+abbrev pub PlacesArePrinted : Type 0
+PlacesArePrinted = (p : List ℕ) (f : NamedForest) → plain_at p (plain f) ≡ option_map plain_node_of (at_place p f)

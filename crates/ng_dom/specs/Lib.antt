@@ -2,9 +2,11 @@ pub mod Lists
 pub mod Nodes
 pub mod Editing
 pub mod Rooms
+pub mod Removal
 pub mod Kept
 pub mod Making
 pub mod Asked
+pub mod Printed
 pub mod Document
 pub mod Walks
 pub mod Drawing

@@ -36,3 +36,13 @@ without_first n (k ∷ ks) = if k == n then ks else k ∷ without_first n ks
 -- taken out, and put before the i-th of the others
 abbrev pub moved_to : ℕ → ℕ → List ℕ → List ℕ
 moved_to i n ks = if among n ks then put_at i n (without_first n ks) else ks
+
+-- this in place of what was there
+abbrev pub filled_with : {X : Type 0} → X → X → X
+filled_with x y = x
+
+-- the i-th of some lists has nothing any more
+abbrev pub emptied_at : {X : Type 0} → ℕ → List (List X) → List (List X)
+emptied_at i [] = []
+emptied_at zero (y ∷ ys) = [] ∷ ys
+emptied_at (suc i) (y ∷ ys) = y ∷ emptied_at i ys

@@ -1,30 +1,35 @@
 //! The document: its calls.
-ghost use Rattle.std.specs.Prelude.{◌≡◌, ◌≤◌, ◌<◌, ◌+◌, ◌==◌, ◌&&◌, ◌++◌, encode_utf8_all, ℕ, List, Some, None, false, is_some, OnOk, OnErr, IfOk, IfErr, IfSome, [], ◌∷◌, IsOk, nat_lt, option_map, if◌then◌else◌};
+ghost use Rattle.std.specs.Prelude.{◌≡◌, ◌≤◌, ◌<◌, ◌+◌, ◌==◌, ◌&&◌, ◌++◌, encode_utf8_all, ℕ, List, Option, Some, None, false, is_some, OnOk, OnErr, IfOk, IfErr, IfSome, [], ◌∷◌, IsOk, nat_lt, option_map, if◌then◌else◌};
 ghost use Rattle.std.specs.BTreeMap.{get, btree_map_len};
 ghost use Rattle.std.specs.Ordering.{nat_cmp};
 ghost use Rattle.ng_base.specs.Meets.{Meets};
-ghost use Rattle.ng_dom.specs.Lists.{put_at, without_at, lists_at};
-ghost use Rattle.ng_dom.specs.Editing.{changed_in, with_text, with_attributes, attribute_set, attribute_dropped, with_groups, group_inserted, group_removed, picked};
-ghost use Rattle.ng_dom.specs.Nodes.{NamedForest, names_of, plain};
+ghost use Rattle.ng_dom.specs.Lists.{put_at, without_at, list_at, lists_at, filled_with};
+ghost use Rattle.ng_dom.specs.Removal.{without, room_without, top_without, groups_in, group_emptied, Takes, Spares, AreGone, IsThere, IsApartFromOthers};
+ghost use Rattle.ng_dom.specs.Editing.{changed_in, with_kids, with_text, with_attributes, attribute_set, attribute_dropped, with_groups, group_inserted, group_removed, picked};
+ghost use Rattle.ng_dom.specs.Nodes.{NamedNode, NamedForest, nothing_named, named_then, name_of, names_of, plain};
 ghost use Rattle.ng_markup.specs.Forest.{print};
 ghost use Rattle.ng_html.specs.Seen.{forest_of};
-ghost use Rattle.ng_dom.specs.Asked.{is_element_room, attribute_in, kids_in, counted, first_with_id};
-ghost use Rattle.ng_dom.specs.Rooms.{room_changed, room_added, shape_of, shape_told, shape_with_attributes, shape_with_kids, shape_with_groups, ReadsIn};
+ghost use Rattle.ng_dom.specs.Asked.{is_element_room, attribute_in, first_with_id};
+ghost use Rattle.ng_dom.specs.Printed.{followed, at_place};
+ghost use Rattle.ng_dom.specs.Rooms.{room_changed, room_added, shape_of, shape_told, shape_with_attributes, shape_with_kids, shape_with_groups, HasRoom, ReadsInside, ReadsIn};
 ghost use Rattle.ng_dom.specs.Making.{new_name, new_node, new_part, is_want};
 ghost use Rattle.ng_dom.specs.Kept.{shape_kept};
 
-use crate::edits::{attribute, content_of, count, is_element, kid_count, move_name, put};
+use crate::edits::{attribute, content_of, cut_top, is_element, move_name, only, put};
 use crate::fault::DomFault;
 use crate::finding::find_all;
 use crate::nodes::{
-    add, cut_group, drop_attribute, move_kid, parent_of, pick_groups, put_group, put_kid,
-    set_attribute, tell,
+    add, cut_group, cut_name, drop_attribute, empty_group, fill, move_kid, parent_of, pick_groups,
+    put_group, put_kid, set_attribute, take, tell,
 };
 use crate::printing::add_all;
 use crate::record::{Content, Group, Home, NewNode, Part, Record};
+use crate::removal::take_away;
+use crate::seeking::{Sought, found, is_anchor, passed, reversed, seek_all, seek_kids};
 use ng_base::fault::Memory;
 use ng_base::lists::Numbers;
 use ng_base::name::{NodeId, Serial};
+use ng_base::path::Path;
 use ng_base::txt::Txt;
 use ng_html::forest::Forest;
 use ng_html::writing::write;
@@ -47,7 +52,7 @@ pub struct Dom {
 }
 
 impl Dom {
-    ghost use Rattle.ng_dom.specs.Document.{rooms, homes, top, next_name, live_count, IsElement, IsLive, IsParent, Shows, Becomes, Stays, Unchanged, Gains, IsPlaced, IsApart, IsMoved, IsMovedUnder, Keeps, children};
+    ghost use Rattle.ng_dom.specs.Document.{rooms, homes, top, next_name, live_count, IsElement, IsLive, IsParent, Shows, Becomes, Stays, Unchanged, Gains, IsPlaced, IsApart, IsMoved, IsMovedUnder, Keeps, Undone, Fewer, Leaves, Counts, child_in};
 
     /// No node.
     pub fn new(alloc: Global) -> Dom
@@ -92,6 +97,7 @@ impl Dom {
         ensures gains { OnOk result (Gains home self.old self.new) }
         ensures top { top self.new ≡ top self.old }
         ensures refused { IfErr result (λ e. is_want e ≡ false → Unchanged self.old self.new) }
+        ensures undone { OnErr result (Undone self.old self.new) }
     {
         let id = self.new_name()?;
         let name = self.next;
@@ -112,10 +118,16 @@ impl Dom {
         ensures placed { OnOk result (((q : ℕ) → rooms self.new q ≡ room_added (next_name self.old) (record { parent = None; shape = shape_kept content }) (rooms self.old) q) × (top self.new ≡ put_at i (next_name self.old) (top self.old))) }
         ensures gains { OnOk result (Gains home self.old self.new) }
         ensures refused { IfErr result (λ e. is_want e ≡ false → Unchanged self.old self.new) }
+        ensures undone { OnErr result (Undone self.old self.new) }
     {
         let id = self.make(None, home, content)?;
-        put(&mut self.top, i, id.made.0)?;
-        Ok(id)
+        match put(&mut self.top, i, id.made.0) {
+            Ok(()) => Ok(id),
+            Err(refused) => {
+                let _ = take(&mut self.nodes, id.made.0);
+                Err(DomFault::from(refused))
+            }
+        }
     }
 
     /// A new node is the i-th child of an element.
@@ -131,10 +143,16 @@ impl Dom {
         ensures gains { OnOk result (Gains home self.old self.new) }
         ensures top { top self.new ≡ top self.old }
         ensures refused { IfErr result (λ e. is_want e ≡ false → Unchanged self.old self.new) }
+        ensures undone { OnErr result (Undone self.old self.new) }
     {
         let id = self.make(Some(parent), home, content)?;
-        put_kid(&mut self.nodes, parent, i, id.made.0)?;
-        Ok(id)
+        match put_kid(&mut self.nodes, parent, i, id.made.0) {
+            Ok(()) => Ok(id),
+            Err(refused) => {
+                let _ = take(&mut self.nodes, id.made.0);
+                Err(DomFault::from(refused))
+            }
+        }
     }
 
     /// A new part of a template, drawn from its home, is the i-th at the top or of an element.
@@ -150,6 +168,7 @@ impl Dom {
         ensures placed { OnOk result (IsPlaced parent at (new_part (next_name self.old) part) self.old self.new) }
         ensures gains { OnOk result (Gains home self.old self.new) }
         ensures refused { IfErr result (λ e. is_want e ≡ false → Unchanged self.old self.new) }
+        ensures undone { OnErr result (Undone self.old self.new) }
     {
         let content = content_of(self.alloc, part);
         match parent {
@@ -170,21 +189,120 @@ impl Dom {
         ensures placed { OnOk result (IsPlaced parent at (new_node (next_name self.old) n) self.old self.new) }
         ensures gains { OnOk result (Gains Home.Plain self.old self.new) }
         ensures refused { IfErr result (λ e. is_want e ≡ false → Unchanged self.old self.new) }
+        ensures undone { OnErr result (Undone self.old self.new) }
     {
         self.add_part(parent, at, Part::Node(n), Home::Plain)
     }
 
-    /// A new part is made for a group of an anchor, and stands apart until the group is inserted.
+    /// A new part is made for the children of an element or for a group of an anchor. It stands apart until it is given to its
+    /// parent by `fill` or `insert_group`.
     #[tactic(auto, using(crate::proofs::Adding::free_name))]
-    pub fn make_part(&mut self, anchor: NodeId, part: Part, home: Home) -> Result<NodeId, DomFault>
-        requires { IsLive self.old anchor.made.0 }
+    pub fn make_part(&mut self, parent: NodeId, part: Part, home: Home) -> Result<NodeId, DomFault>
+        requires { IsLive self.old parent.made.0 }
         ensures answer { Meets is_want (new_name (live_count self.old) (next_name self.old)) result }
-        ensures apart { OnOk result (IsApart anchor.made.0 (new_part (next_name self.old) part) self.old self.new) }
+        ensures apart { OnOk result (IsApart (Some parent.made.0) (new_part (next_name self.old) part) self.old self.new) }
         ensures gains { OnOk result (Gains home self.old self.new) }
         ensures refused { IfErr result (λ e. is_want e ≡ false → Unchanged self.old self.new) }
+        ensures undone { OnErr result (Undone self.old self.new) }
     {
         let content = content_of(self.alloc, part);
-        self.make(Some(anchor.made.0), home, content)
+        self.make(Some(parent.made.0), home, content)
+    }
+
+    /// A new part is made for the top. It stands apart until it is shown.
+    #[tactic(auto, using(crate::proofs::Adding::free_name))]
+    pub fn make_top(&mut self, part: Part, home: Home) -> Result<NodeId, DomFault>
+        ensures answer { Meets is_want (new_name (live_count self.old) (next_name self.old)) result }
+        ensures apart { OnOk result (IsApart None (new_part (next_name self.old) part) self.old self.new) }
+        ensures gains { OnOk result (Gains home self.old self.new) }
+        ensures refused { IfErr result (λ e. is_want e ≡ false → Unchanged self.old self.new) }
+        ensures undone { OnErr result (Undone self.old self.new) }
+    {
+        let content = content_of(self.alloc, part);
+        self.make(None, home, content)
+    }
+
+    /// An element has these children, which were made for it and stand apart. It costs one look-up.
+    pub fn fill(&mut self, n: NodeId, kids: Group)
+        ensures rooms { (q : ℕ) → rooms self.new q ≡ room_changed n.made.0 (shape_with_kids (filled_with kids.nodes.items)) (rooms self.old) q }
+        ensures reads { (piece : NamedForest) → names_of piece ≡ kids.nodes.items → ReadsIn (rooms self.old) (Some n.made.0) piece → Becomes self.old self.new (changed_in n.made.0 (with_kids (filled_with piece))) }
+        ensures stays { Stays self.old self.new }
+    {
+        fill(&mut self.nodes, n.made.0, kids.nodes);
+    }
+
+    /// What was made for the top and stands apart is the whole document.
+    pub fn show(&mut self, group: Group)
+        ensures shows { (f : NamedForest) → names_of f ≡ group.nodes.items → ReadsIn (rooms self.old) None f → Shows self.new f }
+        ensures rooms { (q : ℕ) → rooms self.new q ≡ rooms self.old q }
+        ensures top { top self.new ≡ group.nodes.items }
+        ensures keeps { Keeps self.old self.new }
+    {
+        self.top = group.nodes;
+    }
+
+    /// A node is taken away for good, with all that it holds. It costs what its parent holds, and what it takes.
+    pub fn remove(&mut self, n: NodeId) -> Result<(), Memory>
+        ensures reads { OnOk result (Leaves self.old self.new (without n.made.0)) }
+        ensures shows { OnOk result ((f : NamedForest) → Shows self.old f → Shows self.new (without n.made.0 f)) }
+        ensures gone { OnOk result ((p : Option ℕ) (x : NamedNode) → name_of x ≡ n.made.0 → HasRoom (rooms self.old) p x → ReadsInside (rooms self.old) x → AreGone (rooms self.new) (named_then x nothing_named)) }
+        ensures fewer { Fewer self.old self.new }
+        ensures refused { IfErr result (λ e. e ≡ Memory.Refused) }
+    {
+        match parent_of(&self.nodes, n.made.0) {
+            None => Ok(()),
+            Some(parent) => {
+                self.remove_under(parent, n.made.0)?;
+                Ok(())
+            }
+        }
+    }
+
+    fn remove_under(&mut self, parent: Option<u64>, n: u64) -> Result<(), AllocError>
+        requires { option_map (λ x. x.parent) (rooms self.old n) ≡ Some parent }
+        ensures reads { OnOk result (Leaves self.old self.new (without n)) }
+        ensures shows { OnOk result ((f : NamedForest) → Shows self.old f → Shows self.new (without n f)) }
+        ensures gone { OnOk result ((p : Option ℕ) (x : NamedNode) → name_of x ≡ n → HasRoom (rooms self.old) p x → ReadsInside (rooms self.old) x → AreGone (rooms self.new) (named_then x nothing_named)) }
+        ensures fewer { Fewer self.old self.new }
+    {
+        let names = only(self.alloc, n)?;
+        self.cut_out(parent, n)?;
+        self.take_out(names)
+    }
+
+    /// A name is taken out of what its parent holds.
+    fn cut_out(&mut self, parent: Option<u64>, n: u64) -> Result<(), AllocError>
+        ensures cut { OnOk result (((q : ℕ) → rooms self.new q ≡ room_without parent n (rooms self.old) q) × (top self.new ≡ top_without parent n (top self.old))) }
+        ensures keeps { Keeps self.old self.new }
+    {
+        match parent {
+            None => {
+                cut_top(&mut self.top, n);
+                Ok(())
+            }
+            Some(p) => cut_name(&mut self.nodes, self.alloc, p, n),
+        }
+    }
+
+    /// Nodes that stand apart are taken away.
+    fn take_out(&mut self, names: Vec<u64>) -> Result<(), AllocError>
+        ensures takes { OnOk result (Takes names.items (rooms self.old) (rooms self.new)) }
+        ensures top { top self.new ≡ top self.old }
+        ensures fewer { Fewer self.old self.new }
+    {
+        take_away(&mut self.nodes, names)
+    }
+
+    /// A piece that was built apart is taken away for good. It costs what it takes.
+    pub fn discard(&mut self, group: Group) -> Result<(), Memory>
+        ensures reads { OnOk result ((p : Option ℕ) (f : NamedForest) → ReadsIn (rooms self.old) p f → IsThere (rooms self.new) p → Spares group.nodes.items f → ReadsIn (rooms self.new) p f) }
+        ensures gone { OnOk result ((p : Option ℕ) (piece : NamedForest) → names_of piece ≡ group.nodes.items → ReadsIn (rooms self.old) p piece → AreGone (rooms self.new) piece) }
+        ensures top { top self.new ≡ top self.old }
+        ensures fewer { Fewer self.old self.new }
+        ensures refused { IfErr result (λ e. e ≡ Memory.Refused) }
+    {
+        self.take_out(group.nodes)?;
+        Ok(())
     }
 
     /// A node is put before the i-th of the other children of its parent, or at the top.
@@ -266,6 +384,20 @@ impl Dom {
         cut_group(&mut self.nodes, anchor.made.0, at as usize);
     }
 
+    /// The nodes of the i-th group of an anchor are taken away for good, and the group stands empty. It costs what it takes: for
+    /// rows that go by a plan, each is emptied at its old place, and then the others are picked.
+    pub fn empty_group(&mut self, anchor: NodeId, at: u32) -> Result<(), Memory>
+        ensures reads { OnOk result ((piece : NamedForest) → names_of piece ≡ list_at at (groups_in (rooms self.old anchor.made.0)) → ReadsIn (rooms self.old) (Some anchor.made.0) piece → IsApartFromOthers at (groups_in (rooms self.old anchor.made.0)) → (p : Option ℕ) (f : NamedForest) → (p ≡ Some anchor.made.0 → ⊥) → ReadsIn (rooms self.old) p f → IsThere (rooms self.new) p → ReadsIn (rooms self.new) p (changed_in anchor.made.0 (with_groups (group_emptied at)) f)) }
+        ensures gone { OnOk result ((piece : NamedForest) → names_of piece ≡ list_at at (groups_in (rooms self.old anchor.made.0)) → ReadsIn (rooms self.old) (Some anchor.made.0) piece → AreGone (rooms self.new) piece) }
+        ensures top { top self.new ≡ top self.old }
+        ensures fewer { Fewer self.old self.new }
+        ensures refused { IfErr result (λ e. e ≡ Memory.Refused) }
+    {
+        let names = empty_group(&mut self.nodes, self.alloc, anchor.made.0, at as usize);
+        self.take_out(names)?;
+        Ok(())
+    }
+
     /// An anchor has the groups of these places, in this order.
     pub fn pick_groups(&mut self, anchor: NodeId, order: &Numbers) -> Result<(), Memory>
         ensures rooms { OnOk result ((q : ℕ) → rooms self.new q ≡ room_changed anchor.made.0 (shape_with_groups (lists_at order.now)) (rooms self.old) q) }
@@ -282,6 +414,16 @@ impl Dom {
         ensures { result ≡ (n.slot == 0 && is_some (rooms self.now n.made.0)) }
     {
         n.slot == 0 && self.nodes.contains_key(&n.made.0)
+    }
+
+    /// What a node is drawn from, where it is live.
+    pub fn home(&self, n: NodeId) -> Option<&Home>
+        ensures { option_map (λ h. h.now) result ≡ homes self.now n.made.0 }
+    {
+        match self.nodes.get(&n.made.0) {
+            None => None,
+            Some(node) => Some(&node.home),
+        }
     }
 
     /// Whether a node is an element.
@@ -304,23 +446,132 @@ impl Dom {
         }
     }
 
-    /// How many children an element has, or stand at the top. A block's anchor is one, with all its groups.
+    /// How many nodes are printed at the top, or inside a node: the nodes of an anchor's groups follow it as its siblings.
     pub fn kids(&self, parent: Option<NodeId>) -> u32
-        ensures { result ≡ counted (children self.now parent) }
+        ensures { Counts self.now parent result }
     {
+        let deep = self.next;
         match parent {
-            None => count(&self.top),
-            Some(p) => self.kids_under(p.made.0),
+            None => passed(seek_all(&self.nodes, deep, None, u32::MAX, self.top.as_slice())),
+            Some(p) => passed(seek_kids(&self.nodes, deep, None, u32::MAX, p.made.0)),
         }
     }
 
-    fn kids_under(&self, n: u64) -> u32
-        ensures { result ≡ counted (kids_in (rooms self.now n)) }
+    /// The node of a number among those that are printed at the top, or inside a node.
+    fn child(&self, parent: Option<u64>, i: u32) -> Option<u64>
+        ensures { result ≡ child_in self.now parent i }
     {
-        match self.nodes.get(&n) {
-            None => 0,
-            Some(node) => kid_count(node),
+        match parent {
+            None => found(seek_all(&self.nodes, self.next, None, i, self.top.as_slice())),
+            Some(n) => found(seek_kids(&self.nodes, self.next, None, i, n)),
         }
+    }
+
+    /// Goes down by the numbers of a path.
+    fn follow(&self, numbers: &[u32]) -> Option<u64>
+        ensures { result ≡ followed (child_in self.now) None numbers.now }
+    {
+        let mut parent = None;
+        for i in numbers {
+            match self.child(parent, *i) {
+                None => return None,
+                Some(n) => parent = Some(n),
+            }
+        }
+        parent
+    }
+
+    /// The node at a path of the printed document.
+    pub fn at(&self, p: &Path) -> Option<NodeId>
+        ensures found { (f : NamedForest) → Shows self.now f → option_map (λ n. n.made.0) result ≡ option_map name_of (at_place p.now f) }
+        ensures slot { IfSome result (λ n. n.slot ≡ 0) }
+    {
+        match self.place_at(p) {
+            None => None,
+            Some(n) => Some(NodeId {
+                slot: 0,
+                made: Serial(n),
+            }),
+        }
+    }
+
+    /// The name of the node at a path.
+    fn place_at(&self, p: &Path) -> Option<u64>
+        ensures { (f : NamedForest) → Shows self.now f → result ≡ option_map name_of (at_place p.now f) }
+    {
+        self.follow(p.as_slice())
+    }
+
+    /// The path of a node that stands in the document, in what is printed. It costs the siblings on the way down. Of another node
+    /// it tells none, and answers as for want of memory.
+    pub fn path(&self, n: NodeId) -> Result<Path, Memory>
+        ensures stands { IfOk result (λ p. (f : NamedForest) → Shows self.now f → option_map name_of (at_place p f) ≡ Some n.made.0) }
+        ensures refused { IfErr result (λ e. e ≡ Memory.Refused) }
+    {
+        let path = self.upwards(n.made.0)?;
+        match self.place_at(&path) {
+            None => Err(Memory::Refused),
+            Some(m) => {
+                if m == n.made.0 {
+                    Ok(path)
+                } else {
+                    Err(Memory::Refused)
+                }
+            }
+        }
+    }
+
+    /// The numbers on the way up from a node, from the top downwards.
+    fn upwards(&self, n: u64) -> Result<Path, AllocError> {
+        let mut up = Vec::new(self.alloc);
+        let mut below = n;
+        while let Some((i, parent)) = self.step_up(below) {
+            up.push(i)?;
+            match parent {
+                None => break,
+                Some(p) => {
+                    if p >= below {
+                        break;
+                    }
+                    below = p;
+                }
+            }
+        }
+        reversed(self.alloc, up.as_slice())
+    }
+
+    /// The number of a node among those that are printed beside it, and what it is printed inside of: an element, or the top.
+    fn step_up(&self, n: u64) -> Option<(u32, Option<u64>)> {
+        let parent = self.printed_parent(n)?;
+        let sought = match parent {
+            None => seek_all(
+                &self.nodes,
+                self.next,
+                Some(n),
+                u32::MAX,
+                self.top.as_slice(),
+            ),
+            Some(p) => seek_kids(&self.nodes, self.next, Some(n), u32::MAX, p),
+        };
+        match sought {
+            Sought::Found(_, left) => Some((u32::MAX - left, parent)),
+            Sought::Left(_) => None,
+        }
+    }
+
+    /// The nearest node above that is no anchor.
+    fn printed_parent(&self, n: u64) -> Option<Option<u64>> {
+        let mut below = n;
+        while let Some(parent) = parent_of(&self.nodes, below)? {
+            if !is_anchor(&self.nodes, parent) {
+                return Some(Some(parent));
+            }
+            if parent >= below {
+                return None;
+            }
+            below = parent;
+        }
+        Some(None)
     }
 
     /// The document without names: an anchor is an empty comment, and its groups stand after it.

@@ -1,17 +1,19 @@
 //! Changes of one node.
-ghost use Rattle.std.specs.Prelude.{ℕ, map, option_map, ◌≡◌, ◌≤◌, ◌<◌, length, true, false, MatchOption, [], OnOk, OnErr, IfOk};
+ghost use Rattle.std.specs.Prelude.{ℕ, map, option_map, ◌≡◌, ◌≤◌, ◌<◌, length, true, false, MatchOption, [], ◌∷◌, OnOk, OnErr, IfOk};
 ghost use Rattle.std.specs.List.{remove};
-ghost use Rattle.ng_dom.specs.Lists.{put_at, without_at, list_at, lists_at, among, without_first, moved_to};
+ghost use Rattle.ng_dom.specs.Lists.{put_at, without_at, list_at, lists_at, among, without_first, moved_to, filled_with, emptied_at};
 ghost use Rattle.ng_dom.specs.Editing.{attribute_set, attribute_dropped};
 ghost use Rattle.ng_dom.specs.Rooms.{reshaped, shape_of, shape_told, shape_with_attributes, shape_with_kids, shape_with_groups};
-ghost use Rattle.ng_dom.specs.Asked.{shape_attribute, shape_kids, counted, is_element_shape};
+ghost use Rattle.ng_dom.specs.Asked.{shape_attribute, is_element_shape};
 ghost use Rattle.ng_dom.specs.Making.{new_node, new_part};
+ghost use Rattle.ng_dom.specs.Removal.{all_but, each_but, shape_without, groups_held};
 ghost use Rattle.ng_dom.specs.Kept.{room_kept, shape_kept};
 
 use crate::record::{Content, NewNode, Part, Record};
 use ng_base::txt::Txt;
 use std::alloc::{AllocError, Global};
 use std::collections::BTreeMap;
+use std::mem;
 
 /// What a new node shows.
 fn node_content(alloc: Global, n: NewNode) -> Content
@@ -157,29 +159,6 @@ pub fn attribute<'a>(node: &'a Record, name: &Txt) -> Option<&'a Txt>
     }
 }
 
-/// How many children an element has, as far as a `u32` counts.
-pub fn kid_count(node: &Record) -> u32
-    ensures { result ≡ counted (shape_kids (shape_kept node.now.content)) }
-{
-    match &node.content {
-        Content::Element { kids, .. } => count(kids),
-        Content::Text(_) => 0,
-        Content::Comment(_) => 0,
-        Content::Anchor(_) => 0,
-    }
-}
-
-/// How many names there are, as far as a `u32` counts.
-pub fn count(names: &Vec<u64>) -> u32
-    ensures { result ≡ counted names.now.items }
-{
-    if names.len() < u32::MAX as usize {
-        names.len() as u32
-    } else {
-        u32::MAX
-    }
-}
-
 /// Whether a node is an element.
 pub fn is_element(node: &Record) -> bool
     ensures { result ≡ is_element_shape (shape_kept node.now.content) }
@@ -245,6 +224,7 @@ pub fn move_kid(node: &mut Record, n: u64, i: usize) -> Result<(), AllocError>
 pub fn put_kid(node: &mut Record, i: usize, name: u64) -> Result<(), AllocError>
     ensures room { OnOk result (room_kept node.new ≡ reshaped (shape_with_kids (put_at i name)) (room_kept node.old)) }
     ensures home { node.new.home ≡ node.old.home }
+    ensures err { OnErr result (room_kept node.new ≡ room_kept node.old) }
 {
     match &mut node.content {
         Content::Element { kids, .. } => put(kids, i, name),
@@ -297,5 +277,106 @@ pub fn drop_attribute(node: &mut Record, name: &Txt)
         Content::Text(_) => {}
         Content::Comment(_) => {}
         Content::Anchor(_) => {}
+    }
+}
+
+/// One name.
+pub fn only(alloc: Global, n: u64) -> Result<Vec<u64>, AllocError>
+    ensures { IfOk result (λ names. names.items ≡ n ∷ []) }
+{
+    let mut names = Vec::new(alloc);
+    names.push(n)?;
+    Ok(names)
+}
+
+/// All names but one stay.
+fn keep_others(names: &mut Vec<u64>, n: u64)
+    ensures { names.new.items ≡ all_but n names.old.items }
+{
+    names.retain(|k| *k != n);
+}
+
+/// A group without a name.
+fn group_without(group: &Vec<u64>, n: u64) -> Result<Vec<u64>, AllocError>
+    ensures { IfOk result (λ g. g.items ≡ all_but n group.now.items) }
+{
+    let mut kept = copied(group)?;
+    keep_others(&mut kept, n);
+    Ok(kept)
+}
+
+/// The groups without a name.
+fn groups_without(alloc: Global, groups: &[Vec<u64>], n: u64) -> Result<Vec<Vec<u64>>, AllocError>
+    ensures { IfOk result (λ l. map (λ g. g.items) l.items ≡ each_but n (map (λ g. g.items) groups.now)) }
+{
+    let mut kept = Vec::new(alloc);
+    for group in groups {
+        kept.push(group_without(group, n)?)?;
+    }
+    Ok(kept)
+}
+
+/// A name is taken out of what a node holds.
+pub fn cut_name(node: &mut Record, alloc: Global, n: u64) -> Result<(), AllocError>
+    ensures room { OnOk result (room_kept node.new ≡ reshaped (shape_without n) (room_kept node.old)) }
+    ensures home { node.new.home ≡ node.old.home }
+{
+    match &mut node.content {
+        Content::Element { kids, .. } => {
+            keep_others(kids, n);
+            Ok(())
+        }
+        Content::Anchor(groups) => {
+            *groups = groups_without(alloc, groups.as_slice(), n)?;
+            Ok(())
+        }
+        Content::Text(_) => Ok(()),
+        Content::Comment(_) => Ok(()),
+    }
+}
+
+/// All names but one stay at the top.
+pub fn cut_top(names: &mut Vec<u64>, n: u64)
+    ensures { names.new.items ≡ all_but n names.old.items }
+{
+    keep_others(names, n);
+}
+
+/// An element has these children.
+pub fn fill(node: &mut Record, names: Vec<u64>)
+    ensures room { room_kept node.new ≡ reshaped (shape_with_kids (filled_with names.items)) (room_kept node.old) }
+    ensures home { node.new.home ≡ node.old.home }
+{
+    match &mut node.content {
+        Content::Element { kids, .. } => *kids = names,
+        Content::Text(_) => {}
+        Content::Comment(_) => {}
+        Content::Anchor(_) => {}
+    }
+}
+
+/// The i-th of some lists is handed out, and stands empty.
+fn empty_list(groups: &mut Vec<Vec<u64>>, alloc: Global, i: usize) -> Vec<u64>
+    ensures list { result.items ≡ list_at i (map (λ g. g.items) groups.old.items) }
+    ensures lists { map (λ g. g.items) groups.new.items ≡ emptied_at i (map (λ g. g.items) groups.old.items) }
+{
+    if i < groups.len() {
+        mem::replace(&mut groups[i], Vec::new(alloc))
+    } else {
+        Vec::new(alloc)
+    }
+}
+
+/// The i-th group of an anchor is handed out, and stands empty.
+pub fn empty_group(node: &mut Record, alloc: Global, i: usize) -> Vec<u64>
+    ensures room { room_kept node.new ≡ reshaped (shape_with_groups (emptied_at i)) (room_kept node.old) }
+    ensures group { result.items ≡ list_at i (groups_held (shape_kept node.old.content)) }
+    ensures home { node.new.home ≡ node.old.home }
+{
+    match &mut node.content {
+        Content::Anchor(groups) => empty_list(groups, alloc, i),
+        Content::Text(_) => Vec::new(alloc),
+        Content::Comment(_) => Vec::new(alloc),
+        Content::Element { .. } => Vec::new(alloc),
     }
 }

@@ -1,5 +1,5 @@
 //! The laws of the drawing: an edit of one node is a change at one place of what stands.
-ghost use Rattle.ng_dom.specs.Laws.{AttributeWritten, GroupsChanged, OneReading, TextWritten};
+ghost use Rattle.ng_dom.specs.Laws.{AttributeWritten, GroupsChanged, NewNamesAreSpared, NewNamesStandApart, OneReading, PlacesArePrinted, TextWritten};
 
 /// A key has a new text: to write the text of its node is to draw what stands anew.
 pub fn text_written()
@@ -19,4 +19,19 @@ pub fn attribute_written()
 /// A table has one forest under given names.
 pub fn one_reading()
     ensures { OneReading }
+{}
+
+/// What was read before a name was given isn't changed by a change of the node of that name.
+pub fn new_names_stand_apart()
+    ensures { NewNamesStandApart }
+{}
+
+/// What was read before some names were given holds none of them.
+pub fn new_names_are_spared()
+    ensures { NewNamesAreSpared }
+{}
+
+/// The node at a path is printed there.
+pub fn places_are_printed()
+    ensures { PlacesArePrinted }
 {}

@@ -14,18 +14,22 @@
 //! - Each call that changes something says what becomes of every forest that was there: `changed_in n g`, the forest with the node
 //!   n changed by g wherever it stands. `set_text`, `set_attr` and `drop_attr` look one node up; `insert_group`, `cut_group` and
 //!   `pick_groups` change the list of one anchor. None of them depends on the size of the document.
-//! - A piece for a block is built apart: `make_part` makes its first nodes, `add_part` what they hold, and `insert_group` puts it
-//!   under the anchor by one edit. Until then the document is read as before; the nodes of the piece are live, though.
-//! - `insert` and the other calls that make a node answer `NodeLimit` exactly where 200,000 nodes are live.
+//! - A piece is built apart: `make_top` or `make_part` makes a node for a parent that does not hold it yet, `fill` gives an element
+//!   its children at once, and `show` makes the piece the whole document, `insert_group` a group of an anchor, by one edit. Until
+//!   then the document is read as before; the nodes of the piece are live, though. Each call costs a look-up.
+//! - `remove`, `empty_group` and `discard` take nodes away for good, with all that they hold: their names are live no more, and
+//!   whatever else was read is read afterwards. They cost what they take, and what the parent holds.
+//! - `insert` and the other calls that make a node answer `NodeLimit` exactly where 200,000 nodes are live. After want of memory no
+//!   node is live that was not before.
+//! - `kids`, `at`, `path`, `forest`, `print` and `by_id` go by the document as it is printed: an anchor is an empty comment, and the
+//!   nodes of its groups follow it as its siblings. `insert`, `add_part` and `move_to` count the children that a parent holds: an
+//!   anchor with all its groups is one of them.
 //! - `forest`, `print` and `by_id` walk the document from the top. No walk goes deeper than names were given, as a child has a later
 //!   name than its parent.
 //!
 //! `Drawing` says what is drawn for what stands of a template, given the text of each hole, and [`laws`] what carries linking and
 //! firing: to write a text is to draw with the new text of its key, to change an anchor's groups is to change the bodies of its
-//! block.
-//!
-//! Nothing takes nodes away yet: `cut_group` lets the nodes of a group stand apart, and they stay live. A node's path, and the
-//! node at a path, are not asked for yet.
+//! block. `Printed` says which node is at a path; the node without its name is the one that the plain forest has there.
 //!
 //! Not here: what is registered for a node, which values its holes have, and when a block fires.
 #![tactic(auto)]
@@ -38,3 +42,5 @@ pub mod laws;
 pub mod nodes;
 pub mod printing;
 pub mod record;
+pub mod removal;
+pub mod seeking;

@@ -1,10 +1,11 @@
 //! The nodes by name.
-ghost use Rattle.std.specs.Prelude.{◌≡◌, ◌+◌, option_map, ℕ, ◌==◌, is_some, Some, None, OnOk, OnErr, IfOk, if◌then◌else◌};
+ghost use Rattle.std.specs.Prelude.{◌≡◌, ◌+◌, [], option_map, ℕ, ◌==◌, is_some, Some, None, OnOk, OnErr, IfOk, if◌then◌else◌};
 ghost use Rattle.std.specs.BTreeMap.{get, btree_map_len};
 ghost use Rattle.std.specs.Ordering.{nat_cmp};
-ghost use Rattle.ng_dom.specs.Lists.{put_at, without_at, lists_at, moved_to};
+ghost use Rattle.ng_dom.specs.Lists.{put_at, without_at, list_at, lists_at, moved_to, filled_with, emptied_at};
 ghost use Rattle.ng_dom.specs.Editing.{attribute_set, attribute_dropped};
 ghost use Rattle.ng_dom.specs.Rooms.{room_changed, room_added, shape_told, shape_with_attributes, shape_with_kids, shape_with_groups};
+ghost use Rattle.ng_dom.specs.Removal.{room_gone, shape_without, groups_in};
 ghost use Rattle.ng_dom.specs.Kept.{rooms_of, homes_of, room_kept, SameNodes};
 
 use crate::edits;
@@ -23,6 +24,16 @@ pub fn add(nodes: &mut BTreeMap<u64, Record>, n: u64, node: Record) -> Result<()
 {
     let _ = nodes.insert(n, node)?;
     Ok(())
+}
+
+/// A node is taken out.
+pub fn take(nodes: &mut BTreeMap<u64, Record>, n: u64) -> Option<Record>
+    ensures value { result ≡ get nat_cmp nodes.old n }
+    ensures others { (q : ℕ) → get nat_cmp nodes.new q ≡ (if q == n then None else get nat_cmp nodes.old q) }
+    ensures rooms { (q : ℕ) → rooms_of nodes.new q ≡ room_gone n (rooms_of nodes.old) q }
+    ensures live { btree_map_len nodes.new + (if is_some result then 1 else 0) ≡ btree_map_len nodes.old }
+{
+    nodes.remove(&n)
 }
 
 /// A text or comment shows another text.
@@ -72,6 +83,7 @@ pub fn put_kid(
 ) -> Result<(), AllocError>
     ensures rooms { OnOk result ((q : ℕ) → rooms_of nodes.new q ≡ room_changed parent (shape_with_kids (put_at i n)) (rooms_of nodes.old) q) }
     ensures same { SameNodes nodes.old nodes.new }
+    ensures err { OnErr result ((q : ℕ) → rooms_of nodes.new q ≡ rooms_of nodes.old q) }
 {
     match nodes.get_mut(&parent) {
         None => Ok(()),
@@ -145,5 +157,49 @@ pub fn parent_of(nodes: &BTreeMap<u64, Record>, n: u64) -> Option<Option<u64>>
     match nodes.get(&n) {
         None => None,
         Some(node) => Some(node.parent),
+    }
+}
+
+/// A name is taken out of what its parent holds.
+pub fn cut_name(
+    nodes: &mut BTreeMap<u64, Record>,
+    alloc: Global,
+    parent: u64,
+    n: u64,
+) -> Result<(), AllocError>
+    ensures rooms { OnOk result ((q : ℕ) → rooms_of nodes.new q ≡ room_changed parent (shape_without n) (rooms_of nodes.old) q) }
+    ensures same { SameNodes nodes.old nodes.new }
+{
+    match nodes.get_mut(&parent) {
+        None => Ok(()),
+        Some(node) => edits::cut_name(node, alloc, n),
+    }
+}
+
+/// An element has these children.
+pub fn fill(nodes: &mut BTreeMap<u64, Record>, n: u64, kids: Vec<u64>)
+    ensures rooms { (q : ℕ) → rooms_of nodes.new q ≡ room_changed n (shape_with_kids (filled_with kids.items)) (rooms_of nodes.old) q }
+    ensures same { SameNodes nodes.old nodes.new }
+{
+    match nodes.get_mut(&n) {
+        None => {}
+        Some(node) => edits::fill(node, kids),
+    }
+}
+
+/// The i-th group of an anchor is handed out, and stands empty.
+pub fn empty_group(
+    nodes: &mut BTreeMap<u64, Record>,
+    alloc: Global,
+    anchor: u64,
+    i: usize,
+) -> Vec<u64>
+    ensures rooms { (q : ℕ) → rooms_of nodes.new q ≡ room_changed anchor (shape_with_groups (emptied_at i)) (rooms_of nodes.old) q }
+    ensures group { result.items ≡ list_at i (groups_in (rooms_of nodes.old anchor)) }
+    ensures same { SameNodes nodes.old nodes.new }
+{
+    match nodes.get_mut(&anchor) {
+        None => Vec::new(alloc),
+        Some(node) => edits::empty_group(node, alloc, i),
     }
 }

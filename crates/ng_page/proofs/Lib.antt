@@ -1,8 +1,8 @@
-pub mod PartLists
-pub mod Draws
-pub mod Compiling
-pub mod Linking
 pub mod Json
-pub mod Builds
-pub mod CoreNames
-pub mod TextRuns
+pub mod Keeps
+pub mod SettledLaws
+pub mod Rendering
+pub mod Opened
+pub mod Stages
+pub mod LinkedPage
+pub mod Registered

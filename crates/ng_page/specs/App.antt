@@ -1,12 +1,12 @@
--- What an application file is: its data in a store, or the first refusal.
-use Rattle.std.specs.Prelude.{ℕ, Bool, true, false, ◌==◌, ◌&&◌, List, [], codes, Option, None, Some, is_some, option_and_then, Result, Ok, Err, if◌then◌else◌}
+-- What an application file is: the core that a page begins with, or the first refusal.
+use Rattle.std.specs.Prelude.{ℕ, Bool, true, false, ◌==◌, ◌&&◌, List, codes, Option, None, Some, is_some, option_and_then, Result, Ok, Err, if◌then◌else◌}
 use Rattle.std.specs.Str.{bytes_eq, is_utf8}
 use Rattle.serde_json.specs.Data.{Data, object, Members, no_members, member}
 use Rattle.serde_json.specs.Read.{read}
 use Rattle.serde_json.specs.Find.{as_number, as_u64, as_object, get_member}
+use Rattle.ng_act.specs.Beginning.{first_objects, first_state}
+use Rattle.ng_act.specs.State as act
 use Rattle.ng_base.specs.Objects.{Object}
-use Rattle.ng_base.specs.declared.value.Value.{Value}
-use Rattle.ng_store.specs.Json.{json_value, with_json}
 use Rattle.ng_store.specs.declared.json.JsonFault.{JsonFault}
 use Rattle.ng_store.specs.declared.json.JsonFault.TheVariants as json
 use Rattle.ng_page.specs.declared.fault.Member.{Member}
@@ -15,9 +15,9 @@ use Rattle.ng_page.specs.declared.fault.AppKind.{AppKind}
 use Rattle.ng_page.specs.declared.fault.AppKind.TheVariants as kind
 use Rattle.ng_page.specs.declared.fault.AppFault.{AppFault}
 
--- the data of an application: the place of the root's object, and the objects
+-- what a page begins with: the data stands in the object of the root scope
 abbrev pub Facts : Type 0
-Facts = Value × List Object
+Facts = act.State
 
 abbrev pub fault : Member → AppKind → AppFault
 fault m k = record { member = m; item = 0; kind = k }
@@ -58,26 +58,22 @@ abbrev pub without : List ℕ → Members → Members
 without n no_members = no_members
 without n (member k d ms) = if bytes_eq n k then ms else member k d (without n ms)
 
--- the names that every scope has of its own are left out unread
-abbrev pub read_members : Members → Members
-read_members ms = without (codes "$root") (without (codes "$parent") (without (codes "$id") ms))
-
 -- why JSON is not read as data
-abbrev pub data_fault : JsonFault → AppKind
-data_fault json.Number = kind.Number
-data_fault json.Full = kind.Full
-data_fault (json.Memory m) = kind.Memory m
+abbrev pub data_fault : JsonFault → AppFault
+data_fault json.Number = fault the.Facts kind.Number
+data_fault json.Full = fault the.Facts kind.Full
+data_fault (json.Memory m) = fault the.File (kind.Memory m)
 
-abbrev pub put_data : Data → Result Value JsonFault → Result Facts AppFault
-put_data d (Ok v) = Ok (v, with_json [] d)
-put_data d (Err e) = Err (fault the.Facts (data_fault e))
+abbrev pub begun_with : List Object → Result (Unit {0}) JsonFault → Result Facts AppFault
+begun_with objects (Ok u) = Ok (first_state objects)
+begun_with objects (Err e) = Err (data_fault e)
 
--- the root's object has the members of the data
+-- the root's object has the members of the data, but for the names that every scope has of its own
 abbrev pub facts_of_members : Option Members → Result Facts AppFault
 facts_of_members None = Err (fault the.Facts kind.Shape)
-facts_of_members (Some ms) = put_data (object (read_members ms)) (json_value [] (object (read_members ms)))
+facts_of_members (Some ms) = begun_with (first_objects (object ms)).0 (first_objects (object ms)).1
 
--- without data the root's object has no members
+-- without data the root's object has no members but those
 abbrev pub facts_of_data : Option Data → Result Facts AppFault
 facts_of_data None = facts_of_members (Some no_members)
 facts_of_data (Some d) = facts_of_members (as_object d)
@@ -106,6 +102,6 @@ abbrev pub facts_of_json : Option Data → Result Facts AppFault
 facts_of_json None = Err (fault the.File kind.Json)
 facts_of_json (Some d) = facts_of_object (as_object d)
 
--- the data of an application file
+-- what an application file begins a page with
 abbrev pub facts_of : List ℕ → Result Facts AppFault
 facts_of bytes = if is_utf8 bytes then facts_of_json (read bytes) else Err (fault the.File kind.Json)

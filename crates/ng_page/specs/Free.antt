@@ -1,23 +1,18 @@
--- The free answers: memory was refused.
-use Rattle.std.specs.Prelude.{Bool, true, false}
-use Rattle.ng_base.specs.declared.fault.Memory.TheVariants.{Refused}
+-- The free answer: want of memory, which names no member and no entry of the file.
+use Rattle.std.specs.Prelude.{Bool, true, false, ◌==◌, ◌&&◌}
 use Rattle.ng_page.specs.declared.fault.AppKind.{AppKind}
-use Rattle.ng_page.specs.declared.fault.AppKind.TheVariants as app
+use Rattle.ng_page.specs.declared.fault.AppKind.TheVariants as kind
 use Rattle.ng_page.specs.declared.fault.AppFault.{AppFault}
-use Rattle.ng_page.specs.declared.fault.TplKind.{TplKind}
-use Rattle.ng_page.specs.declared.fault.TplKind.TheVariants as tpl
-use Rattle.ng_page.specs.declared.fault.TplFault.{TplFault}
+use Rattle.ng_page.specs.declared.fault.Member.{Member}
+use Rattle.ng_page.specs.declared.fault.Member.TheVariants as the
 
-abbrev pub is_refused_app : AppKind → Bool
-is_refused_app (app.Memory Refused) = true
-is_refused_app _ = false
+abbrev pub is_want : AppKind → Bool
+is_want (kind.Memory m) = true
+is_want k = false
+
+abbrev pub is_file : Member → Bool
+is_file the.File = true
+is_file m = false
 
 abbrev pub is_app_want : AppFault → Bool
-is_app_want f = is_refused_app f.kind
-
-abbrev pub is_refused_tpl : TplKind → Bool
-is_refused_tpl (tpl.Memory Refused) = true
-is_refused_tpl _ = false
-
-abbrev pub is_tpl_want : TplFault → Bool
-is_tpl_want f = is_refused_tpl f.kind
+is_app_want f = is_want f.kind && (f.item == 0) && is_file f.member

@@ -1,72 +1,46 @@
--- The state of a page: its data, its watchers, and the parts that stand.
-use Rattle.std.specs.Prelude.{ℕ, ◌≡◌, List, [], map, Option, None, Some, Result, Ok, slice_get, nat_lt, if◌then◌else◌}
-use Rattle.std.specs.Option.{unwrap_or}
-use Rattle.ng_base.specs.Objects.{Object}
-use Rattle.ng_base.specs.declared.value.Value.{Value}
-use Rattle.ng_base.specs.declared.value.Value.TheVariants.{Obj}
-use Rattle.ng_base.specs.declared.fault.Fault.{Fault}
-use Rattle.ng_language.specs.Trees.{Trees}
-use Rattle.ng_markup.specs.Forest.{Forest}
-use Rattle.ng_digest.specs.Plain.{Plain, PlainDigests}
-use Rattle.ng_digest.specs.declared.rounds.DigestFault.{DigestFault}
-use Rattle.ng_sites.specs.Now.{now}
-use Rattle.ng_sites.specs.Sites as sites
-use Rattle.ng_sites.specs.Settled.{IsSettled, kept_at}
-use Rattle.ng_pages.specs.Parts.{Parts}
-use Rattle.ng_pages.specs.Drawing.{draw, render}
-use Rattle.ng_pages.specs.Nodes.{linked, nodes, node_limit}
-use Rattle.ng_page.specs.App.{Facts}
-use Rattle.ng_page.specs.Compiles.{Template}
+-- The state of a page: the core, the live watchers with what they have kept, whose fault was handed over in this digest, and
+-- what stands of the page's template.
+use Rattle.std.specs.Prelude.{List, Option, Some, None}
+use Rattle.ng_act.specs.State as act
+use Rattle.ng_base.specs.declared.path.Key.{Key}
+use Rattle.ng_drawing.specs.Drawing.{Rendered, shown_as}
+use Rattle.ng_drawing.specs.Instance as instances
+use Rattle.ng_drawing.specs.Template.{Template}
+use Rattle.ng_link.specs.State.{Page, instance_at}
+use Rattle.ng_markup.specs.Forest.{Forest, no_nodes}
+use Rattle.ng_watch.specs.Table.{Table}
+
+-- a template that is linked, with its scope and the keys of its sites
+pub record Linked : Type 0 where
+  pub template : Template
+  pub page : Page
 
 pub record State : Type 0 where
-  pub sites : sites.State
-  pub parts : Parts
+  pub core : act.State
+  pub watchers : Table
+  pub told : List Key
+  pub linked : Option Linked
 
--- the hole of a number shows what its watcher has kept, and nothing before it kept a text
-abbrev pub kept_texts : sites.State → ℕ → List ℕ
-kept_texts s n = unwrap_or (kept_at s n) []
+-- the page's instance; there is none where the opening link met a fault
+abbrev pub instance_in : Table → Option Linked → Option instances.Instance
+instance_in t None = None
+instance_in t (Some l) = Some (instance_at t l.page)
 
--- the document that a page shows
+abbrev pub instance : State → Option instances.Instance
+instance s = instance_in s.watchers s.linked
+
+-- the document that a page shows: the drawing with what is kept
+abbrev pub shown_in : Table → Option Linked → Forest
+shown_in t None = no_nodes
+shown_in t (Some l) = instances.shown l.template (instance_at t l.page)
+
 abbrev pub shown : State → Forest
-shown s = draw (kept_texts s.sites) s.parts
+shown s = shown_in s.watchers s.linked
 
--- what the hole of a number shows over the data as it stands, by its program alone
-abbrev pub program_now : List Object → ℕ → Option Trees → Result (List ℕ) Fault
-program_now objects root None = Ok []
-program_now objects root (Some p) = now objects root p
+-- The rendering: the document computed afresh over data and scopes. Without an instance it is empty.
+abbrev pub rendering_in : act.State → Table → Option Linked → Rendered Forest
+rendering_in c t None = shown_as no_nodes
+rendering_in c t (Some l) = instances.rendering c.objects c.scopes l.template (instance_at t l.page)
 
--- the place of the root's object
-abbrev pub root_of : Value → ℕ
-root_of (Obj o) = o.0
-root_of v = 0
-
--- the programs of the holes that are linked; none where the page would have too many nodes
-abbrev pub linked_programs : Template → List Trees
-linked_programs t = if nat_lt node_limit (nodes t.parts) then [] else t.programs
-
--- The rendering of a template over data: its parts with what each program shows now, without watchers.
-abbrev pub rendering : Facts → Template → Result Forest Fault
-rendering facts t = render (λ n. program_now facts.1 (root_of facts.0) (slice_get (linked_programs t) n)) (linked t.parts)
-
--- the watchers that linking makes, all of them unset
-abbrev pub linked_sites : Template → List sites.Site
-linked_sites t = map sites.unset (linked_programs t)
-
--- a page right after it was linked
-abbrev pub linked_state : Facts → Template → sites.State
-linked_state facts t = sites.linked facts.1 (root_of facts.0) (linked_sites t)
-
--- the plain digest that opens a page ends so, with this answer: the rounds and fires, or why it did not succeed
-abbrev pub Opens : Facts → Template → Result (ℕ × ℕ) DigestFault → State → Type 0
-Opens facts t answer s =
-    (end : Plain sites.State) × PlainDigests sites.page_machine (sites.readied (linked_state facts t)) answer end
-    × (s ≡ record { sites = end.state; parts = linked t.parts })
-
--- how many faults linking handed over, of which this is the first
-abbrev pub fault_count : Option Fault → ℕ
-fault_count None = 0
-fault_count (Some f) = 1
-
--- no watcher of a page is dirty, and the expression of none faults
-abbrev pub Settles : State → Type 0
-Settles s = IsSettled s.sites
+abbrev pub rendering : State → Rendered Forest
+rendering s = rendering_in s.core s.watchers s.linked

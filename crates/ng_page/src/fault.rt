@@ -1,10 +1,9 @@
-//! Why an application or a template is refused.
+//! Why an application is refused.
 ghost use Rattle.std.specs.Prelude.{◌≡◌, true};
-ghost use Rattle.ng_page.specs.Free.{is_app_want, is_tpl_want, is_refused_tpl};
-ghost use Rattle.ng_page.specs.declared.fault.TplKind.TheVariants.{Memory as OfMemory};
+ghost use Rattle.ng_page.specs.Free.{is_app_want};
 
 use ng_base::fault::Memory;
-use std::alloc::{AllocError, AllocFailed};
+use std::alloc::AllocError;
 use thiserror::Error;
 
 /// A member of the application file, or the file itself. `Facts` is the member `data`.
@@ -78,66 +77,6 @@ impl From<AllocError> for AppFault {
             member: Member::File,
             item: 0,
             kind: AppKind::Memory(Memory::Refused),
-        }
-    }
-}
-
-/// Why a template is refused. `Later` is a form that is not built yet.
-#[derive(Clone, Copy, Debug, PartialEq, Eq, Error)]
-pub enum TplKind {
-    #[error("Expression")]
-    Expression,
-    #[error("Impure")]
-    Impure,
-    #[error("MultiDir")]
-    MultiDir,
-    #[error("BadRepeat")]
-    BadRepeat,
-    #[error("CaseWithoutSwitch")]
-    CaseWithoutSwitch,
-    #[error("UnknownFilter")]
-    UnknownFilter,
-    #[error("LeftOut")]
-    LeftOut,
-    #[error("Orphan")]
-    Orphan,
-    #[error("Later")]
-    Later,
-    #[error("{0}")]
-    Memory(Memory),
-}
-
-/// A refusal of a template: the byte where the element or text begins, and why.
-#[derive(Clone, Copy, Debug, PartialEq, Eq, Error)]
-#[error("{kind} at byte {place}")]
-pub struct TplFault {
-    pub place: u64,
-    pub kind: TplKind,
-}
-
-impl From<AllocError> for TplKind {
-    ghost from_gives = { λ _ e. is_refused_tpl e ≡ true };
-
-    fn from(_: AllocError) -> Self {
-        TplKind::Memory(Memory::Refused)
-    }
-}
-
-impl From<Memory> for TplKind {
-    ghost from_gives = { λ m e. e ≡ OfMemory m };
-
-    fn from(memory: Memory) -> Self {
-        TplKind::Memory(memory)
-    }
-}
-
-impl From<AllocError> for TplFault {
-    ghost from_gives = { λ _ e. is_tpl_want e ≡ true };
-
-    fn from(_: AllocError) -> Self {
-        TplFault {
-            place: 0,
-            kind: TplKind::Memory(Memory::Refused),
         }
     }
 }

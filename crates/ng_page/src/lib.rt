@@ -1,27 +1,26 @@
 //! The page: what a template and an application become, and what it shows.
 //!
-//! `App::read` reads the application file: its `data` becomes objects of a store, of which one is the root's.
-//! `compile` turns a document into a template, a tree of parts in which texts are cut at their holes (guide: HTML
-//! Compiler, Interpolation). `Page::start` opens a page: it links the template over the data, which leaves every
-//! watcher unset, and digests (guide: Scopes, "Integration with the browser event loop"). `Page::print` appends
-//! the document on one line.
+//! `App::read` reads the application file: its `data` becomes the properties of the root scope, in the core that the page begins
+//! with. `Page::start` opens a page: it links the template on the root scope, which leaves every watcher unset, and digests
+//! (guide: Scopes, "Integration with the browser event loop"; HTML Compiler). `Page::print` appends the document on one line.
 //!
-//! The contract that the run above uses is that of `Page::start`: the page's state is the one that the plain digest
-//! leaves, and the document that it keeps is the rendering of the template over the data. The definitions stand in
-//! `ng_pages`; those that speak of this crate's refusals stand in `specs/` here: `App.antt` for the application,
-//! `Compiles.antt` for the template, `State.antt` for the page.
+//! The contract that the run above uses is that of `Page::start`: the page's state is the one that the plain digest leaves over
+//! the linked template, the document shows what the watchers have kept, and after the answer Ok that is the rendering. `State`
+//! says what a page is, `Opening` what linking makes of it, `PageMachine` what a digest does to it, and `Settled` when no watcher
+//! is dirty; `laws` has what is proved of these definitions alone.
+//!
+//! In reading order: `app` and `read_app`; `engine`, `testing` and `world`, which is the engine as the world of ng_digest;
+//! `digesting`; `page`.
 //!
 //! Nothing here knows of files, words or output.
 #![tactic(auto)]
 
 pub mod app;
-pub mod attributes;
-pub mod compile;
-pub mod draw;
+mod digesting;
+mod engine;
 pub mod fault;
-pub mod names;
+pub mod laws;
 pub mod page;
-pub mod parts;
 pub mod read_app;
-pub mod texts;
-pub mod tpl;
+mod testing;
+mod world;

@@ -1,21 +1,23 @@
 //! The application file: JSON whose member `data` becomes the properties of the root scope, in the one format that
 //! there is.
-ghost use Rattle.std.specs.Prelude.{◌≡◌, ◌<◌, [], codes, length, Some, None, option_map, is_some, Ok, Err, IfSome, MatchResult, MatchOption};
+ghost use Rattle.std.specs.Prelude.{◌≡◌, ◌<◌, [], codes, length, Some, None, option_map, is_some, Err, MatchResult, true};
 ghost use Rattle.serde_json.specs.Data.{object, no_members};
 ghost use Rattle.serde_json.specs.Find.{as_object, get_member};
 ghost use Rattle.serde_json.specs.View.{view, members_view};
+ghost use Rattle.ng_act.specs.Beginning.{first_objects};
+ghost use Rattle.ng_act.specs.Frames.{state_of};
 ghost use Rattle.ng_base.specs.Meets.{Gives};
-ghost use Rattle.ng_page.specs.App.{fault as app_fault, member_named, are_known, has, first_later, is_one as is_one_of, is_format, without, read_members, put_data, facts_of_members, facts_of_data, facts_unless_later, facts_of_object, facts_of};
-ghost use Rattle.ng_store.specs.Json.{json_value};
+ghost use Rattle.ng_behaviour.specs.ScopeObjects.{AreAmong};
+ghost use Rattle.ng_page.specs.App.{fault as app_fault, member_named, are_known, has, first_later, is_one as is_one_of, is_format, without, data_fault as data_refused, begun_with, facts_of_members, facts_of_data, facts_of_object, facts_of};
+ghost use Rattle.ng_page.specs.AppOf.{facts};
 ghost use Rattle.ng_page.specs.Free.{is_app_want};
-ghost use Rattle.ng_page.specs.Facts.{facts};
 
 use crate::app::App;
 use crate::fault::{AppFault, AppKind, Member};
+use ng_act::core_state::Core;
 use ng_base::fault::Memory;
-use ng_base::value::Value;
+use ng_collect::Registry;
 use ng_store::json::JsonFault;
-use ng_store::store::Store;
 use serde_json::{Map, Value as Json};
 use std::alloc::Global;
 
@@ -120,29 +122,37 @@ fn take_out(members: &mut Map<String, Json>, name: &str) -> Option<Json>
     members.remove(name)
 }
 
-/// Puts the data of the root into a new store.
-fn put_members(alloc: Global, members: Map<String, Json>) -> Result<App, AppFault>
-    ensures { Gives is_app_want facts (put_data (object (members_view members.entries)) (json_value [] (object (members_view members.entries)))) result }
+/// Why data is refused.
+fn data_fault(refused: JsonFault) -> AppFault
+    ensures { result ≡ data_refused refused }
 {
-    let mut store = Store::new(alloc);
-    match store.of_json(&Json::Object(members)) {
-        Ok(Value::Obj(root)) => Ok(App { store, root }),
-        Ok(_) => Err(fault(Member::Facts, AppKind::Shape)),
-        Err(JsonFault::Number) => Err(fault(Member::Facts, AppKind::Number)),
-        Err(JsonFault::Full) => Err(fault(Member::Facts, AppKind::Full)),
-        Err(JsonFault::Memory(memory)) => Err(fault(Member::Facts, AppKind::Memory(memory))),
+    match refused {
+        JsonFault::Number => fault(Member::Facts, AppKind::Number),
+        JsonFault::Full => fault(Member::Facts, AppKind::Full),
+        JsonFault::Memory(memory) => fault(Member::File, AppKind::Memory(memory)),
     }
 }
 
-/// The data of the root, without the names that every scope has of its own.
-fn read_root(alloc: Global, members: Map<String, Json>) -> Result<App, AppFault>
-    ensures { Gives is_app_want facts (facts_of_members (Some (members_view members.entries))) result }
+/// An application over a core.
+fn app_over(alloc: Global, core: Core) -> Result<App, AppFault>
+    requires root { 0 < length core.scopes }
+    requires objects { AreAmong (length core.store) core.scopes }
+    ensures { MatchResult result (λ app. facts app ≡ state_of core) (λ e. is_app_want e ≡ true) }
 {
-    let mut read = members;
-    let _ = take_out(&mut read, "$id");
-    let _ = take_out(&mut read, "$parent");
-    let _ = take_out(&mut read, "$root");
-    put_members(alloc, read)
+    match Registry::new(alloc) {
+        Ok(registry) => Ok(App { core, registry }),
+        Err(memory) => Err(fault(Member::File, AppKind::Memory(memory))),
+    }
+}
+
+/// The page of this data, a JSON object, begins so.
+fn begin(alloc: Global, data_member: &Json) -> Result<App, AppFault>
+    ensures { Gives is_app_want facts (begun_with (first_objects (view data_member.now)).0 (first_objects (view data_member.now)).1) result }
+{
+    match Core::new(alloc, data_member) {
+        Ok(core) => app_over(alloc, core),
+        Err(refused) => Err(data_fault(refused)),
+    }
 }
 
 /// The data of an application whose `data` is this.
@@ -150,8 +160,8 @@ fn read_data(alloc: Global, data_member: Option<Json>) -> Result<App, AppFault>
     ensures { Gives is_app_want facts (facts_of_data (option_map view data_member)) result }
 {
     match data_member {
-        None => read_root(alloc, Map::new(alloc)),
-        Some(Json::Object(members)) => read_root(alloc, members),
+        None => begin(alloc, &Json::Object(Map::new(alloc))),
+        Some(Json::Object(members)) => begin(alloc, &Json::Object(members)),
         Some(_) => Err(fault(Member::Facts, AppKind::Shape)),
     }
 }

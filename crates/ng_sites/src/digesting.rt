@@ -15,9 +15,9 @@ use crate::engine::Engine;
 use crate::site::Site;
 use ng_base::name::Oid;
 use ng_base::txt::Txt;
-use ng_digest::log::{Log, Report};
+use ng_digest::log::Report;
+use ng_digest::progress::Progress;
 use ng_digest::rounds::{DigestFault, digest};
-use ng_digest::world::Stage;
 use ng_store::store::Store;
 use std::alloc::Global;
 
@@ -53,10 +53,7 @@ impl Engine {
             root,
             sites,
             handed: None,
-            cursor: None,
-            remembered: None,
-            stage: Stage::Between,
-            log: Log::new(),
+            progress: Progress::new(),
         }
     }
 
@@ -66,10 +63,7 @@ impl Engine {
     {
         untell_all(&mut self.sites);
         self.handed = None;
-        self.cursor = None;
-        self.remembered = None;
-        self.stage = Stage::Between;
-        self.log = Log::new();
+        self.progress = Progress::new();
     }
 
     /// A digest over the watchers (guide: Scopes, "Scope Life Cycle").

@@ -4,8 +4,7 @@ ghost use Rattle.std.specs.Prelude.{◌<◌, length};
 use crate::site::Site;
 use ng_base::fault::Fault;
 use ng_base::name::Oid;
-use ng_digest::log::Log;
-use ng_digest::world::Stage;
+use ng_digest::progress::Progress;
 use ng_store::store::Store;
 use std::alloc::Global;
 
@@ -17,9 +16,6 @@ pub struct Engine {
     pub(crate) root: Oid,
     pub(crate) sites: Vec<Site>,
     pub(crate) handed: Option<(Fault, u32)>,
-    pub(crate) cursor: Option<usize>,
-    pub(crate) remembered: Option<usize>,
-    pub(crate) stage: Stage,
-    pub(crate) log: Log,
+    pub(crate) progress: Progress<usize>,
     ghost stands: { root.0 < length store },
 }

@@ -9,27 +9,17 @@ ghost use Rattle.ng_sites.specs.Sites.{page_machine};
 use crate::engine::Engine;
 use crate::testing;
 use ng_base::fault::{Fault, Memory};
-use ng_digest::world::{Stage, Tested, World};
+use ng_digest::log::Log;
+use ng_digest::world::{Tested, World};
 
 /// Tests the watcher at the cursor.
 fn test_at(engine: &mut Engine) -> Tested
-    ensures answer { Answers (verdict_at page_machine (state_of engine.old) engine.old.cursor) result }
-    ensures state { OnTested result (place_of engine.new ≡ with_state (place_of engine.old) (state_tested page_machine (state_of engine.old) engine.old.cursor (verdict_at page_machine (state_of engine.old) engine.old.cursor))) }
+    ensures answer { Answers (verdict_at page_machine (state_of engine.old) engine.old.progress.cursor) result }
+    ensures state { OnTested result (place_of engine.new ≡ with_state (place_of engine.old) (state_tested page_machine (state_of engine.old) engine.old.progress.cursor (verdict_at page_machine (state_of engine.old) engine.old.progress.cursor))) }
 {
-    match engine.cursor {
+    match engine.progress.cursor().copied() {
         None => Tested::Clean,
         Some(key) => testing::test(engine, key),
-    }
-}
-
-/// Which call may come after a test.
-fn stage_after(same: bool, tested: Tested) -> Stage
-    ensures { (v : Verdict) → Answers v tested → OnTested tested (result ≡ stage_tested same v) }
-{
-    match tested {
-        Tested::Dirty => Stage::Pending,
-        Tested::Clean | Tested::Faulted => { if same { Stage::Through } else { Stage::Passed } }
-        Tested::Memory(_) => Stage::Passed,
     }
 }
 
@@ -39,9 +29,7 @@ impl World for Engine {
     ghost laws = { page_laws };
 
     fn start_round(&mut self) {
-        self.cursor = None;
-        self.stage = Stage::Draining;
-        self.log.count_round();
+        self.progress.begin_round();
     }
 
     fn waits(&self) -> bool {
@@ -53,57 +41,43 @@ impl World for Engine {
     }
 
     fn next_after(&mut self) -> Result<bool, Memory> {
-        match testing::next_of(&self.sites, self.cursor) {
-            None => {
-                self.stage = Stage::Through;
-                Ok(false)
-            }
-            Some(key) => {
-                self.cursor = Some(key);
-                self.stage = Stage::AtKey;
-                Ok(true)
-            }
-        }
+        let next = testing::next_of(&self.sites, self.progress.cursor().copied());
+        Ok(self.progress.come_to(next))
     }
 
     fn last_dirty(&self) -> bool {
-        match (self.cursor, self.remembered) {
-            (Some(key), Some(last)) => key == last,
-            _ => false,
-        }
+        self.progress.at_remembered()
     }
 
     fn test(&mut self) -> Tested {
         let same = self.last_dirty();
         let tested = test_at(self);
-        self.log.count_test();
-        self.stage = stage_after(same, tested);
+        self.progress.after_test(tested, same);
         tested
     }
 
     fn fire(&mut self) -> Result<(), Memory> {
-        if let Some(key) = self.cursor {
+        if let Some(key) = self.progress.cursor().copied() {
             testing::fire(self, key)?;
         }
-        self.remembered = self.cursor;
-        self.stage = Stage::Passed;
-        self.log.count_fire();
+        self.progress.after_fire(false);
         Ok(())
     }
 
     fn close_round(&mut self) -> bool {
-        let dirty = self.log.round_fires > 0;
-        self.stage = if dirty { Stage::Between } else { Stage::Calm };
-        self.log.count_close(dirty);
-        dirty
+        self.progress.close(false)
     }
 
     fn post(&mut self) -> Result<(), Memory> {
-        self.stage = Stage::Over;
+        self.progress.post();
         Ok(())
     }
 
     fn fail(&mut self) {}
+
+    fn log(&self) -> &Log {
+        self.progress.log()
+    }
 
     fn handed(&self) -> Option<(Fault, u32)> {
         self.handed

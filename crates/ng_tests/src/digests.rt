@@ -141,7 +141,7 @@ fn fires_end_at_a_million(rt: HostRuntime) -> Result<(), Fail> {
     let mut sheet = Sheet::new(board);
     assert_eq!(rt; sheet.run(), Err(DigestFault::FireLimit));
     assert_eq!(rt;
-        (sheet.log.rounds, sheet.log.fires, sheet.log.tests),
+        (sheet.progress.log().rounds, sheet.progress.log().fires, sheet.progress.log().tests),
         (11, 1_000_000, 1_000_001)
     );
     Ok(())

@@ -1,5 +1,5 @@
 -- The watchers of a page, in key order (guide: Scopes, "Scope Hierarchies").
-use Rattle.std.specs.Prelude.{ℕ, not, List, [], ◌∷◌, map, find, slice_get, Option, Some, None, option_map, if◌then◌else◌}
+use Rattle.std.specs.Prelude.{ℕ, not, List, [], ◌∷◌, map, find, slice_get, Option, Some, None, option_map, option_and_then, if◌then◌else◌}
 use Rattle.std.specs.List.{filter}
 use Rattle.std.specs.Map.{lookup, remove_entry}
 use Rattle.std.specs.BTreeMap.{insert_entry}
@@ -23,6 +23,10 @@ watchers_of rows = map entry_of rows
 -- the watcher of a key
 abbrev pub found : Key → Table → Option Watcher
 found k t = lookup (is_key k) t
+
+-- what the watcher of a key has kept
+abbrev pub kept_at : Key → Table → Option ViewTree
+kept_at k t = option_and_then (λ w. w.kept) (found k t)
 
 -- a watch more, at the place of its key, which has kept nothing yet
 abbrev pub with_watch : Key → Watching → Table → Table

@@ -8,7 +8,7 @@ ghost use Rattle.ng_base.specs.Meets.{Gives};
 ghost use Rattle.ng_value.specs.Snaps.{snap_of};
 ghost use Rattle.ng_watch.specs.Keys.{key_cmp, begins};
 ghost use Rattle.ng_watch.specs.Seen.{watching_of, WatchStands};
-ghost use Rattle.ng_watch.specs.Table.{watchers_of, found, with_watch, without_watch, without_under, first_key, key_after, with_kept};
+ghost use Rattle.ng_watch.specs.Table.{watchers_of, found, kept_at, with_watch, without_watch, without_under, first_key, key_after, with_kept};
 ghost use Rattle.ng_watch.specs.Verdicts.{judged_of, verdict};
 
 use crate::testing::verdict;
@@ -148,6 +148,26 @@ impl Watchers {
         match self.table.get(key) {
             Some(watched) => &watched.watch,
             None => unreachable!(),
+        }
+    }
+
+    /// Whether a key has a watch.
+    pub fn has(&self, key: &Key) -> bool
+        ensures { result ≡ is_some (found key.now (watchers_of self.now)) }
+    {
+        match self.table.get(key) {
+            None => false,
+            Some(_) => true,
+        }
+    }
+
+    /// What the watch of a key has kept, where there is one that has.
+    pub fn kept_at(&self, key: &Key) -> Option<&Snap>
+        ensures { option_map (λ s. snap_of s.now) result ≡ kept_at key.now (watchers_of self.now) }
+    {
+        match self.table.get(key) {
+            None => None,
+            Some(watched) => watched.kept.as_ref(),
         }
     }
 

@@ -6,7 +6,7 @@ use Rattle.ng_digest.proofs.rounds.digest.Goals as goal
 pub returns : goal.returns
 returns g c =
     let m = g.W.World.moves in
-    let run = c.run.ensures in
+    let run = c.run.ensures.run in
     record {
       short = run;
       plain = digest_plain m.machine g.met.W.World.laws run c.requires.log c.requires.forgotten;
@@ -17,4 +17,5 @@ returns g c =
       faulted = why_faulted m.machine run c.requires.log;
       settled = why_settled m.machine run c.requires.log;
       report = why_report m.machine run;
+      holds = c.run.ensures.holds;
     }

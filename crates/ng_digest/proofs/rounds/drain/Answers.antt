@@ -14,8 +14,8 @@ loop-w-preserved g c =
     let stepped = task_ran m.machine _ _ _ c.in_ok-_ran.ensures.answer waited c.in_ok-_ran.ensures.step in
     record {
       stage = ap (λ p. p.stage) stepped ∙ c.loop-w.invariant.stage;
-      log = grind (arith, ap (λ p. p.log) stepped);
-      rounds = grind arith;
+      holds = c.in_ok-_ran.ensures.holds;
+      rounds = grind (arith, ap (λ p. p.log) stepped);
       run = λ over end d. c.loop-w.invariant.run over end (ran_one waited (grind arith) (subst (λ p. Drains m.machine p over end) stepped d));
     }
 

@@ -8,10 +8,10 @@ invariant-loop-w g l =
     let m = g.W.World.moves in
     record {
       stage : (m.at l.w).stage ≡ Draining;
-      log : l.log ≡ (m.at l.w).log;
-      rounds : l.log.dirty_rounds ≡ l.initial.log.dirty_rounds;
+      holds : m.Holds l.w;
+      rounds : (m.at l.w).log.dirty_rounds ≡ (m.at l.initial.w).log.dirty_rounds;
       run : (over : Bool) (end : _) → Drains m.machine (m.at l.w) over end → Drains m.machine (m.at l.initial.w) over end;
     }
 
 abbrev pub decreases-loop-w : goal.decreases-loop-w
-decreases-loop-w g l = 10000 - l.log.tasks
+decreases-loop-w g l = 10000 - (g.W.World.moves.at l.w).log.tasks

@@ -41,9 +41,9 @@ loop-w-preserved g c =
     let other = sym c.last_dirty-remembered.ensures ∙ c.if-remembered.false in
     record {
       stage = may_advance _ _ (stage_passed m.machine (m.at c.next_after.new.self) (m.at c.test-tested.new.self) other clean tested);
-      log = grind (arith, ap (λ p. p.log) tested, ap (λ p. p.log) c.in_ok-next_after.ensures.step);
-      rounds = grind arith;
-      fires = grind arith;
+      holds = was_tested _ _ c.in-Clean.is c.test-tested.ensures.holds;
+      rounds = grind (arith, ap (λ p. p.log) tested, ap (λ p. p.log) c.in_ok-next_after.ensures.step);
+      fires = grind (arith, ap (λ p. p.log) tested, ap (λ p. p.log) c.in_ok-next_after.ensures.step);
       run = λ found end d. c.loop-w.invariant.run found end (passed_found m.machine _ (m.at c.next_after.new.self) _ _ _ (sym c.if-branch.true ∙ c.in_ok-next_after.ensures.answer) c.in_ok-next_after.ensures.sorted c.in_ok-next_after.ensures.step other clean tested d);
     }
 

@@ -9,9 +9,9 @@ invariant-loop-w g l =
     let m = g.W.World.moves in
     record {
       stage : MayAdvance (m.at l.w).stage (m.machine.waits (m.at l.w).state);
-      log : l.log ≡ (m.at l.w).log;
-      rounds : l.log.dirty_rounds ≡ l.initial.log.dirty_rounds;
-      fires : l.log.fires ≡ l.initial.log.fires;
+      holds : m.Holds l.w;
+      rounds : (m.at l.w).log.dirty_rounds ≡ (m.at l.initial.w).log.dirty_rounds;
+      fires : (m.at l.w).log.fires ≡ (m.at l.initial.w).log.fires;
       run : (found : _) (end : _) → Skips m.machine (m.at l.w) found end → Skips m.machine (m.at l.initial.w) found end;
     }
 

@@ -9,17 +9,17 @@ use Rattle.ng_digest.specs.declared.rounds.RoundEnd.TheVariants as ends
 pub returns-then-branch-clause-run : goal.returns-then-branch-clause-run
 returns-then-branch-clause-run g c =
     let m = g.W.World.moves in
-    many_tasks (subst (λ p. Drains m.machine p true (m.at c.drain.new.w)) c.start_round.ensures (subst (λ b. Drains m.machine (m.at c.start_round.new.self) b (m.at c.drain.new.w)) c.if-branch.true c.in_ok-drain.ensures.run))
+    many_tasks (subst (λ p. Drains m.machine p true (m.at c.drain.new.w)) c.start_round.ensures.step (subst (λ b. Drains m.machine (m.at c.start_round.new.self) b (m.at c.drain.new.w)) c.if-branch.true c.in_ok-drain.ensures.run))
 
 pub returns-in-Limit-clause-run : goal.returns-in-Limit-clause-run
 returns-in-Limit-clause-run g c =
     let m = g.W.World.moves in
-    many_fires {q = m.at c.drain.new.w} (subst (λ p. Drains m.machine p false (m.at c.drain.new.w)) c.start_round.ensures (subst (λ b. Drains m.machine (m.at c.start_round.new.self) b (m.at c.drain.new.w)) c.if-branch.false c.in_ok-drain.ensures.run)) (search rules)
+    many_fires {q = m.at c.drain.new.w} (subst (λ p. Drains m.machine p false (m.at c.drain.new.w)) c.start_round.ensures.step (subst (λ b. Drains m.machine (m.at c.start_round.new.self) b (m.at c.drain.new.w)) c.if-branch.false c.in_ok-drain.ensures.run)) (search rules)
 
 pub returns-then-dirty-clause-run : goal.returns-then-dirty-clause-run
 returns-then-dirty-clause-run g c =
     let m = g.W.World.moves in
-    let drained = subst (λ p. Drains m.machine p false (m.at c.drain.new.w)) c.start_round.ensures (subst (λ b. Drains m.machine (m.at c.start_round.new.self) b (m.at c.drain.new.w)) c.if-branch.false c.in_ok-drain.ensures.run) in
+    let drained = subst (λ p. Drains m.machine p false (m.at c.drain.new.w)) c.start_round.ensures.step (subst (λ b. Drains m.machine (m.at c.start_round.new.self) b (m.at c.drain.new.w)) c.if-branch.false c.in_ok-drain.ensures.run) in
     let dirty = sym c.close_round-dirty.ensures.answer ∙ c.if-dirty.true in
     subst (Round m.machine (m.at c.args.w.now) ends.Busy) (sym c.close_round-dirty.ensures.step)
     (elim c.match-branch-3.branch [
@@ -30,7 +30,7 @@ returns-then-dirty-clause-run g c =
 pub returns-else-dirty-clause-run : goal.returns-else-dirty-clause-run
 returns-else-dirty-clause-run g c =
     let m = g.W.World.moves in
-    let drained = subst (λ p. Drains m.machine p false (m.at c.drain.new.w)) c.start_round.ensures (subst (λ b. Drains m.machine (m.at c.start_round.new.self) b (m.at c.drain.new.w)) c.if-branch.false c.in_ok-drain.ensures.run) in
+    let drained = subst (λ p. Drains m.machine p false (m.at c.drain.new.w)) c.start_round.ensures.step (subst (λ b. Drains m.machine (m.at c.start_round.new.self) b (m.at c.drain.new.w)) c.if-branch.false c.in_ok-drain.ensures.run) in
     let clean = sym c.close_round-dirty.ensures.answer ∙ c.if-dirty.false in
     subst (Round m.machine (m.at c.args.w.now) (ends.Quiet c.match-branch-3.cut)) (sym c.close_round-dirty.ensures.step)
     (elim c.match-branch-3.branch [

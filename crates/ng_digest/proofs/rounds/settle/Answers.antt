@@ -17,7 +17,7 @@ returns-then-log-ge-MANY_ROUNDS-clause-run g c = c.rounds.invariant.run _ _ (ele
 pub rounds-preserved : goal.rounds-preserved
 rounds-preserved g c = record {
   stage = search rules;
-  log = grind arith;
+  holds = search rules;
   few = grind arith;
   run = λ how end d. c.rounds.invariant.run how end (one_more {q = g.W.World.moves.at c.round.new.w} (search rules) (grind arith) d);
 }

@@ -8,10 +8,10 @@ invariant-rounds g l =
     let m = g.W.World.moves in
     record {
       stage : (m.at l.w).stage ≡ Between;
-      log : l.log ≡ (m.at l.w).log;
-      few : l.log.dirty_rounds ≤ 10;
+      holds : m.Holds l.w;
+      few : (m.at l.w).log.dirty_rounds ≤ 10;
       run : (how : _) (end : _) → Rounds m.machine (m.at l.w) how end → Rounds m.machine (m.at l.initial.w) how end;
     }
 
 abbrev pub decreases-rounds : goal.decreases-rounds
-decreases-rounds g l = 11 - l.log.dirty_rounds
+decreases-rounds g l = 11 - (g.W.World.moves.at l.w).log.dirty_rounds

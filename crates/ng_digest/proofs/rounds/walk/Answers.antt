@@ -15,10 +15,10 @@ returns-then-log-ge-MANY_FIRES-clause-run g c = c.loop-w.invariant.run _ _ (walk
 pub loop-w-preserved : goal.loop-w-preserved
 loop-w-preserved g c =
     let m = g.W.World.moves in
-    let fired = c.in_ok-fire.ensures in
+    let fired = c.in_ok-fire.ensures.step in
     record {
       stage = may_advance _ _ (ap (λ p. p.stage) fired);
-      log = grind (arith, ap (λ p. p.log) fired);
-      rounds = grind arith;
+      holds = c.in_ok-fire.ensures.holds;
+      rounds = grind (arith, ap (λ p. p.log) fired);
       run = λ walked end d. c.loop-w.invariant.run walked end (fired_one {q = m.at c.next_dirty.new.w} (search rules) (grind arith) (subst (λ p. Walks m.machine p walked end) fired d));
     }

@@ -1,0 +1,10 @@
+pub mod Shapes
+pub mod Ends
+pub mod Keys
+pub mod Built
+pub mod Loops
+pub mod Rows
+pub mod Displayed
+pub mod Fired
+pub mod Links
+pub mod Handed

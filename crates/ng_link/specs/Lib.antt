@@ -1,0 +1,13 @@
+pub mod Sources
+pub mod Shape
+pub mod Seen
+pub mod Order
+pub mod Rows
+pub mod Building
+pub mod Placing
+pub mod State
+pub mod Standing
+pub mod Linked
+pub mod Firing
+pub mod Laws
+pub mod Untroubled

@@ -1,0 +1,19 @@
+//! A page at work: what stands of it, and where a digest over it stands.
+
+use ng_base::path::Key;
+use ng_digest::progress::Progress;
+use ng_link::works::Works;
+use ng_value::snapshot::Snap;
+use std::alloc::Global;
+use std::collections::BTreeSet;
+
+/// The works of a page, the watchers whose fault was handed over in this digest, and where that stands. A dirty test hands
+/// its snapshot on to the fire, so that no program is evaluated twice.
+#[derive(Drop)]
+pub struct Engine {
+    pub(crate) alloc: Global,
+    pub(crate) works: Works,
+    pub(crate) told: BTreeSet<Key>,
+    pub(crate) pending: Option<Snap>,
+    pub(crate) progress: Progress<Key>,
+}
