@@ -1,4 +1,8 @@
-pub mod Words
+pub mod Forms
+pub mod Fetching
+pub mod AllTexts
+pub mod OpensOne
 pub mod One
 pub mod Causes
-pub mod Opening
+pub mod OpenedPages
+pub mod Writing

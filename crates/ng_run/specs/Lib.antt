@@ -1,4 +1,9 @@
+pub mod Words
+pub mod Files
+pub mod Lines
+pub mod Refusals
 pub mod Session
-pub mod Run
 pub mod ReplyOf
+pub mod Run
+pub mod Free
 pub mod Laws

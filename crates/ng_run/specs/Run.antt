@@ -1,145 +1,63 @@
--- What a run answers and leaves.
-use Rattle.std.specs.Prelude.{ℕ, ◌≡◌, ◌≤◌, ◌<◌, ◌⊎◌, List, [], ◌∷◌, ◌++◌, length, Option, None, Some, Result, Ok, Err}
-use Rattle.std.specs.Option.{IfSome}
+-- What a run writes, answers and leaves.
+use Rattle.std.specs.Prelude.{ℕ, ◌≡◌, ◌≢◌, ◌⊎◌, ◌↔◌, Bool, true, false, List, Option, None, Some, Result, Ok, Err}
 use Rattle.std.specs.Io.KnownBytes.{Appends}
-use Rattle.ng_base.specs.Outside.{TookAll, longest}
-use Rattle.ng_base.specs.declared.fault.Fault.{Fault}
-use Rattle.ng_markup.specs.Forest.{Forest, no_nodes}
-use Rattle.ng_html.specs.Reading.{read_bytes}
-use Rattle.ng_tags.specs.declared.fault.HtmlFault.{HtmlFault}
+use Rattle.ng_base.specs.Outside.{TookAll, StopsAtFailure}
 use Rattle.ng_digest.specs.declared.rounds.DigestFault.{DigestFault}
-use Rattle.ng_pages.specs.Nodes.{nodes, node_limit, link_fault}
-use Rattle.ng_page.specs.App.{Facts, facts_of}
-use Rattle.ng_page.specs.Compiles.{Template, compiled}
-use Rattle.ng_page.specs.State.{State, Opens, shown}
-use Rattle.ng_page.specs.declared.fault.AppFault.{AppFault}
-use Rattle.ng_page.specs.declared.fault.TplFault.{TplFault}
-use Rattle.ng_run.specs.Session.{Reply, Got, Brings, failures, failures_of_application, AnswersFiles, AnswersApplication, Session, usage}
+use Rattle.ng_page.specs.Answered.{Opens}
+use Rattle.ng_page.specs.State.{State}
+use Rattle.ng_page.specs.declared.page.Page.{Page}
+use Rattle.ng_run.specs.Files.{Inputs, Telling, run_files, files_of, no_inputs, Tells, FetchFailed, LongFile, HasLong}
+use Rattle.ng_run.specs.Refusals.{Accepted, accepted, refusal_status}
+use Rattle.ng_run.specs.ReplyOf.{Leaves}
+use Rattle.ng_run.specs.Session.{Reply, reply_bytes, Session, is_well, link_fault}
+use Rattle.ng_run.specs.Words.{Words}
+use Rattle.ng_run.specs.declared.refusal.Refusal.{Refusal}
 
--- the names of the files of a run
-abbrev pub Files : Type 0
-Files = Option (List ℕ × List ℕ)
+-- What became of a reply: its pieces were put one by one, whole unless a put failed or memory was refused; after the put that failed there was none.
+pub record Puts {K : Type 0} (taken : K → Option (List ℕ)) (faults : K → ℕ) (old new : K) (answer : ℕ) (page : Option Page) (r : Reply) : Type 0 where
+  pub first : TookAll (taken old) (taken new) (reply_bytes r)
+  pub whole : answer ≢ 7 → Appends (taken old) (taken new) (reply_bytes r)
+  pub status : answer ≢ 7 → answer ≡ r.status
+  pub left : answer ≢ 7 → Leaves page r.page
+  pub stopped : answer ≡ 7 → StopsAtFailure taken faults old new (reply_bytes r)
 
--- the bytes that a shelf tells of a name
-abbrev pub Telling : Type 0
-Telling = List ℕ → Option (List ℕ)
+-- the words are of the form, and the shelf tells their files, of which none is too long
+abbrev pub TellsAll : Option Words → Telling → Inputs → Type 0
+TellsAll None told i = ⊥
+TellsAll (Some w) told i = Tells told no_inputs (files_of w) i
 
--- what is to be written for these files, by what the fetches bring: the list of failures grows by what failed
-abbrev pub Replies : Files → Telling → List (List ℕ) → List (List ℕ) → Reply → Type 0
-Replies None told before now r = (now ≡ before) × (r ≡ usage)
-Replies (Some p) told before now r =
-    (g : Got) × (h : Got) × Brings (told p.0) g × Brings (told p.1) h
-    × (now ≡ before ++ failures p.0 p.1 g h) × AnswersFiles g h r
+-- a page opens so: all went well in it, or not
+abbrev pub OpensWell : Bool → Accepted → Type 0
+OpensWell well a = (answer : Result (ℕ × ℕ) DigestFault) × (s : State) × Opens a.facts a.template answer s × (is_well (link_fault a) answer ≡ well)
 
--- the same, where the template was fetched
-abbrev pub AnswersTemplate : Telling → List (List ℕ) → List (List ℕ) → List ℕ → List ℕ → Reply → Type 0
-AnswersTemplate told before now t name r =
-    (h : Got) × Brings (told name) h × (now ≡ before ++ failures_of_application name h) × AnswersApplication t h r
+-- 3 and 4 come exactly where a file is refused, and 0 and 1 where the page opens: 1 exactly where linking met a fault or the digest did not answer Ok
+pub record SessionCauses (i : Inputs) (status : ℕ) : Type 0 where
+  pub refused : (f : Refusal) → accepted i ≡ Err f → status ≡ refusal_status f
+  pub opened : (a : Accepted) → accepted i ≡ Ok a → (status ≡ 0) ⊎ (status ≡ 1)
+  pub well : (a : Accepted) → accepted i ≡ Ok a → (status ≡ 0) ↔ OpensWell true a
+  pub faulted : (a : Accepted) → accepted i ≡ Ok a → (status ≡ 1) ↔ OpensWell false a
 
--- the status and the page are those of a reply, and its bytes were written whole
-abbrev pub Told : Files → Telling → List (List ℕ) → List (List ℕ) → Option (List ℕ) → Option (List ℕ) → ℕ → Option State → Type 0
-Told files told before now old new status page =
-    (r : Reply) × Replies files told before now r × (status ≡ r.status) × (page ≡ r.page) × Appends old new r.bytes
+-- each status but 7 and 8 has its cause
+pub record Causes (words : Option Words) (told : Telling) (before now : List (List ℕ)) (status : ℕ) : Type 0 where
+  -- 2 exactly where the words are not of the form
+  pub usage : (status ≡ 2) ↔ (words ≡ None)
+  -- 6 exactly where the list of failures grew by the name of one of the files
+  pub unread : (status ≡ 6) ↔ FetchFailed (run_files words) before now
+  -- 9 only where the first file that doesn't come is too long, and wherever the shelf tells that it is
+  pub overlong : status ≡ 9 → LongFile told (run_files words)
+  pub long : HasLong told (run_files words) → now ≡ before → status ≡ 9
+  -- the others by what the files are
+  pub session : (i : Inputs) → TellsAll words told i → now ≡ before → SessionCauses i status
 
--- the first bytes of a reply were taken
-abbrev pub Began : Files → Telling → List (List ℕ) → List (List ℕ) → Option (List ℕ) → Option (List ℕ) → Type 0
-Began files told before now old new = (r : Reply) × Replies files told before now r × TookAll old new r.bytes
+-- what was written is what the words and files call for
+abbrev pub Writes : {K : Type 0} → (K → Option (List ℕ)) → (K → ℕ) → K → K → ℕ → Option Page → (Reply → Type 0) → Type 0
+Writes taken faults old new status page Calls = (r : Reply) × Calls r × Puts taken faults old new status page r
 
--- the shelf has these two files, and neither is too long
-abbrev pub Has : Files → Telling → List ℕ → List ℕ → Type 0
-Has None told t a = ⊥
-Has (Some p) told t a = (told p.0 ≡ Some t) × (told p.1 ≡ Some a) × (length t ≤ longest) × (length a ≤ longest)
+-- where no fetch failed and the shelf tells the files, that is their session
+abbrev pub RunsSession : {K : Type 0} → (K → Option (List ℕ)) → (K → ℕ) → K → K → ℕ → Option Page → Option Words → Telling → List (List ℕ) → List (List ℕ) → Type 0
+RunsSession taken faults old new status page words told before now = (i : Inputs) → TellsAll words told i → now ≡ before → Writes taken faults old new status page (Session i)
 
--- the status, the page and the bytes are those of a session
-abbrev pub TellsSession : List ℕ → List ℕ → Option (List ℕ) → Option (List ℕ) → ℕ → Option State → Type 0
-TellsSession t a old new status page = (r : Reply) × Session t a r × (status ≡ r.status) × (page ≡ r.page) × Appends old new r.bytes
-
--- where no fetch failed, the run is the session of the two files
-abbrev pub RunsSession : Files → Telling → List (List ℕ) → List (List ℕ) → Option (List ℕ) → Option (List ℕ) → ℕ → Option State → Type 0
-RunsSession files told before now old new status page = (t a : List ℕ) → Has files told t a → now ≡ before → TellsSession t a old new status page
-
--- one of the run's files
-abbrev pub IsFile : Files → List ℕ → Type 0
-IsFile None name = ⊥
-IsFile (Some p) name = (name ≡ p.0) ⊎ (name ≡ p.1)
-
--- the list of failures grew by the name of one of the run's files
-abbrev pub FetchFailed : Files → List (List ℕ) → List (List ℕ) → Type 0
-FetchFailed files before now = (name : List ℕ) × IsFile files name × (now ≡ before ++ name ∷ [])
-
--- a file that the shelf tells is too long; of a file that it doesn't tell nothing is said
-abbrev pub MayBeLong : Option (List ℕ) → Type 0
-MayBeLong None = Unit {0}
-MayBeLong (Some f) = longest < length f
-
--- the first fetch that doesn't succeed has a file that is too long
-abbrev pub LongFile : Files → Telling → Type 0
-LongFile None told = ⊥
-LongFile (Some p) told = MayBeLong (told p.0) ⊎ MayBeLong (told p.1)
-
--- the shelf tells that the first file is too long, or that the second is and the first isn't
-abbrev pub HasLong : Files → Telling → Type 0
-HasLong None told = ⊥
-HasLong (Some p) told =
-    ((t : List ℕ) × (told p.0 ≡ Some t) × (longest < length t))
-    ⊎ ((t : List ℕ) × (a : List ℕ) × (told p.0 ≡ Some t) × (length t ≤ longest) × (told p.1 ≡ Some a) × (longest < length a))
-
--- a template is refused by its form, or by what it asks for
-abbrev pub TemplateRefused : List ℕ → List ℕ → Type 0
-TemplateRefused t a =
-    ((f : HtmlFault) × (read_bytes t ≡ Err f))
-    ⊎ ((s : Forest × List ℕ) × (facts : Facts) × (f : TplFault) × (read_bytes t ≡ Ok s) × (facts_of a ≡ Ok facts) × (compiled s ≡ Err f))
-
--- an application is refused, and the template before it was read
-abbrev pub ApplicationRefused : List ℕ → List ℕ → Type 0
-ApplicationRefused t a = (s : Forest × List ℕ) × (f : AppFault) × (read_bytes t ≡ Ok s) × (facts_of a ≡ Err f)
-
--- both are accepted, to be this template over this data
-abbrev pub Accepts : List ℕ → List ℕ → Facts → Template → Type 0
-Accepts t a facts template = (s : Forest × List ℕ) × (read_bytes t ≡ Ok s) × (facts_of a ≡ Ok facts) × (compiled s ≡ Ok template)
-
--- both are accepted, the template is linked, and the plain digest of the page has an answer
-abbrev pub OpensWith : (Option Fault → Result (ℕ × ℕ) DigestFault → Type 0) → List ℕ → List ℕ → Type 0
-OpensWith Cause t a =
-    (facts : Facts) × (template : Template) × (answer : Result (ℕ × ℕ) DigestFault) × (state : State)
-    × Accepts t a facts template × Opens facts template answer state × Cause (link_fault template.parts) answer
-
--- linking met no fault, and the digest answered Ok
-abbrev pub IsWell : Option Fault → Result (ℕ × ℕ) DigestFault → Type 0
-IsWell None (Ok counts) = Unit {0}
-IsWell None (Err e) = ⊥
-IsWell (Some f) answer = ⊥
-
--- linking met a fault, or the digest did not answer Ok
-abbrev pub IsFaulty : Option Fault → Result (ℕ × ℕ) DigestFault → Type 0
-IsFaulty None (Ok counts) = ⊥
-IsFaulty None (Err e) = Unit {0}
-IsFaulty (Some f) answer = Unit {0}
-
-abbrev pub GoesWell : List ℕ → List ℕ → Type 0
-GoesWell t a = OpensWith IsWell t a
-
-abbrev pub Faults : List ℕ → List ℕ → Type 0
-Faults t a = OpensWith IsFaulty t a
-
--- the status says which: each cause has its status, and one of the causes is there
-abbrev pub Causes : List ℕ → List ℕ → ℕ → Type 0
-Causes t a status =
-    (((status ≡ 0) × GoesWell t a) ⊎ ((status ≡ 1) × Faults t a)) ⊎ (((status ≡ 3) × TemplateRefused t a) ⊎ ((status ≡ 4) × ApplicationRefused t a))
-
--- where no fetch failed, the status has its cause in the two files
-abbrev pub HasCause : Files → Telling → List (List ℕ) → List (List ℕ) → ℕ → Type 0
-HasCause files told before now status = (t a : List ℕ) → Has files told t a → now ≡ before → Causes t a status
-
--- and where a cause of 1 is there, it is 1
-abbrev pub FaultsByCause : Files → Telling → List (List ℕ) → List (List ℕ) → ℕ → Type 0
-FaultsByCause files told before now status = (t a : List ℕ) → Has files told t a → now ≡ before → Faults t a → status ≡ 1
-
--- both are accepted, and the page would have more nodes than it may
-abbrev pub TooManyNodes : List ℕ → List ℕ → Type 0
-TooManyNodes t a = (facts : Facts) × (template : Template) × Accepts t a facts template × (node_limit < nodes template.parts)
-
--- then the page is empty, and the status is 1
-abbrev pub EmptyByNodes : Files → Telling → List (List ℕ) → List (List ℕ) → ℕ → Option State → Type 0
-EmptyByNodes files told before now status page =
-    (t a : List ℕ) → Has files told t a → now ≡ before → TooManyNodes t a → (status ≡ 1) × IfSome page (λ s. shown s ≡ no_nodes)
+-- a page is handed back exactly where the status is 0 or 1
+abbrev pub HasPage : ℕ → Option Page → Type 0
+HasPage status None = (status ≢ 0) × (status ≢ 1)
+HasPage status (Some p) = (status ≡ 0) ⊎ (status ≡ 1)

@@ -1,208 +1,113 @@
 -- What a run writes, and its status.
-use Rattle.std.specs.Prelude.{ℕ, ◌≡◌, ◌==◌, ◌&&◌, ◌<◌, ◌≤◌, not, Bool, true, List, [], ◌∷◌, ◌++◌, length, Option, None, Some, Result, Ok, Err, codes, encode_utf8_all, if◌then◌else◌}
+use Rattle.std.specs.Prelude.{ℕ, ◌≡◌, Bool, true, false, List, [], ◌∷◌, ◌++◌, map, Option, None, Some, Result, Ok, Err, codes, if◌then◌else◌}
+use Rattle.std.specs.List.{concat}
 use Rattle.std.specs.Fmt.{decimal}
-use Rattle.ng_markup.specs.Forest.{Forest, print}
-use Rattle.ng_html.specs.Reading.{read_bytes}
-use Rattle.ng_tags.specs.declared.fault.HtmlFault.{HtmlFault}
-use Rattle.ng_tags.specs.declared.fault.HtmlKind.{HtmlKind}
-use Rattle.ng_tags.specs.declared.fault.HtmlKind.TheVariants as html
-use Rattle.ng_digest.specs.declared.rounds.DigestFault.{DigestFault}
-use Rattle.ng_digest.specs.declared.rounds.DigestFault.TheVariants as digest
-use Rattle.ng_pages.specs.Nodes.{link_fault}
-use Rattle.ng_page.specs.App.{Facts, facts_of}
-use Rattle.ng_page.specs.Compiles.{Template, compiled}
-use Rattle.ng_page.specs.State.{State, Opens, rendering, fault_count}
-use Rattle.ng_page.specs.declared.fault.Member.{Member}
-use Rattle.ng_page.specs.declared.fault.Member.TheVariants as the
-use Rattle.ng_page.specs.declared.fault.AppKind.{AppKind}
-use Rattle.ng_page.specs.declared.fault.AppKind.TheVariants as app
-use Rattle.ng_page.specs.declared.fault.AppFault.{AppFault}
-use Rattle.ng_page.specs.declared.fault.TplKind.{TplKind}
-use Rattle.ng_page.specs.declared.fault.TplKind.TheVariants as tpl
-use Rattle.ng_page.specs.declared.fault.TplFault.{TplFault}
-use Rattle.ng_base.specs.Faults.{fault_name}
-use Rattle.ng_base.specs.Outside.{longest}
 use Rattle.ng_base.specs.declared.fault.Fault.{Fault}
+use Rattle.ng_markup.specs.Forest.{Forest}
+use Rattle.ng_digest.specs.declared.rounds.DigestFault.{DigestFault}
+use Rattle.ng_drawing.specs.Drawing.{Rendered}
+use Rattle.ng_page.specs.Answered.{Opens}
+use Rattle.ng_page.specs.Opening.{opening}
+use Rattle.ng_page.specs.State.{State, rendering}
+use Rattle.ng_run.specs.Files.{File, Inputs, Telling, Fetched, brought, unread, overlong, Fetches, files_of, no_inputs, role_name, first_role}
+use Rattle.ng_run.specs.Lines.{action_line, digest_line, document_line}
+use Rattle.ng_run.specs.Refusals.{Accepted, accepted, refusal_status, refusal_text}
+use Rattle.ng_run.specs.Words.{Words}
+use Rattle.ng_run.specs.declared.files.Role.{Role}
+use Rattle.ng_run.specs.declared.refusal.Refusal.{Refusal}
 
--- a status, the bytes that are written, and the page as the last step left it
+-- the page as the last step left it, and whether the last digest of that step answered Ok
+pub record Left : Type 0 where
+  pub state : State
+  pub digested : Bool
+
+-- a status, the pieces that are written, and the page
 pub record Reply : Type 0 where
   pub status : ℕ
-  pub bytes : List ℕ
-  pub page : Option State
+  pub pieces : List (List ℕ)
+  pub page : Option Left
 
+abbrev pub reply_bytes : Reply → List ℕ
+reply_bytes r = concat r.pieces
+
+-- a reply of one line
 abbrev pub line : ℕ → List ℕ → Reply
-line status t = record { status = status; bytes = t ++ codes "\n"; page = None }
+line status t = record { status = status; pieces = (t ++ codes "\n") ∷ []; page = None }
 
-abbrev pub html_name : HtmlKind → List ℕ
-html_name html.Utf8 = codes "Utf8"
-html_name html.Unclosed = codes "Unclosed"
-html_name html.Unmatched = codes "Unmatched"
-html_name html.BadTag = codes "BadTag"
-html_name html.BadAttr = codes "BadAttr"
-html_name html.BadReference = codes "BadReference"
-html_name html.TooDeep = codes "TooDeep"
-html_name html.SelfClosed = codes "SelfClosed"
-html_name (html.Memory m) = codes "Memory"
+abbrev pub refused : Refusal → Reply
+refused f = line (refusal_status f) (refusal_text f)
 
-abbrev pub tpl_name : TplKind → List ℕ
-tpl_name tpl.Expression = codes "Expression"
-tpl_name tpl.Impure = codes "Impure"
-tpl_name tpl.MultiDir = codes "MultiDir"
-tpl_name tpl.BadRepeat = codes "BadRepeat"
-tpl_name tpl.CaseWithoutSwitch = codes "CaseWithoutSwitch"
-tpl_name tpl.UnknownFilter = codes "UnknownFilter"
-tpl_name tpl.LeftOut = codes "LeftOut"
-tpl_name tpl.Orphan = codes "Orphan"
-tpl_name tpl.Later = codes "Later"
-tpl_name (tpl.Memory m) = codes "Memory"
+-- the lines of a step, and whether none of them is of a fault
+pub record Step : Type 0 where
+  pub lines : List ℕ
+  pub well : Bool
 
-abbrev pub member_name : Member → List ℕ
-member_name the.File = codes "file"
-member_name the.Format = codes "format"
-member_name the.Facts = codes "data"
-member_name the.Templates = codes "templates"
-member_name the.Directives = codes "directives"
-member_name the.Functions = codes "functions"
-member_name the.Run = codes "run"
-member_name the.Watch = codes "watch"
-member_name the.On = codes "on"
+-- the status is read off the steps
+abbrev pub steps_status : List Step → ℕ
+steps_status [] = 0
+steps_status (s ∷ ss) = if s.well then steps_status ss else 1
 
-abbrev pub app_name : AppKind → List ℕ
-app_name app.Json = codes "Json"
-app_name app.Shape = codes "Shape"
-app_name app.Number = codes "Number"
-app_name app.Full = codes "Full"
-app_name app.BadName = codes "BadName"
-app_name app.BadRestrict = codes "BadRestrict"
-app_name app.BadBinding = codes "BadBinding"
-app_name app.Markup = codes "Markup"
-app_name app.Template = codes "Template"
-app_name app.Expression = codes "Expression"
-app_name app.Impure = codes "Impure"
-app_name app.Later = codes "Later"
-app_name (app.Memory m) = codes "Memory"
+-- each step is a piece
+abbrev pub done : List Step → Left → Reply
+done steps left = record { status = steps_status steps; pieces = map (λ (s : Step). s.lines) steps; page = Some left }
 
-abbrev pub template_line : ℕ → List ℕ → Reply
-template_line place name = line 3 (codes "template: " ++ decimal place ++ codes " " ++ name)
-
-abbrev pub application_line : AppFault → Reply
-application_line f = line 4 (codes "application: " ++ member_name f.member ++ codes " " ++ decimal f.item ++ codes " " ++ app_name f.kind)
-
--- so many faults, of which this is the first
-abbrev pub faults : ℕ → Fault → List ℕ
-faults count f = decimal count ++ codes " " ++ fault_name f ++ codes "\n"
-
--- the line of a program that handed faults over
-abbrev pub action_line : ℕ → Option Fault → List ℕ
-action_line count None = []
-action_line count (Some f) = codes "action: fault " ++ faults count f
-
--- the line of a digest that did not answer Ok
-abbrev pub digest_line : Result (ℕ × ℕ) DigestFault → List ℕ
-digest_line (Ok counts) = []
-digest_line (Err digest.Infdig) = codes "digest: infdig\n"
-digest_line (Err digest.FireLimit) = codes "digest: firelimit\n"
-digest_line (Err digest.AsyncLimit) = codes "digest: asynclimit\n"
-digest_line (Err (digest.Faulted first count)) = codes "digest: fault " ++ faults count first
-digest_line (Err (digest.Memory m)) = []
-
--- the document on one line, where the digest answered Ok
-abbrev pub document_line : Result (ℕ × ℕ) DigestFault → Result Forest Fault → List ℕ
-document_line (Ok counts) (Ok f) = encode_utf8_all (print f) ++ codes "\n"
-document_line (Ok counts) (Err e) = []
-document_line (Err e) f = []
+abbrev pub is_ok : {A E : Type 0} → Result A E → Bool
+is_ok (Ok x) = true
+is_ok (Err e) = false
 
 -- a step has gone well where its program handed no fault over and its digest answered Ok
-abbrev pub step_status : Option Fault → Result (ℕ × ℕ) DigestFault → ℕ
-step_status None (Ok counts) = 0
-step_status None (Err e) = 1
-step_status (Some f) answer = 1
+abbrev pub is_well : Option Fault → Result (ℕ × ℕ) DigestFault → Bool
+is_well None answer = is_ok answer
+is_well (Some f) answer = false
 
--- the step that opens the page, whose digest has this answer: its header, the fault of linking, the digest, and the
--- rendering of what was linked
-abbrev pub opened : Facts → Template → Result (ℕ × ℕ) DigestFault → State → Reply
-opened facts template answer state = record {
-  status = step_status (link_fault template.parts) answer;
-  bytes = codes "# 0 open\n" ++ action_line (fault_count (link_fault template.parts)) (link_fault template.parts)
-      ++ digest_line answer ++ document_line answer (rendering facts template);
-  page = Some state;
+-- as many faults that linking handed over, and the first of them
+abbrev pub link_count : Accepted → ℕ
+link_count a = (opening a.facts a.template).core.handed.count
+
+abbrev pub link_fault : Accepted → Option Fault
+link_fault a = (opening a.facts a.template).core.handed.first
+
+-- the step that opens the page: its header, the faults of linking, the digest, and the rendering
+abbrev pub first_step : ℕ → Option Fault → Result (ℕ × ℕ) DigestFault → Rendered Forest → Step
+first_step count fault answer document = record {
+  lines = codes "# 0 open\n" ++ action_line count fault ++ digest_line answer ++ document_line answer document;
+  well = is_well fault answer;
 }
 
--- the plain digest that opens the page ends in the state, with the answer
-abbrev pub OpensPage : Facts → Template → Reply → Type 0
-OpensPage facts template r = (answer : Result (ℕ × ℕ) DigestFault) × (state : State) × Opens facts template answer state × (r ≡ opened facts template answer state)
+abbrev pub opened : ℕ → Option Fault → Result (ℕ × ℕ) DigestFault → State → Reply
+opened count fault answer s = done (first_step count fault answer (rendering s) ∷ []) (record { state = s; digested = is_ok answer })
 
-abbrev pub CompiledThen : Facts → Result Template TplFault → Reply → Type 0
-CompiledThen facts (Ok template) r = OpensPage facts template r
-CompiledThen facts (Err f) r = r ≡ template_line f.place (tpl_name f.kind)
+-- the page opens: its plain digest ends in the state, with the answer
+abbrev pub OpensPage : Accepted → Reply → Type 0
+OpensPage a r = (answer : Result (ℕ × ℕ) DigestFault) × (s : State) × Opens a.facts a.template answer s × (r ≡ opened (link_count a) (link_fault a) answer s)
 
-abbrev pub FactsThen : Forest × List ℕ → Result Facts AppFault → Reply → Type 0
-FactsThen source (Ok facts) r = CompiledThen facts (compiled source) r
-FactsThen source (Err f) r = r ≡ application_line f
+abbrev pub SessionOf : Result Accepted Refusal → Reply → Type 0
+SessionOf (Ok a) r = OpensPage a r
+SessionOf (Err f) r = r ≡ refused f
 
-abbrev pub SourceThen : List ℕ → Result (Forest × List ℕ) HtmlFault → Reply → Type 0
-SourceThen application (Ok source) r = FactsThen source (facts_of application) r
-SourceThen application (Err f) r = r ≡ template_line f.place (html_name f.kind)
-
--- The session: the template is read, then the application, then the template is compiled, and the first refusal ends the
--- run; else the page opens
-abbrev pub Session : List ℕ → List ℕ → Reply → Type 0
-Session template application r = SourceThen application (read_bytes template) r
-
--- what a fetch brought
-pub data Got : Type 0 where
-  failed : Got
-  too_long : ℕ → Got
-  file : List ℕ → Got
-
--- the answer, by what the two fetches brought
-abbrev pub AnswersApplication : List ℕ → Got → Reply → Type 0
-AnswersApplication t failed r = r ≡ line 6 (codes "read: application")
-AnswersApplication t (too_long n) r = r ≡ line 9 (codes "long: application " ++ decimal n)
-AnswersApplication t (file a) r = Session t a r
-
-abbrev pub AnswersFiles : Got → Got → Reply → Type 0
-AnswersFiles failed a r = r ≡ line 6 (codes "read: template")
-AnswersFiles (too_long n) a r = r ≡ line 9 (codes "long: template " ++ decimal n)
-AnswersFiles (file t) a r = AnswersApplication t a r
+-- The session is the first refusal's line, or the steps of the page.
+abbrev pub Session : Inputs → Reply → Type 0
+Session i r = SessionOf (accepted i) r
 
 abbrev pub usage : Reply
 usage = line 2 (codes "usage: ngrun [--trace] [--patches] [--static] TEMPLATE APP [SCRIPT] or ngrun --load N")
 
--- a word that is a file's name
-abbrev pub is_file_name : List ℕ → Bool
-is_file_name [] = true
-is_file_name (c ∷ cs) = not (c == 45)
+abbrev pub read_line : List File → File → Reply
+read_line files f = line 6 (codes "read: " ++ role_name (first_role f.name files f.role))
 
-abbrev pub two_of : List (List ℕ) → Option (List ℕ × List ℕ)
-two_of [] = None
-two_of (t ∷ []) = None
-two_of (t ∷ a ∷ []) = Some (t, a)
-two_of (t ∷ a ∷ b ∷ ws) = None
+abbrev pub long_line : Role → ℕ → Reply
+long_line role n = line 9 (codes "long: " ++ role_name role ++ codes " " ++ decimal n)
 
-abbrev pub file_names : Option (List ℕ × List ℕ) → Option (List ℕ × List ℕ)
-file_names None = None
-file_names (Some p) = if is_file_name p.0 && is_file_name p.1 then Some p else None
+abbrev pub FetchedReply : List File → Fetched → Reply → Type 0
+FetchedReply files (brought i) r = Session i r
+FetchedReply files (unread f) r = r ≡ read_line files f
+FetchedReply files (overlong role n) r = r ≡ long_line role n
 
--- the names of the template and the application, where the words are of the form: two, neither with a `-` first
-abbrev pub names_of : List (List ℕ) → Option (List ℕ × List ℕ)
-names_of words = file_names (two_of words)
+-- the reply to files, over a shelf that tells these bytes and whose list of failures grows: the line of the first that doesn't come, or their session
+abbrev pub FilesReply : List File → Telling → List (List ℕ) → List (List ℕ) → Reply → Type 0
+FilesReply files told before now r = (end : Fetched) × Fetches told no_inputs files before now end × FetchedReply files end r
 
--- what a fetch may bring, where the shelf tells the bytes
-abbrev pub Brings : Option (List ℕ) → Got → Type 0
-Brings told failed = Unit {0}
-Brings None (too_long n) = longest < n
-Brings (Some f) (too_long n) = (longest < n) × (length f ≡ n)
-Brings None (file g) = Unit {0}
-Brings (Some f) (file g) = (length f ≤ longest) × (g ≡ f)
-
--- the files whose fetch failed
-abbrev pub failures_of_application : List ℕ → Got → List (List ℕ)
-failures_of_application a failed = a ∷ []
-failures_of_application a (too_long n) = []
-failures_of_application a (file g) = []
-
-abbrev pub failures : List ℕ → List ℕ → Got → Got → List (List ℕ)
-failures t a failed h = t ∷ []
-failures t a (too_long n) h = []
-failures t a (file f) h = failures_of_application a h
+-- The reply to words: the line on their form, or what their files call for.
+abbrev pub Replies : Option Words → Telling → List (List ℕ) → List (List ℕ) → Reply → Type 0
+Replies None told before now r = (now ≡ before) × (r ≡ usage)
+Replies (Some w) told before now r = FilesReply (files_of w) told before now r

@@ -1,116 +1,113 @@
-//! The answer to the words: the files are fetched in their order.
-ghost use Rattle.std.specs.Prelude.{◌≡◌, ◌≢◌, ◌++◌, ◌∷◌, [], IfOk, Some, None, Option, List, ℕ, MatchOption};
-ghost use Rattle.ng_run.specs.ReplyOf.{reply_of, got_of, IsDrawn};
-ghost use Rattle.ng_run.specs.Session.{Brings, is_file_name, two_of, names_of, usage as usage_reply};
-ghost use Rattle.ng_run.specs.Run.{Replies, AnswersTemplate};
+//! The reply to the words of a run.
+ghost use Rattle.std.specs.Prelude.{◌≡◌, ◌++◌, codes, false, IfOk, map};
+ghost use Rattle.std.specs.Fmt.{decimal};
+ghost use Rattle.ng_run.specs.Free.{is_want};
+ghost use Rattle.ng_run.specs.Files.{role_name};
+ghost use Rattle.ng_run.specs.ReplyOf.{IsReply, IsReplyTo, file_of, inputs_of};
+ghost use Rattle.ng_run.specs.Session.{Session, FilesReply, Replies, line as line_of, refused as refused_of, read_line as read_line_of, long_line as long_line_of, usage as usage_of};
+ghost use Rattle.ng_run.specs.Words.{words_of};
 
-use crate::lines::{line, long_line};
-use crate::reply::{Got, Reply};
-use crate::session::session;
-use ng_base::fault::{Memory, ShelfFault};
+use crate::files::{Fetched, File, Inputs, Role, fetch_all, files_in, first_role};
+use crate::lines::{push_number, refusal_words};
+use crate::opening::open;
+use crate::refusal::{Refusal, accept};
+use crate::reply::Reply;
+use crate::words::read_words;
+use ng_base::fault::Memory;
 use ng_base::outside::Shelf;
-use ng_base::reader::Plain;
 use ng_base::txt::Txt;
 use std::alloc::{AllocError, Global};
 
-/// Fetches a file.
-fn fetch<S: Shelf>(alloc: Global, shelf: &mut S, name: &Txt) -> Result<Got, Memory>
-    ensures brings { IfOk result (λ g. Brings (S.bytes shelf.old name.now) (got_of g)) }
-    ensures failed { IfOk result (λ g. (g ≡ Got.Failed) → S.failed shelf.new ≡ S.failed shelf.old ++ name.now ∷ []) }
-    ensures other { IfOk result (λ g. (g ≢ Got.Failed) → S.failed shelf.new ≡ S.failed shelf.old) }
-    ensures same { (n : List ℕ) → S.bytes shelf.new n ≡ S.bytes shelf.old n }
+/// A reply of one line.
+fn line(status: u8, text: Vec<u8>) -> Result<Reply, AllocError>
+    ensures { IfOk result (λ r. IsReply r (line_of status text.items)) }
 {
-    let mut bytes = Vec::new(alloc);
-    match shelf.fetch(name.as_str(), &mut bytes) {
-        Ok(()) => Ok(Got::File(bytes)),
-        Err(ShelfFault::Failed) => Ok(Got::Failed),
-        Err(ShelfFault::TooLong(length)) => Ok(Got::TooLong(length)),
-        Err(ShelfFault::Memory(memory)) => Err(memory),
-    }
-}
-
-/// The answer where the template was fetched.
-fn answer_to_template<S: Shelf>(
-    alloc: Global,
-    shelf: &mut S,
-    template: Vec<u8>,
-    name: &Txt,
-) -> Result<Reply, Memory>
-    ensures reply { IfOk result (λ r. AnswersTemplate (S.bytes shelf.old) (S.failed shelf.old) (S.failed shelf.new) template.items name.now (reply_of r)) }
-    ensures drawn { IfOk result (λ r. IsDrawn r) }
-{
-    match fetch(alloc, shelf, name)? {
-        Got::Failed => Ok(line(alloc, 6, "read: application")?),
-        Got::TooLong(length) => Ok(long_line(alloc, "long: application ", length)?),
-        Got::File(application) => session(alloc, template, application),
-    }
-}
-
-/// The answer to two names.
-fn answer_to_names<S: Shelf>(
-    alloc: Global,
-    shelf: &mut S,
-    template: &Txt,
-    application: &Txt,
-) -> Result<Reply, Memory>
-    ensures reply { IfOk result (λ r. Replies (Some (template.now, application.now)) (S.bytes shelf.old) (S.failed shelf.old) (S.failed shelf.new) (reply_of r)) }
-    ensures drawn { IfOk result (λ r. IsDrawn r) }
-{
-    match fetch(alloc, shelf, template)? {
-        Got::Failed => Ok(line(alloc, 6, "read: template")?),
-        Got::TooLong(length) => Ok(long_line(alloc, "long: template ", length)?),
-        Got::File(bytes) => answer_to_template(alloc, shelf, bytes, application),
-    }
-}
-
-/// Whether a word is a file's name.
-fn names_file(word: &Txt) -> bool
-    ensures { result ≡ is_file_name word.now }
-{
-    let reader = Plain::new(word.as_str());
-    match reader.first() {
-        None => true,
-        Some((c, _)) => c != '-',
-    }
-}
-
-/// The words, if they are two.
-#[tactic(auto, using(crate::proofs::Words::two_words))]
-fn two_words(words: &[Txt]) -> Option<(&Txt, &Txt)>
-    ensures { MatchOption result (two_of words.now ≡ None) (λ p. two_of words.now ≡ Some (p.0.now, p.1.now)) }
-{
-    if words.len() == 2 {
-        Some((&words[0], &words[1]))
-    } else {
-        None
-    }
+    let mut piece = text;
+    piece.extend_from_slice("\n".as_bytes())?;
+    Ok(Reply {
+        status,
+        piece,
+        page: None,
+    })
 }
 
 /// The line on the form of the words.
 fn usage(alloc: Global) -> Result<Reply, AllocError>
-    ensures reply { IfOk result (λ r. reply_of r ≡ usage_reply) }
-    ensures drawn { IfOk result (λ r. IsDrawn r) }
+    ensures { IfOk result (λ r. IsReply r usage_of) }
 {
-    line(
+    let text = Vec::from_slice(
         alloc,
-        2,
-        "usage: ngrun [--trace] [--patches] [--static] TEMPLATE APP [SCRIPT] or ngrun --load N",
-    )
+        "usage: ngrun [--trace] [--patches] [--static] TEMPLATE APP [SCRIPT] or ngrun --load N".as_bytes(),
+    )?;
+    line(2, text)
 }
 
-/// The answer to the words.
-pub(crate) fn answer<S: Shelf>(alloc: Global, words: &[Txt], shelf: &mut S) -> Result<Reply, Memory>
-    ensures reply { IfOk result (λ r. Replies (names_of words.now) (S.bytes shelf.old) (S.failed shelf.old) (S.failed shelf.new) (reply_of r)) }
-    ensures drawn { IfOk result (λ r. IsDrawn r) }
+/// The line of a file whose fetch failed. Its name is told by the first file that has it.
+fn read_line(alloc: Global, files: &[File<'_>], file: &File<'_>) -> Result<Reply, AllocError>
+    ensures { IfOk result (λ r. IsReply r (read_line_of (map file_of files.now) (file_of file.now))) }
 {
-    match two_words(words) {
+    let mut text = Vec::from_slice(alloc, "read: ".as_bytes())?;
+    let role = first_role(file.name, files, file.role);
+    text.extend_from_slice(role.name().as_bytes())?;
+    line(6, text)
+}
+
+/// The line of a file that is too long.
+fn long_line(alloc: Global, role: Role, length: u64) -> Result<Reply, AllocError>
+    ensures { IfOk result (λ r. IsReply r (long_line_of role length)) }
+{
+    let mut text = Vec::from_slice(alloc, "long: ".as_bytes())?;
+    text.extend_from_slice(role.name().as_bytes())?;
+    text.extend_from_slice(" ".as_bytes())?;
+    push_number(&mut text, length)?;
+    line(9, text)
+}
+
+/// The line of a refusal that is no want of memory.
+fn refused(alloc: Global, refusal: &Refusal) -> Result<Reply, Memory>
+    ensures reply { IfOk result (λ r. IsReply r (refused_of refusal.now)) }
+    ensures definite { IfOk result (λ _. is_want refusal.now ≡ false) }
+{
+    match refusal.memory() {
+        Some(memory) => Err(memory),
+        None => Ok(line(refusal.status(), refusal_words(alloc, refusal)?)?),
+    }
+}
+
+/// The session of a run's files.
+fn session(alloc: Global, inputs: Inputs) -> Result<Reply, Memory>
+    ensures { IfOk result (λ r. IsReplyTo (Session (inputs_of inputs)) r) }
+{
+    match accept(alloc, inputs) {
+        Ok(accepted) => open(alloc, accepted),
+        Err(refusal) => refused(alloc, &refusal),
+    }
+}
+
+/// The reply to files, which are fetched in their order.
+fn answer_to_files<S: Shelf>(
+    alloc: Global,
+    shelf: &mut S,
+    files: &[File<'_>],
+) -> Result<Reply, Memory>
+    ensures { IfOk result (λ r. IsReplyTo (FilesReply (map file_of files.now) (S.bytes shelf.old) (S.failed shelf.old) (S.failed shelf.new)) r) }
+{
+    match fetch_all(alloc, shelf, files)? {
+        Fetched::Brought(inputs) => session(alloc, inputs),
+        Fetched::Unread(file) => Ok(read_line(alloc, files, &file)?),
+        Fetched::Overlong(role, length) => Ok(long_line(alloc, role, length)?),
+    }
+}
+
+/// The reply to the words.
+pub(crate) fn answer<S: Shelf>(alloc: Global, words: &[Txt], shelf: &mut S) -> Result<Reply, Memory>
+    ensures { IfOk result (λ r. IsReplyTo (Replies (words_of words.now) (S.bytes shelf.old) (S.failed shelf.old) (S.failed shelf.new)) r) }
+{
+    match read_words(words) {
         None => Ok(usage(alloc)?),
-        Some((template, application)) => {
-            if names_file(template) && names_file(application) {
-                answer_to_names(alloc, shelf, template, application)
-            } else {
-                Ok(usage(alloc)?)
-            }
+        Some(words) => {
+            let files = files_in(alloc, &words)?;
+            answer_to_files(alloc, shelf, files.as_slice())
         }
     }
 }

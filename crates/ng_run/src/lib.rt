@@ -1,19 +1,24 @@
 //! The top call: words and files in, bytes and a status out.
 //!
-//! `run` does all that the program does. Its contract is the headline: where the two files are there, it writes
-//! exactly the bytes of their session and answers its status, and the page that it hands back is settled and shows
-//! its rendering; every other answer has its cause, each as a clause of its own.
+//! `run` does all that the program does. Its contract is the headline: what was written is the first bytes of the reply that the
+//! words and files call for, the whole of it for all statuses but 7 and 8; where no fetch failed that reply is the session of
+//! the files. The page that is handed back shows what its watchers have kept, and where its last digest answered Ok it is
+//! settled and shows its rendering. Every status has its cause.
 //!
-//! `specs/Session.antt` has the session as a function of two files, in the order of work, and the lines of all
-//! refusals; `specs/Run.antt` has what a run may leave, by what the shelf and the sink tell. The shelf is asked for
-//! the template first and then for the application, and what a step writes is one piece.
+//! The definitions stand in `specs/`. `Words.antt` has the form of the words; `Files.antt` the files of a run as one list, in the
+//! order of fetching, and what their fetches bring; `Refusals.antt` the order of work, in which the first refusal stands;
+//! `Session.antt` the reply, in pieces of which each is a put; `Lines.antt` the lines; `Run.antt` what a run writes and leaves,
+//! and the causes of its statuses.
 //!
-//! Formats and limits are decided below: in `ng_html` for templates, in `ng_page` for applications.
+//! Formats and limits are decided below: in `ng_html` and `ng_template` for templates, in `ng_page` for applications.
 #![tactic(auto)]
 
 mod answer;
+mod files;
 pub mod laws;
 mod lines;
+mod opening;
+mod refusal;
 mod reply;
 pub mod run;
-mod session;
+mod words;

@@ -1,62 +1,29 @@
-//! The lines of refusals.
+//! The lines of a run.
 ghost use Rattle.std.specs.Prelude.{◌≡◌, ◌++◌, codes, Err, IfOk, OnOk};
 ghost use Rattle.std.specs.Fmt.{decimal};
-ghost use Rattle.ng_run.specs.ReplyOf.{reply_of, digest_lines, IsDrawn};
-ghost use Rattle.ng_run.specs.Session.{line as line_of, faults, action_line, digest_line, html_name, tpl_name, member_name, app_name, template_line as template_line_of, application_line as application_line_of};
+ghost use Rattle.ng_run.specs.Lines.{faults, action_line, digest_line, html_name, tpl_name, member_name, app_name};
+ghost use Rattle.ng_run.specs.Refusals.{template_text, refusal_text};
+ghost use Rattle.ng_run.specs.ReplyOf.{digest_lines};
 
-use crate::reply::Reply;
+use crate::refusal::Refusal;
 use ng_base::fault::Fault;
 use ng_digest::log::Report;
 use ng_digest::rounds::DigestFault;
 use ng_html::fault::HtmlKind;
-use ng_page::fault::{AppFault, AppKind, Member, TplKind};
+use ng_page::fault::{AppFault, AppKind, Member};
+use ng_template::fault::TplKind;
 use std::alloc::{AllocError, Global};
 
 /// Adds the digits of a number.
-fn push_number(into: &mut Vec<u8>, n: u64) -> Result<(), AllocError>
+pub(crate) fn push_number(into: &mut Vec<u8>, n: u64) -> Result<(), AllocError>
     ensures { OnOk result (into.new.items ≡ into.old.items ++ decimal n) }
 {
     let digits = n.to_string(*into.allocator())?;
     into.extend_from_slice(digits.as_str().as_bytes())
 }
 
-/// A reply that is one line.
-fn line_reply(status: u8, line: Vec<u8>) -> Result<Reply, AllocError>
-    ensures reply { IfOk result (λ r. reply_of r ≡ line_of status line.items) }
-    ensures drawn { IfOk result (λ r. IsDrawn r) }
-{
-    let mut bytes = line;
-    bytes.extend_from_slice("\n".as_bytes())?;
-    Ok(Reply {
-        status,
-        bytes,
-        page: None,
-    })
-}
-
-/// A reply that is one line.
-pub(crate) fn line(alloc: Global, status: u8, text: &str) -> Result<Reply, AllocError>
-    ensures reply { IfOk result (λ r. reply_of r ≡ line_of status text.now) }
-    ensures drawn { IfOk result (λ r. IsDrawn r) }
-{
-    let mut bytes = Vec::new(alloc);
-    bytes.extend_from_slice(text.as_bytes())?;
-    line_reply(status, bytes)
-}
-
-/// A reply that is one line with a length at its end.
-pub(crate) fn long_line(alloc: Global, word: &str, length: u64) -> Result<Reply, AllocError>
-    ensures reply { IfOk result (λ r. reply_of r ≡ line_of 9 (word.now ++ decimal length)) }
-    ensures drawn { IfOk result (λ r. IsDrawn r) }
-{
-    let mut bytes = Vec::new(alloc);
-    bytes.extend_from_slice(word.as_bytes())?;
-    push_number(&mut bytes, length)?;
-    line_reply(9, bytes)
-}
-
 /// The name of a refusal of a document.
-pub(crate) fn html_word(kind: &HtmlKind) -> &'static str
+fn html_word(kind: &HtmlKind) -> &'static str
     ensures { result.now ≡ html_name kind.now }
 {
     match kind {
@@ -73,7 +40,7 @@ pub(crate) fn html_word(kind: &HtmlKind) -> &'static str
 }
 
 /// The name of a refusal of a template.
-pub(crate) fn tpl_word(kind: &TplKind) -> &'static str
+fn tpl_word(kind: &TplKind) -> &'static str
     ensures { result.now ≡ tpl_name kind.now }
 {
     match kind {
@@ -128,7 +95,44 @@ fn app_word(kind: &AppKind) -> &'static str
     }
 }
 
-/// So many faults, of which this is the first.
+/// The text of a refused template.
+fn template_words(alloc: Global, place: u64, word: &str) -> Result<Vec<u8>, AllocError>
+    ensures { IfOk result (λ v. v.items ≡ template_text place word.now) }
+{
+    let mut text = Vec::new(alloc);
+    text.extend_from_slice("template: ".as_bytes())?;
+    push_number(&mut text, place)?;
+    text.extend_from_slice(" ".as_bytes())?;
+    text.extend_from_slice(word.as_bytes())?;
+    Ok(text)
+}
+
+/// The text of a refused application.
+fn application_words(alloc: Global, fault: &AppFault) -> Result<Vec<u8>, AllocError>
+    ensures { IfOk result (λ v. v.items ≡ codes "application: " ++ member_name fault.now.member ++ codes " " ++ decimal fault.now.item ++ codes " " ++ app_name fault.now.kind) }
+{
+    let mut text = Vec::new(alloc);
+    text.extend_from_slice("application: ".as_bytes())?;
+    text.extend_from_slice(member_word(&fault.member).as_bytes())?;
+    text.extend_from_slice(" ".as_bytes())?;
+    push_number(&mut text, fault.item)?;
+    text.extend_from_slice(" ".as_bytes())?;
+    text.extend_from_slice(app_word(&fault.kind).as_bytes())?;
+    Ok(text)
+}
+
+/// The text of a refusal.
+pub(crate) fn refusal_words(alloc: Global, refusal: &Refusal) -> Result<Vec<u8>, AllocError>
+    ensures { IfOk result (λ v. v.items ≡ refusal_text refusal.now) }
+{
+    match refusal {
+        Refusal::Document(fault) => template_words(alloc, fault.place, html_word(&fault.kind)),
+        Refusal::Application(fault) => application_words(alloc, fault),
+        Refusal::Template(fault) => template_words(alloc, fault.place, tpl_word(&fault.kind)),
+    }
+}
+
+/// As many faults, of which this is the first.
 fn fault_words(alloc: Global, count: u32, first: &Fault) -> Result<Vec<u8>, AllocError>
     ensures { IfOk result (λ v. v.items ≡ faults count first.now) }
 {
@@ -140,7 +144,7 @@ fn fault_words(alloc: Global, count: u32, first: &Fault) -> Result<Vec<u8>, Allo
     Ok(bytes)
 }
 
-/// A word and so many faults.
+/// A word and as many faults.
 fn fault_line(alloc: Global, word: &str, count: u32, first: &Fault) -> Result<Vec<u8>, AllocError>
     ensures { IfOk result (λ v. v.items ≡ word.now ++ faults count first.now) }
 {
@@ -197,32 +201,4 @@ pub(crate) fn digested(
         Some(Ok(_)) => Ok(Vec::new(alloc)),
         Some(Err(fault)) => failed_digest(alloc, fault),
     }
-}
-
-/// The line of a refused template.
-pub(crate) fn template_line(alloc: Global, place: u64, word: &str) -> Result<Reply, AllocError>
-    ensures reply { IfOk result (λ r. reply_of r ≡ template_line_of place word.now) }
-    ensures drawn { IfOk result (λ r. IsDrawn r) }
-{
-    let mut bytes = Vec::new(alloc);
-    bytes.extend_from_slice("template: ".as_bytes())?;
-    push_number(&mut bytes, place)?;
-    bytes.extend_from_slice(" ".as_bytes())?;
-    bytes.extend_from_slice(word.as_bytes())?;
-    line_reply(3, bytes)
-}
-
-/// The line of a refused application.
-pub(crate) fn application_line(alloc: Global, fault: &AppFault) -> Result<Reply, AllocError>
-    ensures reply { IfOk result (λ r. reply_of r ≡ application_line_of fault.now) }
-    ensures drawn { IfOk result (λ r. IsDrawn r) }
-{
-    let mut bytes = Vec::new(alloc);
-    bytes.extend_from_slice("application: ".as_bytes())?;
-    bytes.extend_from_slice(member_word(&fault.member).as_bytes())?;
-    bytes.extend_from_slice(" ".as_bytes())?;
-    push_number(&mut bytes, fault.item)?;
-    bytes.extend_from_slice(" ".as_bytes())?;
-    bytes.extend_from_slice(app_word(&fault.kind).as_bytes())?;
-    line_reply(4, bytes)
 }

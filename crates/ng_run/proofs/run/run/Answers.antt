@@ -1,44 +1,37 @@
-use Rattle.std.proofs.Common.{◌≡◌, ap, refl, subst}
+use Rattle.std.proofs.Common.{sym, ◌∙◌, subst}
 use Rattle.std.specs.Io.KnownBytes.{Appends}
-use Rattle.ng_run.specs.ReplyOf.{reply_of}
-use Rattle.ng_run.proofs.Causes.{reply_session, reply_page, page_settled, page_drawn, page_status, page_stands, page_stands_faulted, session_causes, session_faults, session_empty, long_reply}
+use Rattle.ng_base.specs.Outside.{TookAll, StopsAtFailure}
+use Rattle.ng_run.specs.Run.{Causes}
+use Rattle.ng_run.specs.Words.{words_of}
+use Rattle.ng_run.proofs.Causes.{reply_causes, reply_session, reply_put}
+use Rattle.ng_run.proofs.Writing.{put_whole, put_stopped}
 use Rattle.ng_run.proofs.run.run.Goals as goal
 
+pub returns-in-Ok-put_all-clause-written : goal.returns-in-Ok-put_all-clause-written
+returns-in-Ok-put_all-clause-written g c n =
+    let q = c.in-Ok.ensures in
+    let whole = subst (λ b. Appends (g.K.Sink.taken c.args.sink.now) (g.K.Sink.taken c.put_all.new.sink) b) c.as_slice.ensures.value c.in-Ok-put_all.ensures.all in
+    (q.0, q.1, put_whole g.K.Sink.taken g.K.Sink.faults c.args.sink.now c.put_all.new.sink c.in-Ok.reply q.0 q.2 (reply_put _ _ _ _ q.0 q.1).0 whole)
+
 pub returns-in-Ok-put_all-clause-session : goal.returns-in-Ok-put_all-clause-session
-returns-in-Ok-put_all-clause-session g c n m t a has same = (
-  reply_of c.in-Ok.reply,
-  reply_session _ _ _ _ (reply_of c.in-Ok.reply) c.in-Ok.ensures.reply t a has same,
-  refl,
-  refl,
-  subst (λ bytes. Appends (g.K.Sink.taken c.args.sink.now) (g.K.Sink.taken c.put_all.new.sink) bytes) c.as_slice.ensures.value c.in-Ok-put_all.ensures.all,
-)
+returns-in-Ok-put_all-clause-session g c n i tells same =
+    let q = c.in-Ok.ensures in
+    let whole = subst (λ b. Appends (g.K.Sink.taken c.args.sink.now) (g.K.Sink.taken c.put_all.new.sink) b) c.as_slice.ensures.value c.in-Ok-put_all.ensures.all in
+    (q.0, reply_session _ _ _ _ q.0 q.1 i tells same, put_whole g.K.Sink.taken g.K.Sink.faults c.args.sink.now c.put_all.new.sink c.in-Ok.reply q.0 q.2 (reply_put _ _ _ _ q.0 q.1).0 whole)
 
 pub returns-in-Ok-put_all-clause-causes : goal.returns-in-Ok-put_all-clause-causes
-returns-in-Ok-put_all-clause-causes g c n m t a has same =
-    session_causes t a (reply_of c.in-Ok.reply) (reply_session _ _ _ _ (reply_of c.in-Ok.reply) c.in-Ok.ensures.reply t a has same)
+returns-in-Ok-put_all-clause-causes g c n m =
+    let q = c.in-Ok.ensures in
+    subst (λ k. Causes (words_of c.args.words.now) (g.S.Shelf.bytes c.args.shelf.now) (g.S.Shelf.failed c.args.shelf.now) (g.S.Shelf.failed c.answer.new.shelf) k) (sym q.2.status) (reply_causes _ _ _ _ q.0 q.1)
 
-pub returns-in-Ok-put_all-clause-faulted : goal.returns-in-Ok-put_all-clause-faulted
-returns-in-Ok-put_all-clause-faulted g c n m t a has same cause =
-    session_faults t a (reply_of c.in-Ok.reply) (reply_session _ _ _ _ (reply_of c.in-Ok.reply) c.in-Ok.ensures.reply t a has same) cause
+pub returns-in-Ok-put_all-clause-put_failed : goal.returns-in-Ok-put_all-clause-put_failed
+returns-in-Ok-put_all-clause-put_failed g c e =
+    let q = c.in-Ok.ensures in
+    absurd ((reply_put _ _ _ _ q.0 q.1).0 (sym q.2.status ∙ e))
 
-pub returns-in-Ok-put_all-clause-node_limit : goal.returns-in-Ok-put_all-clause-node_limit
-returns-in-Ok-put_all-clause-node_limit g c n m t a has same many =
-    session_empty t a (reply_of c.in-Ok.reply) (reply_session _ _ _ _ (reply_of c.in-Ok.reply) c.in-Ok.ensures.reply t a has same) many
-
-pub returns-in-Ok-put_all-clause-long_file : goal.returns-in-Ok-put_all-clause-long_file
-returns-in-Ok-put_all-clause-long_file g c has same n m = long_reply _ _ _ _ (reply_of c.in-Ok.reply) c.in-Ok.ensures.reply has same
-
-pub returns-in-Ok-put_all-clause-page : goal.returns-in-Ok-put_all-clause-page
-returns-in-Ok-put_all-clause-page g c = page_status c.in-Ok.reply.status c.in-Ok.reply.page (reply_page _ _ _ _ (reply_of c.in-Ok.reply) c.in-Ok.ensures.reply)
-
-pub returns-in-Ok-put_all-clause-paged : goal.returns-in-Ok-put_all-clause-paged
-returns-in-Ok-put_all-clause-paged g c = page_stands c.in-Ok.reply.status c.in-Ok.reply.page (reply_page _ _ _ _ (reply_of c.in-Ok.reply) c.in-Ok.ensures.reply)
-
-pub returns-in-Ok-put_all-clause-paged_faulted : goal.returns-in-Ok-put_all-clause-paged_faulted
-returns-in-Ok-put_all-clause-paged_faulted g c = page_stands_faulted c.in-Ok.reply.status c.in-Ok.reply.page (reply_page _ _ _ _ (reply_of c.in-Ok.reply) c.in-Ok.ensures.reply)
-
-pub returns-in-Ok-put_all-clause-settled : goal.returns-in-Ok-put_all-clause-settled
-returns-in-Ok-put_all-clause-settled g c = page_settled c.in-Ok.reply.status c.in-Ok.reply.page c.in-Ok.ensures.drawn
-
-pub returns-in-Ok-put_all-clause-drawn : goal.returns-in-Ok-put_all-clause-drawn
-returns-in-Ok-put_all-clause-drawn g c = page_drawn c.in-Ok.reply.status c.in-Ok.reply.page c.in-Ok.ensures.drawn
+pub returns-clause-session : goal.returns-clause-session
+returns-clause-session g c n i tells same =
+    let q = c.in-Ok.ensures in
+    let part = subst (λ b. TookAll (g.K.Sink.taken c.args.sink.now) (g.K.Sink.taken c.put_all.new.sink) b) c.as_slice.ensures.value c.in-Err-put_all.ensures.part in
+    let stops = subst (λ b. StopsAtFailure g.K.Sink.taken g.K.Sink.faults c.args.sink.now c.put_all.new.sink b) c.as_slice.ensures.value c.in-Err-put_all.ensures.stops in
+    (q.0, reply_session _ _ _ _ q.0 q.1 i tells same, put_stopped g.K.Sink.taken g.K.Sink.faults c.args.sink.now c.put_all.new.sink c.in-Ok.reply q.0 q.2 part stops)
