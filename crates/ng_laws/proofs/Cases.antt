@@ -4,8 +4,8 @@ use Rattle.std.specs.Char.{to_ascii_uppercase}
 use Rattle.std.specs.List.{AllByRecursion, flat_map}
 use Rattle.std.specs.Option.{unwrap_or}
 use Rattle.ng_base.proofs.Binds.{if_true, if_false}
-use Rattle.ng_page.specs.Cloak.{is_nil}
-use Rattle.ng_page.specs.Names.{is_joiner, behind_data, past_joiners, camel_from, camel}
+use Rattle.ng_collect.specs.Cloak.{is_nil}
+use Rattle.ng_collect.specs.Names.{is_joiner, after_data, past_joiners, camel_from, camel}
 use Rattle.ng_laws.specs.Camel.{Part, AreJoiners, IsWord, AreParts, part_text, capital, part_cased, last_joiner, WordsAreCased, FrontGoes, FrontStays}
 
 past_front : (front : List ℕ) (c : ℕ) (cs : List ℕ) → AreJoiners front → is_joiner c ≡ false → past_joiners (front ++ c ∷ cs) ≡ c ∷ cs
@@ -55,9 +55,9 @@ words_are_cased front (c ∷ word) tail ps f w h t =
 
 pub front_goes : FrontGoes
 front_goes j n h = (
-  ap (λ o. camel (past_joiners (unwrap_or o (unwrap_or (behind_data (120 ∷ j ∷ n)) (120 ∷ j ∷ n))))) (if_true (is_joiner j) (Some n) None h),
+  ap (λ o. camel (past_joiners (unwrap_or o (unwrap_or (after_data (120 ∷ j ∷ n)) (120 ∷ j ∷ n))))) (if_true (is_joiner j) (Some n) None h),
   ap (λ o. camel (past_joiners (unwrap_or o (100 ∷ 97 ∷ 116 ∷ 97 ∷ j ∷ n)))) (if_true (is_joiner j) (Some n) None h),
 )
 
 pub front_stays : FrontStays
-front_stays n x d = ap (λ o. camel (past_joiners (unwrap_or o (unwrap_or (behind_data n) n)))) x ∙ ap (λ o. camel (past_joiners (unwrap_or o n))) d
+front_stays n x d = ap (λ o. camel (past_joiners (unwrap_or o (unwrap_or (after_data n) n)))) x ∙ ap (λ o. camel (past_joiners (unwrap_or o n))) d

@@ -5,7 +5,7 @@ use Rattle.std.specs.Char.{is_ascii_whitespace}
 use Rattle.std.specs.List.{AllByRecursion, flat_map}
 use Rattle.std.specs.Str.{bytes_eq}
 use Rattle.ng_base.proofs.Binds.{if_true, if_false}
-use Rattle.ng_page.specs.Cloak.{kept_word, is_nil, uncloaked_from, uncloaked}
+use Rattle.ng_collect.specs.Cloak.{kept_word, is_nil, uncloaked_from, uncloaked}
 use Rattle.ng_laws.specs.Cloaks.{Piece, IsSpace, IsWord, ArePieces, written, kept, WordsStay, ClassStays}
 
 -- a character more: of the white space, of the word, or behind the word

@@ -3,7 +3,7 @@ use Rattle.std.proofs.Common.{◌≡◌, ◌⊎◌, ℕ, true, false, List, [], 
 use Rattle.std.specs.Char.{is_ascii_whitespace}
 use Rattle.std.specs.List.{flat_map}
 use Rattle.ng_base.proofs.Binds.{if_true}
-use Rattle.ng_page.specs.Names.{is_joiner, past_joiners, camel}
+use Rattle.ng_collect.specs.Names.{is_joiner, past_joiners, camel}
 use Rattle.ng_laws.specs.Cloaks as cloak
 use Rattle.ng_laws.specs.Camel as name
 use Rattle.ng_laws.proofs.Spans.{Span, span, Parts, parts, not_nil_false}

@@ -7,3 +7,5 @@ pub mod Found
 pub mod Soon
 pub mod Spans
 pub mod Cuts
+pub mod Watched
+pub mod Crowded

@@ -2,7 +2,7 @@
 use Rattle.std.proofs.Common.{◌≡◌, ◌<◌, ℕ, zero, suc, Bool, true, false, not, List, [], ◌∷◌, ◌++◌, length, refl, ap, sym, ◌∙◌, arith, append_assoc, append-nil, length-append}
 use Rattle.std.specs.Bool.{⊤}
 use Rattle.std.specs.List.{AllByRecursion, flat_map}
-use Rattle.ng_page.specs.Cloak.{is_nil}
+use Rattle.ng_collect.specs.Cloak.{is_nil}
 
 -- a run, and what stands behind it
 abbrev pub Part : Type 0

@@ -2,8 +2,8 @@
 use Rattle.std.specs.Prelude.{ℕ, ◌⊎◌, ◌≡◌, true, false, List, [], ◌∷◌, ◌++◌, codes, None}
 use Rattle.std.specs.Char.{to_ascii_uppercase}
 use Rattle.std.specs.List.{AllByRecursion, flat_map}
-use Rattle.ng_page.specs.Cloak.{is_nil}
-use Rattle.ng_page.specs.Names.{is_joiner, behind_x, behind_data, past_joiners, camel, directive_name}
+use Rattle.ng_collect.specs.Cloak.{is_nil}
+use Rattle.ng_collect.specs.Names.{is_joiner, after_x, after_data, past_joiners, camel, directive_name}
 
 -- joiners, and the word behind them
 abbrev pub Part : Type 0
@@ -45,7 +45,7 @@ FrontGoes = (j : ℕ) (n : List ℕ) → is_joiner j ≡ true → (directive_nam
 
 -- and another front stays
 abbrev pub FrontStays : Type 0
-FrontStays = (n : List ℕ) → behind_x n ≡ None → behind_data n ≡ None → directive_name n ≡ camel (past_joiners n)
+FrontStays = (n : List ℕ) → after_x n ≡ None → after_data n ≡ None → directive_name n ≡ camel (past_joiners n)
 
 -- each name is joiners alone, which name no directive, or is spelled so
 abbrev pub EachNameHasWords : Type 0

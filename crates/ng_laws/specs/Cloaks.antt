@@ -3,7 +3,7 @@ use Rattle.std.specs.Prelude.{ℕ, ◌≡◌, true, false, List, [], ◌∷◌, 
 use Rattle.std.specs.Char.{is_ascii_whitespace}
 use Rattle.std.specs.List.{AllByRecursion, flat_map}
 use Rattle.std.specs.Str.{bytes_eq}
-use Rattle.ng_page.specs.Cloak.{kept_word, is_nil, uncloaked}
+use Rattle.ng_collect.specs.Cloak.{kept_word, is_nil, uncloaked}
 
 -- white space, and the word behind it
 abbrev pub Piece : Type 0

@@ -1,14 +1,25 @@
--- What is there: the end of a digest, and the session of two files.
-use Rattle.std.specs.Prelude.{ℕ, List, Result}
+-- What is there: the end of a digest, and the session of the files of a run; and what a page with too many nodes is.
+use Rattle.std.specs.Prelude.{ℕ, ◌≡◌, ◌<◌, Result, Ok}
+use Rattle.std.specs.Option.{IfSome}
+use Rattle.ng_digest.specs.Laws.{InOrder}
 use Rattle.ng_digest.specs.Plain.{Plain, PlainDigests}
 use Rattle.ng_digest.specs.declared.rounds.DigestFault.{DigestFault}
-use Rattle.ng_sites.specs.Sites.{State, page_machine}
+use Rattle.ng_drawing.specs.Nodes.{nodes, node_limit}
+use Rattle.ng_markup.specs.Forest.{no_nodes}
+use Rattle.ng_page.specs.PageMachine.{page_machine}
+use Rattle.ng_page.specs.State.{State, shown}
+use Rattle.ng_run.specs.Files.{Inputs}
+use Rattle.ng_run.specs.Refusals.{Accepted, accepted}
 use Rattle.ng_run.specs.Session.{Reply, Session}
 
--- a plain digest over the watchers of a page comes to an end, with an answer
+-- a plain digest over the watchers of a page, which stand in key order, comes to an end, with an answer
 abbrev pub DigestEnds : Type 0
-DigestEnds = (s : State) → (answer : Result (ℕ × ℕ) DigestFault) × (end : Plain State) × PlainDigests page_machine s answer end
+DigestEnds = (s : State) → InOrder page_machine s → (answer : Result (ℕ × ℕ) DigestFault) × (end : Plain State) × PlainDigests page_machine s answer end
 
--- two files have a session
+-- the files of a run have a session
 abbrev pub SessionIsThere : Type 0
-SessionIsThere = (t a : List ℕ) → (r : Reply) × Session t a r
+SessionIsThere = (i : Inputs) → (r : Reply) × Session i r
+
+-- a page that would have too many nodes is empty, and the status is 1
+abbrev pub CrowdedPageIsEmpty : Type 0
+CrowdedPageIsEmpty = (i : Inputs) (a : Accepted) (r : Reply) → accepted i ≡ Ok a → node_limit < nodes a.template.parts → Session i r → (r.status ≡ 1) × IfSome r.page (λ l. shown l.state ≡ no_nodes)
