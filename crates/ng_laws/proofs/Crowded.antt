@@ -13,7 +13,7 @@ use Rattle.ng_page.specs.Opening.{opening_by, opening}
 use Rattle.ng_page.specs.State.{State, shown_in, shown}
 use Rattle.ng_page.proofs.SettledLaws.{data_stays}
 use Rattle.ng_run.specs.Refusals.{Accepted}
-use Rattle.ng_run.specs.Session.{Reply, is_well, link_count, link_fault, opened, OpensPage, SessionOf}
+use Rattle.ng_run.specs.Session.{Reply, is_well, link_fault, OpensPage, SessionOf}
 use Rattle.ng_laws.specs.Sessions.{CrowdedPageIsEmpty}
 
 is_full : (n : ℕ) → node_limit < n → nat_lt node_limit (0 + n) ≡ true

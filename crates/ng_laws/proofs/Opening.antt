@@ -20,6 +20,6 @@ opened_so a (answer, end, d) = (opened (link_count a) (link_fault a) answer end.
 
 pub session_some : SessionIsThere
 session_some i = elim (accepted i) as (λ c. (r : Reply) × SessionOf c r) [
-    Ok a ↦ opened_so a (page_ends (readied (opening a.facts a.template)) (opening_sorted a.facts a.template))
+  | Ok a ↦ opened_so a (page_ends (readied (opening a.facts a.template)) (opening_sorted a.facts a.template))
   | Err f ↦ (refused f, refl)
-  ]
+]

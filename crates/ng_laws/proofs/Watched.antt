@@ -4,22 +4,21 @@ use Rattle.std.specs.List.{AllByRecursion}
 use Rattle.std.specs.List.Sorted.{IsStrictlySortedBy}
 use Rattle.std.specs.Map.{lookup, keys_of}
 use Rattle.std.specs.Ordering.{nat_cmp, ordering_then}
-use Rattle.std.specs.declared.cmp.Ordering.{Ordering}
 use Rattle.std.specs.declared.cmp.Ordering.TheVariants.{Less, Equal, Greater}
 use Rattle.std.proofs.lemmas.Bool.Decides.{nat_tests}
 use Rattle.std.proofs.lemmas.Cmp.{tied_itself}
-use Rattle.ng_base.specs.Order.{path_cmp, path_cmp_total}
+use Rattle.ng_base.specs.Order.{path_cmp_total}
 use Rattle.ng_base.specs.Views.{ViewTree}
 use Rattle.ng_base.specs.declared.fault.Fault.{Fault}
 use Rattle.ng_base.specs.declared.path.Key.{Key}
 use Rattle.ng_digest.specs.Early.{IsIn}
-use Rattle.ng_digest.specs.Machine.{Verdict, found_clean, found_dirty, found_faulted}
+use Rattle.ng_digest.specs.Machine.{found_clean, found_dirty}
 use Rattle.ng_drawing.specs.Template.{Site, Template}
 use Rattle.ng_link.specs.Rows.{fresh_rows}
 use Rattle.ng_link.specs.Shape.{key_on, linked}
 use Rattle.ng_page.specs.App.{Facts}
 use Rattle.ng_page.specs.Opening.{opening_by, opening}
-use Rattle.ng_page.specs.PageLaws.{key_is, is_itself, by_test, page_laws}
+use Rattle.ng_page.specs.PageLaws.{key_is, by_test, page_laws}
 use Rattle.ng_page.specs.PageMachine.{found_as, verdict_of, verdict_at, handed_on, handed_on_of, handed_on_at, keeps, fired, page_machine, readied}
 use Rattle.ng_page.specs.State.{State}
 use Rattle.ng_watch.specs.Keys.{key_cmp, is_key}

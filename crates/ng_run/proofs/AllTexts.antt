@@ -1,7 +1,7 @@
 -- Holes of texts are all that a template watches.
-use Rattle.std.proofs.Common.{◌≡◌, ℕ, List, [], ◌∷◌, ◌++◌, refl, sym, subst}
+use Rattle.std.proofs.Common.{◌≡◌, ℕ, List, [], ◌∷◌, refl, sym, subst}
 use Rattle.std.specs.Prelude.{Bool, Result, Ok, Err}
-use Rattle.std.specs.List.{AllByRecursion, flat_map}
+use Rattle.std.specs.List.{flat_map}
 use Rattle.ng_collect.specs.declared.definition.DirectiveDef.{DirectiveDef}
 use Rattle.ng_drawing.specs.Template.{Site, Template}
 use Rattle.ng_interp.specs.Parts.{Piece, words, hole}
@@ -12,7 +12,7 @@ use Rattle.ng_page.specs.Opening.{IsText, AreTexts}
 use Rattle.ng_store.proofs.Sound.{all_append}
 use Rattle.ng_template.specs.Compiles.{compiled}
 use Rattle.ng_template.specs.Order.{in_order, text_sites, node_sites}
-use Rattle.ng_template.specs.Texts.{piece_sites, sites_in}
+use Rattle.ng_template.specs.Texts.{piece_sites}
 use Rattle.ng_template.proofs.Compiled.{compiled_facts}
 
 piece_texts : (p : Piece) → AreTexts (piece_sites p)

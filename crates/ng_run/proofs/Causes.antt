@@ -1,16 +1,15 @@
 -- What a reply says of the words, the fetches and the files.
-use Rattle.std.proofs.Common.{◌≡◌, ◌≢◌, ℕ, Bool, true, false, List, [], ◌∷◌, ◌++◌, refl, ap, sym, ◌∙◌, subst, Option, Some, None, arith, inl, inr}
+use Rattle.std.proofs.Common.{◌≡◌, ◌≢◌, ℕ, Bool, true, false, List, refl, ap, sym, ◌∙◌, subst, Option, Some, None, arith, inl, inr}
 use Rattle.std.specs.Prelude.{◌⊎◌, ◌↔◌, Result, Ok, Err, if◌then◌else◌}
-use Rattle.ng_base.specs.declared.fault.Fault.{Fault}
 use Rattle.ng_digest.specs.declared.rounds.DigestFault.{DigestFault}
 use Rattle.ng_page.specs.Answered.{Opens}
 use Rattle.ng_page.specs.State.{State}
 use Rattle.ng_page.specs.declared.page.Page.{Page}
-use Rattle.ng_run.specs.Files.{File, Inputs, Telling, Fetched, brought, unread, overlong, Fetches, files_of, run_files, no_inputs, FetchFailed, LongFile, HasLong}
+use Rattle.ng_run.specs.Files.{File, Inputs, Telling, Fetched, brought, unread, overlong, Fetches, files_of, no_inputs, FetchFailed, LongFile}
 use Rattle.ng_run.specs.Refusals.{Accepted, accepted, refusal_status}
 use Rattle.ng_run.specs.ReplyOf.{Leaves}
 use Rattle.ng_run.specs.Run.{TellsAll, OpensWell, SessionCauses, Causes, HasPage}
-use Rattle.ng_run.specs.Session.{Left, Reply, is_well, link_count, link_fault, opened, OpensPage, SessionOf, Session, FetchedReply, FilesReply, Replies}
+use Rattle.ng_run.specs.Session.{Left, Reply, is_well, link_fault, OpensPage, SessionOf, Session, FetchedReply, Replies}
 use Rattle.ng_run.specs.Words.{Words}
 use Rattle.ng_run.specs.declared.refusal.Refusal.{Refusal}
 use Rattle.ng_run.specs.declared.refusal.Refusal.TheVariants.{Document, Application, Template}

@@ -1,9 +1,9 @@
 -- Files that are fetched in their order.
-use Rattle.std.proofs.Common.{◌≡◌, ◌≢◌, ◌<◌, ◌≤◌, ◌+◌, ℕ, List, [], ◌∷◌, ◌++◌, map, drop, get_or, length, refl, ap, sym, ◌∙◌, subst, Option, Some, None, arith, inl, inr, append-nil, length-append}
+use Rattle.std.proofs.Common.{◌≡◌, ◌<◌, ◌≤◌, ◌+◌, ℕ, List, [], ◌∷◌, ◌++◌, map, drop, get_or, length, refl, ap, sym, ◌∙◌, subst, Option, Some, None, arith, inl, inr, length-append}
 use Rattle.std.specs.Prelude.{◌⊎◌}
 use Rattle.std.proofs.lemmas.List.{at_drop_more, drop_all}
 use Rattle.ng_base.specs.Outside.{longest}
-use Rattle.ng_run.specs.Files.{File, Inputs, with_file, Telling, Got, failed, too_long, bytes, Brings, Fetched, brought, unread, overlong, FetchedThen, Fetches, Tells, IsNamed, FetchFailed, MayBeLong, MayBeShort, LongFile, HasLong}
+use Rattle.ng_run.specs.Files.{File, Inputs, with_file, Telling, Got, failed, too_long, bytes, Brings, Fetched, brought, unread, overlong, FetchedThen, Fetches, Tells, FetchFailed, MayBeLong, MayBeShort, LongFile, HasLong}
 use Rattle.ng_run.specs.declared.files.Role.{Role}
 
 -- ---- one fetch after another

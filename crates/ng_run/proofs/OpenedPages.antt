@@ -1,5 +1,5 @@
 -- The step that opens a page, as the code has it and as the session has it.
-use Rattle.std.proofs.Common.{◌≡◌, ℕ, Bool, true, false, IsTrue, List, [], ◌∷◌, ◌++◌, refl, ap, sym, ◌∙◌, subst, Option, Some, None, arith, true≢false}
+use Rattle.std.proofs.Common.{◌≡◌, ℕ, IsTrue, [], ◌∷◌, ◌++◌, refl, ap, sym, ◌∙◌, subst, Option, Some, None, true≢false}
 use Rattle.std.specs.Prelude.{Result, Ok, Err, codes}
 use Rattle.ng_base.specs.declared.fault.Fault.{Fault}
 use Rattle.ng_markup.specs.Forest.{Forest}
@@ -10,12 +10,12 @@ use Rattle.ng_drawing.specs.Drawing.{Rendered, shown_as}
 use Rattle.ng_page.specs.Answered.{Opened, WhenOk}
 use Rattle.ng_page.specs.PageOf.{state_of, Displays}
 use Rattle.ng_page.specs.Settled.{IsSettled}
-use Rattle.ng_page.specs.State.{State, shown, rendering}
+use Rattle.ng_page.specs.State.{shown, rendering}
 use Rattle.ng_page.specs.declared.page.Page.{Page}
 use Rattle.ng_run.specs.Lines.{action_line, digest_line, document_line}
 use Rattle.ng_run.specs.Refusals.{Accepted}
-use Rattle.ng_run.specs.ReplyOf.{opening_lines, opening_status, Leaves, IsReply, IsReplyTo}
-use Rattle.ng_run.specs.Session.{Reply, is_ok, link_count, link_fault, first_step, opened, steps_status, OpensPage}
+use Rattle.ng_run.specs.ReplyOf.{opening_lines, opening_status, Leaves, IsReplyTo}
+use Rattle.ng_run.specs.Session.{is_ok, link_count, link_fault, first_step, opened, steps_status, OpensPage}
 use Rattle.ng_run.specs.declared.reply.Reply as code_reply
 
 same_status : (count : ℕ) (first : Option Fault) (d : Result Report DigestFault) (document : Rendered Forest) → opening_status first (Some d) ≡ steps_status (first_step count first (plain_answer d) document ∷ [])

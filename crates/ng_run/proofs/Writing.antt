@@ -1,11 +1,10 @@
 -- Replies that are put.
-use Rattle.std.proofs.Common.{◌≡◌, ◌≢◌, ◌≤◌, ℕ, List, [], ◌∷◌, ◌++◌, length, take, refl, ap, sym, ◌∙◌, subst, Option, None, arith, append-nil}
+use Rattle.std.proofs.Common.{◌≡◌, ◌≢◌, ℕ, List, length, refl, ap, sym, ◌∙◌, subst, Option, None, arith, append-nil}
 use Rattle.std.proofs.lemmas.List.{take_all}
 use Rattle.std.specs.List.{concat}
 use Rattle.std.specs.Io.KnownBytes.{Appends}
 use Rattle.ng_base.specs.Outside.{TookAll, StopsAtFailure}
-use Rattle.ng_page.specs.declared.page.Page.{Page}
-use Rattle.ng_run.specs.ReplyOf.{IsReply, Leaves}
+use Rattle.ng_run.specs.ReplyOf.{IsReply}
 use Rattle.ng_run.specs.Run.{Puts}
 use Rattle.ng_run.specs.Session.{Reply, reply_bytes}
 use Rattle.ng_run.specs.declared.reply.Reply as code_reply

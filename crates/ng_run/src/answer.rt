@@ -37,8 +37,7 @@ fn usage(alloc: Global) -> Result<Reply, AllocError>
 {
     let text = Vec::from_slice(
         alloc,
-        "usage: ngrun [--trace] [--patches] [--static] TEMPLATE APP [SCRIPT] or ngrun --load N"
-            .as_bytes(),
+        "usage: ngrun [--trace] [--patches] [--static] TEMPLATE APP [SCRIPT] or ngrun --load N".as_bytes(),
     )?;
     line(2, text)
 }

@@ -63,18 +63,24 @@ impl Refusal {
         ensures { result ≡ None → is_want self.now ≡ false }
     {
         match self {
-            Refusal::Document(HtmlFault {
-                kind: HtmlKind::Memory(memory),
-                ..
-            }) => Some(*memory),
-            Refusal::Application(AppFault {
-                kind: AppKind::Memory(memory),
-                ..
-            }) => Some(*memory),
-            Refusal::Template(TplFault {
-                kind: TplKind::Memory(memory),
-                ..
-            }) => Some(*memory),
+            Refusal::Document(
+                HtmlFault {
+                    kind: HtmlKind::Memory(memory),
+                    ..
+                },
+            ) => Some(*memory),
+            Refusal::Application(
+                AppFault {
+                    kind: AppKind::Memory(memory),
+                    ..
+                },
+            ) => Some(*memory),
+            Refusal::Template(
+                TplFault {
+                    kind: TplKind::Memory(memory),
+                    ..
+                },
+            ) => Some(*memory),
             _ => None,
         }
     }

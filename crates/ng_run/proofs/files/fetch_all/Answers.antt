@@ -1,8 +1,6 @@
 use Rattle.std.proofs.Common.{◌∙◌, subst}
 use Rattle.ng_run.specs.Files.{Brings, too_long, bytes}
 use Rattle.ng_run.specs.ReplyOf.{file_of, inputs_of, got_of}
-use Rattle.ng_run.specs.declared.files.Got.{Got}
-use Rattle.ng_run.specs.declared.files.Got.TheVariants as got
 use Rattle.ng_run.proofs.Fetching.{came, ran_over}
 use Rattle.ng_run.proofs.files.fetch_all.Goals as goal
 

@@ -1,4 +1,4 @@
-use Rattle.std.proofs.Common.{◌≡◌, ap, sym, ◌∙◌, subst}
+use Rattle.std.proofs.Common.{sym, ◌∙◌, subst}
 use Rattle.std.specs.Io.KnownBytes.{Appends}
 use Rattle.ng_base.specs.Outside.{TookAll, StopsAtFailure}
 use Rattle.ng_run.specs.Run.{Causes}
@@ -29,8 +29,25 @@ returns-in-Ok-put_all-clause-put_failed g c e =
     let q = c.in-Ok.ensures in
     absurd ((reply_put _ _ _ _ q.0 q.1).0 (sym q.2.status ∙ e))
 
-pub returns-clause-session : goal.returns-clause-session
-returns-clause-session g c n i tells same =
+pub returns-in-Ok-put_all-clause-unwritten : goal.returns-in-Ok-put_all-clause-unwritten
+returns-in-Ok-put_all-clause-unwritten g c e =
+    let q = c.in-Ok.ensures in
+    absurd ((reply_put _ _ _ _ q.0 q.1).1 (sym q.2.status ∙ e))
+
+pub returns-in-Ok-put_all-clause-page : goal.returns-in-Ok-put_all-clause-page
+returns-in-Ok-put_all-clause-page g c =
+    let q = c.in-Ok.ensures in
+    reply_page _ _ _ _ q.0 c.in-Ok.reply.page c.in-Ok.reply.status q.1 q.2.page q.2.status
+
+pub returns-in-Err-put_all-clause-written : goal.returns-in-Err-put_all-clause-written
+returns-in-Err-put_all-clause-written g c n =
+    let q = c.in-Ok.ensures in
+    let part = subst (λ b. TookAll (g.K.Sink.taken c.args.sink.now) (g.K.Sink.taken c.put_all.new.sink) b) c.as_slice.ensures.value c.in-Err-put_all.ensures.part in
+    let stops = subst (λ b. StopsAtFailure g.K.Sink.taken g.K.Sink.faults c.args.sink.now c.put_all.new.sink b) c.as_slice.ensures.value c.in-Err-put_all.ensures.stops in
+    (q.0, q.1, put_stopped g.K.Sink.taken g.K.Sink.faults c.args.sink.now c.put_all.new.sink c.in-Ok.reply q.0 q.2 part stops)
+
+pub returns-in-Err-put_all-clause-session : goal.returns-in-Err-put_all-clause-session
+returns-in-Err-put_all-clause-session g c n i tells same =
     let q = c.in-Ok.ensures in
     let part = subst (λ b. TookAll (g.K.Sink.taken c.args.sink.now) (g.K.Sink.taken c.put_all.new.sink) b) c.as_slice.ensures.value c.in-Err-put_all.ensures.part in
     let stops = subst (λ b. StopsAtFailure g.K.Sink.taken g.K.Sink.faults c.args.sink.now c.put_all.new.sink b) c.as_slice.ensures.value c.in-Err-put_all.ensures.stops in
