@@ -1,13 +1,13 @@
 -- A node that is found stands in the document.
-use Rattle.std.proofs.Common.{◌≡◌, ℕ, zero, suc, Bool, true, false, List, [], ◌∷◌, ◌++◌, Option, Some, None, refl, ap, ◌∙◌, sym, cond}
+use Rattle.std.proofs.Common.{◌≡◌, ℕ, zero, suc, Bool, true, false, List, [], ◌∷◌, ◌++◌, Option, Some, None, refl, sym, cond}
 use Rattle.std.specs.Prelude.{◌==◌, option_map}
 use Rattle.std.proofs.lemmas.Bool.{eqb-false, ne_eqb}
 use Rattle.ng_dom.specs.Nodes.{NamedNode, NamedForest, NamedGroups, named_text, named_comment, named_element, named_anchor, nothing_named, named_then, no_groups, group_then, name_of}
 use Rattle.ng_dom.specs.Lists.{among}
 use Rattle.ng_dom.specs.Removal.{SparesInside, Spares, SparesGroups}
 use Rattle.ng_dom.specs.Asked.{has_id, node_with_id, first_with_id, group_with_id, first_of_two}
-use Rattle.ng_dom.specs.Printed.{level_node, level, level_groups, inner, nth_of, went, at_place}
-use Rattle.ng_dom.specs.Paths.{under, or_from, way_node, way, way_groups, downwards, path_in, StandsIn}
+use Rattle.ng_dom.specs.Printed.{level_node, level, level_groups, inner, nth_of, went}
+use Rattle.ng_dom.specs.Paths.{under, or_from, way_node, way, way_groups, StandsIn}
 use Rattle.ng_dom.specs.Laws.{PlacesStand, FoundStand}
 use Rattle.ng_dom.specs.declared.paths.Way.{Way}
 use Rattle.ng_dom.specs.declared.paths.Way.TheVariants.{Reached, Passed}

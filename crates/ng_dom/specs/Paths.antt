@@ -1,5 +1,5 @@
 -- The path of a node in what is printed.
-use Rattle.std.specs.Prelude.{ℕ, suc, ◌==◌, ◌≡◌, List, [], ◌∷◌, ◌++◌, reverse, Option, Some, None, IsSome, if◌then◌else◌}
+use Rattle.std.specs.Prelude.{ℕ, suc, ◌==◌, List, [], ◌∷◌, ◌++◌, reverse, Option, Some, None, IsSome, if◌then◌else◌}
 use Rattle.ng_dom.specs.Nodes.{NamedNode, NamedForest, NamedGroups, named_text, named_comment, named_element, named_anchor, nothing_named, named_then, no_groups, group_then}
 use Rattle.ng_dom.specs.declared.paths.Way.{Way}
 use Rattle.ng_dom.specs.declared.paths.Way.TheVariants.{Reached, Passed}

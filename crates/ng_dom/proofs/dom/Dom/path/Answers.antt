@@ -1,4 +1,4 @@
-use Rattle.std.proofs.Common.{◌≡◌, ℕ, List, Some, reverse, ap, sym, ◌∙◌}
+use Rattle.std.proofs.Common.{ℕ, List, Some, reverse, ap, sym, ◌∙◌}
 use Rattle.ng_dom.specs.Paths.{way, downwards}
 use Rattle.ng_dom.proofs.WithId.{read_document}
 use Rattle.ng_dom.proofs.Ways.{path_leads, none_stands}
