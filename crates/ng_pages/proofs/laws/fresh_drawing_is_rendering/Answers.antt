@@ -1,5 +1,0 @@
-use Rattle.ng_pages.proofs.Fresh.{fresh_parts}
-use Rattle.ng_pages.proofs.laws.fresh_drawing_is_rendering.Goals as goal
-
-pub returns : goal.returns
-returns c = λ look now parts fresh. fresh_parts look now fresh parts

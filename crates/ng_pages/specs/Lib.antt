@@ -1,4 +1,0 @@
-pub mod Parts
-pub mod Drawing
-pub mod Nodes
-pub mod Laws
