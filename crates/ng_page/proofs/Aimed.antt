@@ -1,5 +1,5 @@
 -- The node at a path is an element where its room in the table says so.
-use Rattle.std.proofs.Common.{◌≡◌, ℕ, zero, suc, Bool, true, false, List, [], ◌∷◌, ◌++◌, Option, Some, None, ap, ◌∙◌, subst, cond, refl}
+use Rattle.std.proofs.Common.{◌≡◌, ℕ, zero, suc, Bool, List, [], ◌∷◌, ◌++◌, Option, Some, None, ap, ◌∙◌, subst, cond, refl}
 use Rattle.std.specs.Prelude.{option_map, option_and_then}
 use Rattle.ng_dom.specs.Asked.{is_element_shape, is_element_room}
 use Rattle.ng_dom.specs.Nodes.{NamedNode, NamedForest, NamedGroups, named_text, named_comment, named_element, named_anchor, nothing_named, named_then, no_groups, group_then, name_of}

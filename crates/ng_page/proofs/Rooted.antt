@@ -13,11 +13,11 @@ use Rattle.ng_drawing.specs.Drawing.{Rendered, shown_as}
 use Rattle.ng_drawing.specs.Instance as instances
 use Rattle.ng_drawing.specs.Template.{Template}
 use Rattle.ng_link.specs.Shape.{key_on, linked}
-use Rattle.ng_link.specs.Standing.{Standing, IsPage, IsShape}
-use Rattle.ng_link.specs.State.{Page, core_of, table_of, templates_of, page_of, template_at, site_state, site_states, instance_at}
+use Rattle.ng_link.specs.Standing.{IsPage, IsShape}
+use Rattle.ng_link.specs.State.{Page, core_of, templates_of, page_of, template_at, site_state, site_states, instance_at}
 use Rattle.ng_link.specs.declared.works.Works.{Works}
 use Rattle.ng_markup.specs.Forest.{Forest, no_nodes}
-use Rattle.ng_render.specs.OverOf.{StateStands, NamesStand}
+use Rattle.ng_render.specs.OverOf.{NamesStand}
 use Rattle.ng_template.specs.Kept.{Named}
 use Rattle.ng_watch.specs.Table.{Table}
 use Rattle.ng_page.specs.Opening.{first_page, opening_by, opening}
