@@ -6,3 +6,5 @@ pub mod Opened
 pub mod Stages
 pub mod LinkedPage
 pub mod Registered
+pub mod Aimed
+pub mod Rooted

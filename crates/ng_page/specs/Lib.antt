@@ -8,5 +8,7 @@ pub mod Settled
 pub mod Opening
 pub mod Answered
 pub mod PlaceOf
+pub mod Rooted
+pub mod Targets
 pub mod PageOf
 pub mod Laws

@@ -2,7 +2,8 @@
 //!
 //! `App::read` reads the application file: its `data` becomes the properties of the root scope, in the core that the page begins
 //! with. `Page::start` opens a page: it links the template on the root scope, which leaves every watcher unset, and digests
-//! (guide: Scopes, "Integration with the browser event loop"; HTML Compiler). `Page::print` appends the document on one line.
+//! (guide: Scopes, "Integration with the browser event loop"; HTML Compiler). `Page::print` appends the document on one line,
+//! `Page::rendered` computes it afresh, and `Page::find` finds the element that a command is aimed at.
 //!
 //! The contract that the run above uses is that of `Page::start`: the page's state is the one that the plain digest leaves over
 //! the linked template, the document shows what the watchers have kept, and after the answer Ok that is the rendering. `State`

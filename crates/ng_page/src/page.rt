@@ -1,22 +1,30 @@
 //! The page: opened, read and printed.
 ghost use Rattle.std.specs.Prelude.{◌≡◌, ◌<◌, ◌++◌, [], Some, length, option_map, IfOk, OnOk, IfErr, encode_utf8_all};
+ghost use Rattle.std.specs.Option.{IfSome};
+ghost use Rattle.ng_base.specs.Faults.{is_memory};
+ghost use Rattle.ng_base.specs.Meets.{Gives};
 ghost use Rattle.ng_behaviour.specs.ScopeObjects.{AreAmong};
+ghost use Rattle.ng_dom.specs.Document.{Shows};
 ghost use Rattle.ng_dom.specs.Drawing.{none_stand};
+ghost use Rattle.ng_dom.specs.Nodes.{NamedForest};
+ghost use Rattle.ng_dom.specs.Printed.{at_place};
 ghost use Rattle.ng_drawing.specs.Template.{Template};
+ghost use Rattle.ng_html.specs.Seen.{forest_of};
 ghost use Rattle.ng_link.specs.Standing.{IsBare, Standing};
-ghost use Rattle.ng_link.specs.State.{core_of, templates_of, template_at};
+ghost use Rattle.ng_link.specs.State.{core_of, table_of, templates_of, page_of, template_at, instance_at};
 ghost use Rattle.ng_act.specs.Frames.{state_of as core_state};
 ghost use Rattle.ng_drawing.specs.Drawing.{shown_as};
 ghost use Rattle.ng_drawing.specs.InstanceOf.{instance_of};
-ghost use Rattle.ng_markup.specs.Forest.{Forest, print};
+ghost use Rattle.ng_markup.specs.Forest.{Forest as PlainForest, print};
 ghost use Rattle.ng_template.specs.TemplateOf.{template_of};
 ghost use Rattle.ng_page.specs.Answered.{Opened, OpenedShort, WhenOk};
 ghost use Rattle.ng_page.specs.AppOf.{facts};
 ghost use Rattle.ng_page.specs.Opening.{opening, AreTexts};
-ghost use Rattle.ng_page.specs.PageOf.{state_of, Displays, Stands};
 ghost use Rattle.ng_page.specs.PlaceOf.{seen_of, IsStanding};
+ghost use Rattle.ng_page.specs.Rooted.{WorksAreRooted};
 ghost use Rattle.ng_page.specs.Settled.{IsSettled};
 ghost use Rattle.ng_page.specs.State.{shown, instance, rendering};
+ghost use Rattle.ng_page.specs.Targets.{element_name};
 
 use crate::app::App;
 use crate::digesting::digested;
@@ -24,12 +32,15 @@ use crate::engine::Engine;
 use ng_act::core_state::Core;
 use ng_base::fault::{Fault, Memory};
 use ng_base::lists::Words;
-use ng_base::name::{ScopeId, TplId};
+use ng_base::name::{NodeId, ScopeId, TplId};
+use ng_base::path::{Path, Target};
 use ng_digest::log::Report;
 use ng_digest::rounds::DigestFault;
 use ng_dom::dom::Dom;
 use ng_drawing::instance::Instance;
+use ng_html::forest::Forest;
 use ng_link::works::Works;
+use ng_render::render;
 use ng_template::{Templates, Tpl};
 use std::alloc::Global;
 
@@ -37,6 +48,7 @@ use std::alloc::Global;
 #[derive(Drop)]
 pub struct Page {
     engine: Engine,
+    ghost rooted: { WorksAreRooted engine.works },
 }
 
 /// What a call on a page did: how many faults were handed over and the first of them, the digest's answer, and
@@ -82,7 +94,38 @@ fn linked(alloc: Global, t: Tpl, app: App) -> Result<Works, Memory>
     Ok(works)
 }
 
+/// The rendering of the page's instance.
+fn rendered(alloc: Global, works: &Works, i: &Instance) -> Result<Option<Forest>, Fault>
+    requires rooted { WorksAreRooted works.now }
+    requires instance { Some (instance_of i.now) ≡ option_map (instance_at (table_of works.now)) (page_of works.now) }
+    ensures { Gives is_memory (option_map forest_of) (rendering (seen_of works.now [])) result }
+{
+    let core = works.core();
+    render(
+        alloc,
+        works.templates(),
+        TplId(0),
+        &core.store,
+        &core.scopes,
+        i,
+    )
+}
+
+/// The element at a path of the printed document.
+fn element_at(dom: &Dom, path: &Path) -> Option<NodeId>
+    ensures found { (f : NamedForest) → Shows dom.now f → option_map (λ n. n.made.0) result ≡ element_name (at_place path.now f) }
+    ensures slot { IfSome result (λ n. n.slot ≡ 0) }
+{
+    match dom.at(path) {
+        None => None,
+        Some(n) => { if dom.is_element(n) { Some(n) } else { None } }
+    }
+}
+
 impl Page {
+    ghost use Rattle.ng_page.specs.PageOf.{state_of, Displays, Names, Stands};
+    ghost use Rattle.ng_page.specs.Targets.{target_in};
+
     /// Opens a page: links the template on the root scope, and digests (guide: Scopes, "Integration with the browser event
     /// loop"). The outcome has the faults of linking, `NodeLimit` alone, and the digest's answer.
     pub fn start(alloc: Global, t: Tpl, app: App) -> Result<(Page, Outcome), Memory>
@@ -113,7 +156,7 @@ impl Page {
 
     /// Appends the document on one line, without a line feed.
     pub fn print(&self, into: &mut Vec<u8>) -> Result<(), Memory>
-        ensures printed { (f : Forest) → Displays self.now f → OnOk result (into.new.items ≡ into.old.items ++ encode_utf8_all (print f)) }
+        ensures printed { (f : PlainForest) → Displays self.now f → OnOk result (into.new.items ≡ into.old.items ++ encode_utf8_all (print f)) }
         ensures refused { IfErr result (λ e. e ≡ Memory.Refused) }
     {
         self.engine.works.dom().print(into)
@@ -136,6 +179,37 @@ impl Page {
         ensures { Stands self.now → IfOk result (λ i. option_map instance_of i ≡ instance (state_of self.now)) }
     {
         self.engine.works.instance()
+    }
+
+    /// The rendering: the document computed afresh over data and scopes, while no watcher and no node is asked (guide: Templates).
+    /// Where nothing is linked it is empty.
+    pub fn rendered(&self) -> Result<Option<Forest>, Fault>
+        ensures { Gives is_memory (option_map forest_of) (rendering (state_of self.now)) result }
+    {
+        match self.engine.works.instance()? {
+            None => Ok(Some(Forest::new(self.engine.alloc))),
+            Some(i) => rendered(self.engine.alloc, &self.engine.works, &i),
+        }
+    }
+
+    /// The element that a command is aimed at: the first in document order with an `id`, or the one at a path of the printed
+    /// document. There is none where another node stands at the path.
+    pub fn find(&self, t: &Target) -> Option<NodeId>
+        ensures found { (f : NamedForest) → Names self.now f → option_map (λ n. n.made.0) result ≡ target_in t.now f }
+        ensures slot { IfSome result (λ n. n.slot ≡ 0) }
+    {
+        let dom = self.engine.works.dom();
+        match t {
+            Target::Id(id) => dom.by_id(id),
+            Target::Path(path) => element_at(dom, path),
+        }
+    }
+
+    /// The scope of a node. It is the root, since nothing makes a scope for its nodes today.
+    pub fn scope_of(&self, _n: NodeId) -> ScopeId
+        ensures { result.0 ≡ 0 }
+    {
+        self.root()
     }
 
     /// The root scope.
