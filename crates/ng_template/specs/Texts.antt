@@ -1,6 +1,6 @@
 -- A text by itself: its parts, or why it is refused.
 use Rattle.std.specs.Prelude.{ℕ, ◌+◌, Bool, true, false, not, List, [], ◌∷◌, Option, None, Some, Result, Ok, Err, if◌then◌else◌}
-use Rattle.std.specs.List.{list_all, list_any, flat_map}
+use Rattle.std.specs.List.{list_all, flat_map}
 use Rattle.ng_drawing.specs.Template.{Site}
 use Rattle.ng_drawing.specs.Template as template
 use Rattle.ng_drawing.specs.declared.kind.SiteKind.TheVariants as kinds
@@ -10,7 +10,7 @@ use Rattle.ng_view.specs.Purity.{are_pure, all_filters_known}
 use Rattle.ng_template.specs.SiteOf.{site_with}
 use Rattle.ng_template.specs.declared.fault.TplFault.{TplFault}
 use Rattle.ng_template.specs.declared.fault.TplKind.{TplKind}
-use Rattle.ng_template.specs.declared.fault.TplKind.TheVariants.{Expression, UnknownFilter, Impure, Later}
+use Rattle.ng_template.specs.declared.fault.TplKind.TheVariants.{Expression, UnknownFilter, Impure}
 
 abbrev pub refused : TplKind → ℕ → TplFault
 refused kind place = record { place = place; kind = kind }
@@ -25,17 +25,11 @@ abbrev pub is_pure : Piece → Bool
 is_pure (words t) = true
 is_pure (hole once p) = are_pure p
 
--- a hole that begins with `::`
-abbrev pub is_one_time : Piece → Bool
-is_one_time (words t) = false
-is_one_time (hole once p) = once
-
--- what is wrong with the holes of a text: UnknownFilter of all of them, then Impure of all, then what is not built yet
+-- what is wrong with the holes of a text: UnknownFilter of all of them, then Impure of all
 abbrev pub wrong : List Piece → Option TplKind
 wrong ps =
     if not (list_all is_known ps) then Some UnknownFilter
     else if not (list_all is_pure ps) then Some Impure
-    else if list_any is_one_time ps then Some Later
     else None
 
 abbrev pub judged_as : ℕ → Option TplKind → List Piece → Result (List Piece) TplFault
@@ -53,7 +47,7 @@ numbered n [] = []
 numbered n (words t ∷ ps) = template.word t ∷ numbered n ps
 numbered n (hole once p ∷ ps) = template.hole n ∷ numbered (n + 1) ps
 
--- the site of a hole
+-- the site of a hole, which is a one-time binding where the hole begins with `::`
 abbrev pub piece_sites : Piece → List Site
 piece_sites (words t) = []
 piece_sites (hole once p) = site_with kinds.Text once p ∷ []

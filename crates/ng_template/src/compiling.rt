@@ -119,7 +119,7 @@ fn parts_at<'a>(
 
 /// Compiles a document (guide: HTML Compiler). The first refusal in document order stands, at the `<` of its element or
 /// at the first byte of its text: in an element LeftOut, MultiDir, and Later where it has a directive, since none is built yet;
-/// in a text Expression of all its holes, UnknownFilter of all, Impure of all, and Later for a hole that begins with `::`.
+/// in a text Expression of all its holes, UnknownFilter of all, then Impure of all.
 pub fn compile(alloc: Global, s: &Source, r: &Registry, slots: bool) -> Result<Tpl, TplFault>
     ensures template { Gives is_tpl_want template_of (compiled (source_of s.now) r.now slots) result }
     ensures holes { IfOk result (λ t. HolesBelow (length (template_of t).sites) (template_of t).parts) }

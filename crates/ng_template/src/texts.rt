@@ -1,12 +1,12 @@
 //! Texts: their parts and what is wrong with them (guide: Interpolation).
 ghost use Rattle.std.specs.Prelude.{◌≡◌, ◌++◌, ◌∷◌, ◌+◌, ◌≤◌, [], map, length, true, None, IfOk, OnOk};
-ghost use Rattle.std.specs.List.{list_all, list_any};
+ghost use Rattle.std.specs.List.{list_all};
 ghost use Rattle.ng_base.specs.Meets.{Gives};
 ghost use Rattle.ng_interp.specs.Parts.{is_free, piece_of, pieces_on, pieces_in};
 ghost use Rattle.ng_template.specs.Compiles.{site_limit};
 ghost use Rattle.ng_template.specs.Free.{is_tpl_want};
 ghost use Rattle.ng_template.specs.TemplateOf.{sites_of};
-ghost use Rattle.ng_template.specs.Texts.{refused, is_known, is_pure as is_pure_piece, is_one_time, wrong as wrong_with, judged, numbered, sites_in};
+ghost use Rattle.ng_template.specs.Texts.{refused, is_known, is_pure as is_pure_piece, wrong as wrong_with, judged, numbered, sites_in};
 
 use crate::fault::{TplFault, TplKind};
 use crate::known::Known;
@@ -94,20 +94,6 @@ fn are_pure(parts: &[Part]) -> bool
     true
 }
 
-/// Whether a hole begins with `::`.
-fn has_one_time(parts: &[Part]) -> bool
-    ensures { result ≡ list_any is_one_time (map piece_of parts.now) }
-{
-    for part in parts {
-        if let Part::Hole { one_time, .. } = part {
-            if *one_time {
-                return true;
-            }
-        }
-    }
-    false
-}
-
 /// What is wrong with the holes of a text.
 fn wrong(parts: &[Part]) -> Option<TplKind>
     ensures wrong { result ≡ wrong_with (map piece_of parts.now) }
@@ -119,9 +105,6 @@ fn wrong(parts: &[Part]) -> Option<TplKind>
     }
     if !are_pure(parts) {
         return Some(TplKind::Impure);
-    }
-    if has_one_time(parts) {
-        return Some(TplKind::Later);
     }
     None
 }
