@@ -74,7 +74,7 @@ module _ {S K : Type 0} (m : Machine S K) (laws : HasLaws m) where
       let t = drains_plain m laws d c in
       walks_known w i t.2 (λ z j l a. let b = subst (λ y. above m y j ≡ false) t.1 a in cc) (not_fired r.log.round_fires (m.waits r.state) h)
 
-  rounds_known : {p q : Place S K} {cut : Bool} → Rounds m p (Settled cut) q → CarriesOn m laws p → AllKnown q.state
+  pub rounds_known : {p q : Place S K} {cut : Bool} → Rounds m p (Settled cut) q → CarriesOn m laws p → AllKnown q.state
   rounds_known (last_is_clean d) c = quiet_known d c
   rounds_known (one_more d h rest) c = rounds_known rest (round_plain m laws d c).1
 
