@@ -11,3 +11,6 @@ pub mod FirstCore
 pub mod DeadScopes
 pub mod FoundFunctions
 pub mod Announced
+pub mod Opened
+pub mod Acting
+pub mod Others

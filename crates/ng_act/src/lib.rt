@@ -23,6 +23,7 @@
 //! what a fired watch does, are the page's.
 #![tactic(auto)]
 
+mod act;
 pub mod beginning;
 pub mod binding;
 pub mod burying;
@@ -38,4 +39,5 @@ pub mod opening;
 pub mod pending;
 pub mod places;
 pub mod reading;
+pub mod running;
 pub mod scope_calls;
