@@ -12,10 +12,12 @@ ghost use Rattle.ng_parse.specs.ProgramOf.{program};
 ghost use Rattle.ng_view.specs.Evaluation.{LocalsStand};
 ghost use Rattle.ng_write.specs.Making.{value_in};
 
-pub use crate::act::destroy;
-use crate::act::{broadcast_views, emit_views, programmed, run_body};
 use crate::binding::value_in;
+use crate::calling::run_body;
 use crate::core_state::Core;
+pub use crate::emitting::destroy;
+use crate::emitting::{broadcast_views, emit_views};
+use crate::series::programmed;
 use ng_base::fault::{Fault, Memory};
 use ng_base::lists::Values;
 use ng_base::locals::Locals;
