@@ -12,5 +12,5 @@ pub mod DeadScopes
 pub mod FoundFunctions
 pub mod Announced
 pub mod Opened
-pub mod Acting
+pub mod Parts
 pub mod Others

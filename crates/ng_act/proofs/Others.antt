@@ -1,5 +1,5 @@
 -- The tree of an expression, by what it opens to.
-use Rattle.std.proofs.Common.{◌≡◌, ℕ, List, Ok, refl, ap}
+use Rattle.std.proofs.Common.{◌≡◌, ◌∙◌, ℕ, List, Ok, refl, ap, sym}
 use Rattle.ng_base.specs.Views.{ViewTree}
 use Rattle.ng_language.specs.Trees.{Tree, PairTree, member_of, item_of}
 use Rattle.ng_parse.specs.TreeOf.{tree, pair_tree, tree_step, pair_step}
@@ -20,6 +20,13 @@ tree_member t n = fold_out-Expr Tree PairTree tree_step pair_step (exprs.Member 
 pub tree_item : (t : _) (i : _) → tree (exprs.Item t i) ≡ item_of (tree t.value) (tree i.value)
 unfolding out-Expr denote.Hole.Carrier.out
 tree_item t i = fold_out-Expr Tree PairTree tree_step pair_step (exprs.Item t i)
+
+-- an expression by the parts that the code reached
+pub member_is : (e : Expr) (t : _) (n : List ℕ) (x : Expr) → e ≡ exprs.Member t n → x ≡ t.value → tree e ≡ member_of (tree x) n
+member_is e t n x h p = ap tree h ∙ (tree_member t n ∙ ap (λ z. member_of (tree z) n) (sym p))
+
+pub item_is : (e : Expr) (t : _) (i : _) (x y : Expr) → e ≡ exprs.Item t i → x ≡ t.value → y ≡ i.value → tree e ≡ item_of (tree x) (tree y)
+item_is e t i x y h p q = ap tree h ∙ (tree_item t i ∙ (ap (λ z. item_of (tree z) (tree i.value)) (sym p) ∙ ap (λ z. item_of (tree x) (tree z)) (sym q)))
 
 pub made_other : (go : Doing) (sc : ℕ) (w : State → Run ViewTree) (s : State) (e : Expr) → ((n : List ℕ) → e ≡ exprs.Name n → ⊥) → ((t : _) (n : List ℕ) → e ≡ exprs.Member t n → ⊥) → ((t : _) (i : _) → e ≡ exprs.Item t i → ⊥) → made go sc w (tree e) s ≡ w s
 unfolding out-Expr denote.Hole.Carrier.out

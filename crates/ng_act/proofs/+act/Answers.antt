@@ -1,4 +1,4 @@
-use Rattle.std.proofs.Common.{◌≡◌, ◌<◌, ◌≤◌, ◌-◌, ◌+◌, length, map, refl, ap, ◌∙◌, sym, arith, subst, option_map}
+use Rattle.std.proofs.Common.{◌≡◌, ◌<◌, ◌≤◌, ◌-◌, ◌+◌, ℕ, length, map, Some, refl, ap, ◌∙◌, sym, arith, subst, option_map}
 use Rattle.ng_base.specs.Views.{views_list}
 use Rattle.ng_base.specs.ViewOf.{view_of, views_of, field_of}
 use Rattle.ng_base.specs.declared.name.ScopeId.{ScopeId}
@@ -9,14 +9,14 @@ use Rattle.ng_language.specs.Trees.{Trees, trees_from, pairs_from}
 use Rattle.ng_parse.specs.ProgramOf.{program}
 use Rattle.ng_parse.specs.TreeOf.{tree, pair_tree}
 use Rattle.ng_write.proofs.More.{view_more}
-use Rattle.ng_act.specs.Actions.{acted, does, an_emit, a_broadcast, programmed, sweeps}
+use Rattle.ng_act.specs.Actions.{acted, does, an_emit, a_broadcast, programmed, rises, sweeps}
 use Rattle.ng_act.specs.EventOf.{event_of}
 use Rattle.ng_act.specs.Frames.{Acts, state_of}
 use Rattle.ng_act.specs.PlaceOf.{place_of, TargetStands}
 use Rattle.ng_act.specs.State.{with_locals}
 use Rattle.ng_act.specs.Turns.{closed}
-use Rattle.ng_act.proofs.Acting.{all_and, all_ends, all_pushed, call_ends, fields_and, filter_ends, held_same, left_index_ends, left_item_ends, left_member_ends, left_name_ends, made_index_ends, made_item_acts, made_item_ends, made_member_acts, made_member_ends, made_name_ends, ok_then, pairs_end, pairs_put, place_more, bare_kept, entered_less, inside_kept, open_kept, walks_kept, target_more}
-use Rattle.ng_act.proofs.Others.{made_other, reached_other, tree_item, tree_member, whole_called}
+use Rattle.ng_act.proofs.Parts.{all_and, all_ends, all_pushed, call_ends, fields_and, filter_ends, held_same, left_index_ends, left_item_ends, left_member_ends, left_name_ends, made_index_ends, made_item_acts, made_item_ends, made_member_acts, made_member_ends, made_name_ends, ok_then, pairs_end, pairs_put, place_more, bare_kept, entered_less, inside_kept, open_kept, walks_kept, target_more}
+use Rattle.ng_act.proofs.Others.{item_is, made_other, member_is, reached_other, whole_called}
 use Rattle.ng_act.proofs.Opened.{acts_as, body_acts, event_acts, heard_run}
 use Rattle.ng_act.proofs.Steps.{expr_low, pair_low, rise_step, rise_stop, sweep_step}
 use Rattle.ng_act.proofs.Targets.{target_stands, value_target_stands}
@@ -135,20 +135,20 @@ visiting::hear-returns-clause-run t c =
 pub reaching::left-returns-in_err-index-in-Item-clause-run : goal.reaching::left-returns-in_err-index-in-Item-clause-run
 reaching::left-returns-in_err-index-in-Item-clause-run t c =
     left_index_ends place_of c.from_residual-in_err-index-in-Item.result c.in_err-index-in-Item.field-0.0 c.args.core.now.depth c.made-in-Item.new.core.depth c.args.scope.0 (tree c.args.e.now) _ _ (state_of c.args.core.now) (state_of c.made-in-Item.new.core) (state_of c.acted.new.core) (view_of c.in_ok-v-in-Item.v)
-    (ap tree c.in-Item.is ∙ tree_item _ _) c.from_residual-in_err-index-in-Item.ensures.1 c.made-in-Item.ensures.depth c.in_ok-v-in-Item.ensures.run c.in_err-index-in-Item.ensures.run
+    (item_is c.args.e.now c.in-Item.t c.in-Item.i c.deref-in-Item.result.now c.deref-in-Item-2.result.now c.in-Item.is c.deref-in-Item.ensures c.deref-in-Item-2.ensures) c.from_residual-in_err-index-in-Item.ensures.1 c.made-in-Item.ensures.depth c.in_ok-v-in-Item.ensures.run c.in_err-index-in-Item.ensures.run
 
 pub reaching::left-returns-in_err-name-in-Item-clause-run : goal.reaching::left-returns-in_err-name-in-Item-clause-run
 reaching::left-returns-in_err-name-in-Item-clause-run t c =
     left_name_ends place_of c.from_residual-in_err-name-in-Item.result c.in_err-name-in-Item.field-0.0 c.args.core.now.depth c.made-in-Item.new.core.depth c.args.scope.0 (tree c.args.e.now) _ _ (state_of c.args.core.now) (state_of c.made-in-Item.new.core) (state_of c.acted.new.core) (view_of c.in_ok-v-in-Item.v) (view_of c.in_ok-index-in-Item.index)
-    (ap tree c.in-Item.is ∙ tree_item _ _) c.from_residual-in_err-name-in-Item.ensures.1 c.made-in-Item.ensures.depth c.in_ok-v-in-Item.ensures.run c.in_ok-index-in-Item.ensures.run c.in_err-name-in-Item.ensures
+    (item_is c.args.e.now c.in-Item.t c.in-Item.i c.deref-in-Item.result.now c.deref-in-Item-2.result.now c.in-Item.is c.deref-in-Item.ensures c.deref-in-Item-2.ensures) c.from_residual-in_err-name-in-Item.ensures.1 c.made-in-Item.ensures.depth c.in_ok-v-in-Item.ensures.run c.in_ok-index-in-Item.ensures.run c.in_err-name-in-Item.ensures
 
 pub reaching::left-returns-in_err-v-in-Item-clause-run : goal.reaching::left-returns-in_err-v-in-Item-clause-run
 reaching::left-returns-in_err-v-in-Item-clause-run t c =
-    left_item_ends place_of c.from_residual-in_err-v-in-Item.result c.in_err-v-in-Item.field-0.0 (does (64 - c.args.core.now.depth)) c.args.scope.0 (tree c.args.e.now) _ _ (state_of c.args.core.now) (state_of c.made-in-Item.new.core) (ap tree c.in-Item.is ∙ tree_item _ _) c.from_residual-in_err-v-in-Item.ensures.1 c.in_err-v-in-Item.ensures.run
+    left_item_ends place_of c.from_residual-in_err-v-in-Item.result c.in_err-v-in-Item.field-0.0 (does (64 - c.args.core.now.depth)) c.args.scope.0 (tree c.args.e.now) _ _ (state_of c.args.core.now) (state_of c.made-in-Item.new.core) (item_is c.args.e.now c.in-Item.t c.in-Item.i c.deref-in-Item.result.now c.in-Item.i.value c.in-Item.is c.deref-in-Item.ensures refl) c.from_residual-in_err-v-in-Item.ensures.1 c.in_err-v-in-Item.ensures.run
 
 pub reaching::left-returns-in_err-v-in-Member-clause-run : goal.reaching::left-returns-in_err-v-in-Member-clause-run
 reaching::left-returns-in_err-v-in-Member-clause-run t c =
-    left_member_ends place_of c.from_residual-in_err-v-in-Member.result c.in_err-v-in-Member.field-0.0 (does (64 - c.args.core.now.depth)) c.args.scope.0 (tree c.args.e.now) _ _ (state_of c.args.core.now) (state_of c.made.new.core) (ap tree c.in-Member.is ∙ tree_member _ _) c.from_residual-in_err-v-in-Member.ensures.1 c.in_err-v-in-Member.ensures.run
+    left_member_ends place_of c.from_residual-in_err-v-in-Member.result c.in_err-v-in-Member.field-0.0 (does (64 - c.args.core.now.depth)) c.args.scope.0 (tree c.args.e.now) _ _ (state_of c.args.core.now) (state_of c.made.new.core) (member_is c.args.e.now c.in-Member.t c.in-Member.n c.deref.result.now c.in-Member.is c.deref.ensures) c.from_residual-in_err-v-in-Member.ensures.1 c.in_err-v-in-Member.ensures.run
 
 pub reaching::left-returns-in_ok-name-in-Item-clause-stands : goal.reaching::left-returns-in_ok-name-in-Item-clause-stands
 reaching::left-returns-in_ok-name-in-Item-clause-stands t c =
@@ -172,29 +172,29 @@ reaching::made-returns-in_default t c = record {
 pub reaching::made-returns-in_err-index-in-Item-clause-run : goal.reaching::made-returns-in_err-index-in-Item-clause-run
 reaching::made-returns-in_err-index-in-Item-clause-run t c =
     made_index_ends c.from_residual-in_err-index-in-Item.result c.in_err-index-in-Item.field-0.0 c.args.core.now.depth c.made-in-Item.new.core.depth c.args.scope.0 (acted (does (64 - c.args.core.now.depth)) c.args.scope.0 (tree c.args.e.now)) (tree c.args.e.now) _ _ (state_of c.args.core.now) (state_of c.made-in-Item.new.core) (state_of c.acted.new.core) (view_of c.in_ok-v-in-Item.v)
-    (ap tree c.in-Item.is ∙ tree_item _ _) c.from_residual-in_err-index-in-Item.ensures.1 c.made-in-Item.ensures.depth c.in_ok-v-in-Item.ensures.run c.in_err-index-in-Item.ensures.run
+    (item_is c.args.e.now c.in-Item.t c.in-Item.i c.deref-in-Item.result.now c.deref-in-Item-2.result.now c.in-Item.is c.deref-in-Item.ensures c.deref-in-Item-2.ensures) c.from_residual-in_err-index-in-Item.ensures.1 c.made-in-Item.ensures.depth c.in_ok-v-in-Item.ensures.run c.in_err-index-in-Item.ensures.run
 
 pub reaching::made-returns-in_err-name-in-Item-clause-run : goal.reaching::made-returns-in_err-name-in-Item-clause-run
 reaching::made-returns-in_err-name-in-Item-clause-run t c =
     made_name_ends c.from_residual-in_err-name-in-Item.result c.in_err-name-in-Item.field-0.0 c.args.core.now.depth c.made-in-Item.new.core.depth c.args.scope.0 (acted (does (64 - c.args.core.now.depth)) c.args.scope.0 (tree c.args.e.now)) (tree c.args.e.now) _ _ (state_of c.args.core.now) (state_of c.made-in-Item.new.core) (state_of c.acted.new.core) (view_of c.in_ok-v-in-Item.v) (view_of c.in_ok-index-in-Item.index)
-    (ap tree c.in-Item.is ∙ tree_item _ _) c.from_residual-in_err-name-in-Item.ensures.1 c.made-in-Item.ensures.depth c.in_ok-v-in-Item.ensures.run c.in_ok-index-in-Item.ensures.run c.in_err-name-in-Item.ensures
+    (item_is c.args.e.now c.in-Item.t c.in-Item.i c.deref-in-Item.result.now c.deref-in-Item-2.result.now c.in-Item.is c.deref-in-Item.ensures c.deref-in-Item-2.ensures) c.from_residual-in_err-name-in-Item.ensures.1 c.made-in-Item.ensures.depth c.in_ok-v-in-Item.ensures.run c.in_ok-index-in-Item.ensures.run c.in_err-name-in-Item.ensures
 
 pub reaching::made-returns-in_err-v-in-Item-clause-run : goal.reaching::made-returns-in_err-v-in-Item-clause-run
 reaching::made-returns-in_err-v-in-Item-clause-run t c =
-    made_item_ends c.from_residual-in_err-v-in-Item.result c.in_err-v-in-Item.field-0.0 (does (64 - c.args.core.now.depth)) c.args.scope.0 (acted (does (64 - c.args.core.now.depth)) c.args.scope.0 (tree c.args.e.now)) (tree c.args.e.now) _ _ (state_of c.args.core.now) (state_of c.made-in-Item.new.core) (ap tree c.in-Item.is ∙ tree_item _ _) c.from_residual-in_err-v-in-Item.ensures.1 c.in_err-v-in-Item.ensures.run
+    made_item_ends c.from_residual-in_err-v-in-Item.result c.in_err-v-in-Item.field-0.0 (does (64 - c.args.core.now.depth)) c.args.scope.0 (acted (does (64 - c.args.core.now.depth)) c.args.scope.0 (tree c.args.e.now)) (tree c.args.e.now) _ _ (state_of c.args.core.now) (state_of c.made-in-Item.new.core) (item_is c.args.e.now c.in-Item.t c.in-Item.i c.deref-in-Item.result.now c.in-Item.i.value c.in-Item.is c.deref-in-Item.ensures refl) c.from_residual-in_err-v-in-Item.ensures.1 c.in_err-v-in-Item.ensures.run
 
 pub reaching::made-returns-in_err-v-in-Member-clause-run : goal.reaching::made-returns-in_err-v-in-Member-clause-run
 reaching::made-returns-in_err-v-in-Member-clause-run t c =
-    made_member_ends c.from_residual.result c.in_err-v-in-Member.field-0.0 (does (64 - c.args.core.now.depth)) c.args.scope.0 (acted (does (64 - c.args.core.now.depth)) c.args.scope.0 (tree c.args.e.now)) (tree c.args.e.now) _ _ (state_of c.args.core.now) (state_of c.made.new.core) (ap tree c.in-Member.is ∙ tree_member _ _) c.from_residual.ensures.1 c.in_err-v-in-Member.ensures.run
+    made_member_ends c.from_residual.result c.in_err-v-in-Member.field-0.0 (does (64 - c.args.core.now.depth)) c.args.scope.0 (acted (does (64 - c.args.core.now.depth)) c.args.scope.0 (tree c.args.e.now)) (tree c.args.e.now) _ _ (state_of c.args.core.now) (state_of c.made.new.core) (member_is c.args.e.now c.in-Member.t c.in-Member.n c.deref.result.now c.in-Member.is c.deref.ensures) c.from_residual.ensures.1 c.in_err-v-in-Member.ensures.run
 
 pub reaching::made-returns-in_ok-name-in-Item-clause-run : goal.reaching::made-returns-in_ok-name-in-Item-clause-run
 reaching::made-returns-in_ok-name-in-Item-clause-run t c =
     made_item_acts c.make_member-in-Item.result c.args.core.now.depth c.made-in-Item.new.core.depth c.args.scope.0 (acted (does (64 - c.args.core.now.depth)) c.args.scope.0 (tree c.args.e.now)) (tree c.args.e.now) _ _ c.in_ok-name-in-Item.name (state_of c.args.core.now) (state_of c.made-in-Item.new.core) (state_of c.acted.new.core) (state_of c.make_member-in-Item.new.core) (view_of c.in_ok-v-in-Item.v) (view_of c.in_ok-index-in-Item.index)
-    (ap tree c.in-Item.is ∙ tree_item _ _) c.made-in-Item.ensures.depth c.in_ok-v-in-Item.ensures.run c.in_ok-index-in-Item.ensures.run c.in_ok-name-in-Item.ensures c.make_member-in-Item.ensures.run
+    (item_is c.args.e.now c.in-Item.t c.in-Item.i c.deref-in-Item.result.now c.deref-in-Item-2.result.now c.in-Item.is c.deref-in-Item.ensures c.deref-in-Item-2.ensures) c.made-in-Item.ensures.depth c.in_ok-v-in-Item.ensures.run c.in_ok-index-in-Item.ensures.run c.in_ok-name-in-Item.ensures c.make_member-in-Item.ensures.run
 
 pub reaching::made-returns-in_ok-v-in-Member-clause-run : goal.reaching::made-returns-in_ok-v-in-Member-clause-run
 reaching::made-returns-in_ok-v-in-Member-clause-run t c =
-    made_member_acts c.make_member.result (does (64 - c.args.core.now.depth)) c.args.scope.0 (acted (does (64 - c.args.core.now.depth)) c.args.scope.0 (tree c.args.e.now)) (tree c.args.e.now) _ _ (state_of c.args.core.now) (state_of c.made.new.core) (state_of c.make_member.new.core) (view_of c.in_ok-v-in-Member.v) (ap tree c.in-Member.is ∙ tree_member _ _) c.in_ok-v-in-Member.ensures.run c.make_member.ensures.run
+    made_member_acts c.make_member.result (does (64 - c.args.core.now.depth)) c.args.scope.0 (acted (does (64 - c.args.core.now.depth)) c.args.scope.0 (tree c.args.e.now)) (tree c.args.e.now) _ _ (state_of c.args.core.now) (state_of c.made.new.core) (state_of c.make_member.new.core) (view_of c.in_ok-v-in-Member.v) (member_is c.args.e.now c.in-Member.t c.in-Member.n c.deref.result.now c.in-Member.is c.deref.ensures) c.in_ok-v-in-Member.ensures.run c.make_member.ensures.run
 
 pub reaching::reached-item_called-requires : goal.reaching::reached-item_called-requires
 reaching::reached-item_called-requires t c =
@@ -237,8 +237,9 @@ emitting::rise-loop-i-preserved t c = record {
 
 pub emitting::rise-returns-then-is_stopped-clause-run : goal.emitting::rise-returns-then-is_stopped-clause-run
 emitting::rise-returns-then-is_stopped-clause-run t c =
-    rise_stop c.args.core.now.depth c.loop-i.core.depth (c.count-i-end.result - c.loop-i._i) (c.count-i-end.result - (c.loop-i._i + 1)) c.in-Some.at.0 (event_of c.args.e.now) (option_map (λ (s : ScopeId). s.0) c.loop-i.next) (state_of c.loop-i.core) (state_of c.visit.new.core) _
-    (omega arith) (ap (option_map (λ (s : ScopeId). s.0)) c.in-Some.is) c.loop-i.invariant.depth c.in_ok-visit-in-Some.ensures.run (sym c.if-is_stopped.ensures) c.loop-i.invariant.same
+    (rise_stop c.args.core.now.depth c.loop-i.core.depth (c.count-i-end.result - c.loop-i._i) (c.count-i-end.result - (c.loop-i._i + 1)) c.in-Some.at.0 (event_of c.args.e.now) (option_map (λ (s : ScopeId). s.0) c.loop-i.next) (state_of c.loop-i.core) (state_of c.visit.new.core) _
+    (omega arith) (ap (option_map (λ (s : ScopeId). s.0)) c.in-Some.is) c.loop-i.invariant.depth c.in_ok-visit-in-Some.ensures.run (sym c.if-is_stopped.ensures) c.loop-i.invariant.same)
+    ∙ ap (λ (k : ℕ). rises k (does (64 - c.args.core.now.depth)) (event_of c.args.e.now) (Some c.args.scope.0) (state_of c.args.core.now)) c.count-i-end.ensures
 
 pub calling::run_body-returns-clause-run : goal.calling::run_body-returns-clause-run
 calling::run_body-returns-clause-run t c =
