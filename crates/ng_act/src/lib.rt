@@ -7,9 +7,10 @@
 //! died, doesn't run. A listener's fault is handed over, and the walk goes on.
 //!
 //! Each function of the code has its definition as its contract: it leaves the state and gives the value or the fault that the
-//! definition says, want of memory apart; every walk over listeners that was open stays open at its place, as many bodies and
-//! events are open as before, and what holds of a core holds after it. [`core_state::Core`] keeps what programs leave for the
-//! digest: tasks, probes, and what the watchers are to become. A command sets the count of bodies to 0.
+//! definition says, want of memory apart; every walk over listeners that was
+//! open stays open at its place, as many bodies and events are open as before, and what holds of a core holds after it.
+//! [`core_state::Core`] keeps what programs leave for the digest: tasks, probes, and what the watchers are to become. A command
+//! sets the count of bodies to 0.
 //!
 //! In reading order: `core_state` and `pending` have the core, `beginning` the one that a page begins with, `growing` the
 //! scopes that a page adds, `called` what a call calls, `callees` what a function does, `reading` the programs that are
