@@ -8,16 +8,15 @@ use Rattle.ng_write.proofs.Only.{only_name}
 use Rattle.ng_act.specs.Actions.{does, a_broadcast, buried, destroys}
 use Rattle.ng_act.specs.Laws.{GoneLaw, NameLaw, DestroyLaw}
 use Rattle.ng_act.specs.State.{State, handed}
-use Rattle.ng_act.proofs.Later.{Later}
-use Rattle.ng_act.proofs.LaterPrograms.{does-later}
+use Rattle.ng_act.proofs.Thinner.{Thinner, does-thinner}
 
 pub gone_law : GoneLaw
-gone_law room a s i k h n = let l : Later s.heard (does room a s).0.heard = does-later room a s in l.gone i k h n
+gone_law room a s i k h n = let l : Thinner s (does room a s).0 = does-thinner room a s in l.later.gone i k h n
 
 pub name_law : NameLaw
 name_law scope name t s = only_name s.objects (object_at s.scopes scope) s.locals name (value_in t)
 
-if_true : (b : Bool) (s t : State) → b ≡ true → (if b then s else t) ≡ s
+pub if_true : (b : Bool) (s t : State) → b ≡ true → (if b then s else t) ≡ s
 if_true true s t e = refl
 if_true false s t e = absurd (cc)
 

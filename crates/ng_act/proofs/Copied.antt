@@ -5,8 +5,9 @@ use Rattle.ng_behaviour.specs.Listeners.{Listener, stands_at, heard_at, RiseTo}
 use Rattle.ng_act.specs.Actions.{Doing, Event, takes_turn, turns, upfrom, does}
 use Rattle.ng_act.specs.Laws.{EventLaw}
 use Rattle.ng_act.specs.State.{State}
-use Rattle.ng_act.proofs.Later.{Later, IsThinning, turn-later}
-use Rattle.ng_act.proofs.LaterPrograms.{does-later}
+use Rattle.ng_act.proofs.Later.{Later}
+use Rattle.ng_act.proofs.Programs.{IsKept, turn-kept}
+use Rattle.ng_act.proofs.Thinner.{Thinner, thinner, does-thinner}
 use Rattle.ng_act.proofs.Turns.{turn-none}
 
 stands-low : (es : List (ℕ × Listener)) (j n r : ℕ) → RiseTo j n es → r ≤ j → stands_at es r ≡ None
@@ -22,7 +23,7 @@ near : (a b : ℕ) → (a ≡ b) ⊎ (a ≢ b)
 near a b = grind arith
 
 -- the list that was copied has the turns of all places that were given: those where nobody stands then do nothing
-copied : (go : Doing) → IsThinning go → (e : Event) (sc i n p m : ℕ) (es : List (ℕ × Listener)) (s : State) → m ≡ p + n → RiseTo p m es → m ≤ (heard_at s.heard i).last
+copied : (go : Doing) → IsKept Thinner go → (e : Event) (sc i n p m : ℕ) (es : List (ℕ × Listener)) (s : State) → m ≡ p + n → RiseTo p m es → m ≤ (heard_at s.heard i).last
     → ((r : ℕ) → p < r → r ≤ m → stands_at es r ≡ None → stands_at (heard_at s.heard i).entries r ≡ None) → turns go e sc i (map (λ x. x.0) es) s ≡ turns go e sc i (upfrom p n) s
 copied go th e sc i zero p m [] s q rise low none = refl
 copied go th e sc i zero p m (x ∷ es) s q rise low none = absurd (let a : p < x.0 = rise.0 in let b : x.0 ≤ m = rise.1 in omega arith)
@@ -32,7 +33,7 @@ copied go th e sc i (suc n) p m [] s q rise low none =
 copied go th e sc i (suc n) p m (x ∷ es) s q rise low none = elim (near x.0 (suc p)) [
   | inl here ↦
       let a : p < x.0 = rise.0 in
-      let l : Later s.heard (takes_turn go e sc i (suc p) s).heard = turn-later go th e sc i (suc p) s in
+      let l : Later s.heard (takes_turn go e sc i (suc p) s).heard = (turn-kept Thinner thinner go th e sc i (suc p) s).later in
       let k : (heard_at s.heard i).last ≤ (heard_at (takes_turn go e sc i (suc p) s).heard i).last = l.lasts i in
       ap (λ (h : ℕ). turns go e sc i (map (λ (y : ℕ × Listener). y.0) es) (takes_turn go e sc i h s)) here ∙
       copied go th e sc i n (suc p) m es (takes_turn go e sc i (suc p) s) (omega arith) (rw here at rise.2) (omega arith)
@@ -47,4 +48,4 @@ copied go th e sc i (suc n) p m (x ∷ es) s q rise low none = elim (near x.0 (s
 
 pub event_law : EventLaw
 event_law room e sc i s rise =
-    sym (copied (does room) (does-later room) e sc i (heard_at s.heard i).last 0 (heard_at s.heard i).last (heard_at s.heard i).entries s (omega arith) rise (omega arith) (λ r x y z. z))
+    sym (copied (does room) (does-thinner room) e sc i (heard_at s.heard i).last 0 (heard_at s.heard i).last (heard_at s.heard i).entries s (omega arith) rise (omega arith) (λ r x y z. z))

@@ -3,7 +3,6 @@ pub mod Targets
 pub mod Turns
 pub mod Steps
 pub mod Later
-pub mod LaterPrograms
 pub mod Copied
 pub mod ActLaws
 pub mod MoreScopes
@@ -11,3 +10,14 @@ pub mod FirstCore
 pub mod DeadScopes
 pub mod FoundFunctions
 pub mod Announced
+pub mod Opened
+pub mod Parts
+pub mod Others
+pub mod Grows
+pub mod Programs
+pub mod Silent
+pub mod Whole
+pub mod Plain
+pub mod Buried
+pub mod Thinner
+pub mod Values

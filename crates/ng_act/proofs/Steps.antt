@@ -12,12 +12,12 @@ use Rattle.ng_behaviour.specs.Scopes.{parent_at, path_at, next_scope}
 use Rattle.ng_act.specs.Actions.{Doing, Event, acted, acted_all, acted_pair, acted_pairs, statements, does, rises, sweeps, visits, hushes, hushed}
 use Rattle.ng_act.specs.State.{State, Run, is_stopped}
 
-drop_expr : (ps : List Expr) (i : ℕ) (p : Expr) → i < length ps → p ≡ get_or ps i p → drop i ps ≡ p ∷ drop (suc i) ps
+pub drop_expr : (ps : List Expr) (i : ℕ) (p : Expr) → i < length ps → p ≡ get_or ps i p → drop i ps ≡ p ∷ drop (suc i) ps
 drop_expr [] i p h e = absurd (omega arith)
 drop_expr (q ∷ qs) zero p h e = ap (λ x. x ∷ qs) (sym e)
 drop_expr (q ∷ qs) (suc i) p h e = drop_expr qs i p (omega arith) e
 
-drop_pair : (ps : List Pair) (i : ℕ) (p : Pair) → i < length ps → p ≡ get_or ps i p → drop i ps ≡ p ∷ drop (suc i) ps
+pub drop_pair : (ps : List Pair) (i : ℕ) (p : Pair) → i < length ps → p ≡ get_or ps i p → drop i ps ≡ p ∷ drop (suc i) ps
 drop_pair [] i p h e = absurd (omega arith)
 drop_pair (q ∷ qs) zero p h e = ap (λ x. x ∷ qs) (sym e)
 drop_pair (q ∷ qs) (suc i) p h e = drop_pair qs i p (omega arith) e

@@ -6,8 +6,8 @@
 //! scopes below it; each listener that stood there has one turn, in order, and one that was taken out meanwhile, or whose scope
 //! died, doesn't run. A listener's fault is handed over, and the walk goes on.
 //!
-//! The code has the core and the steps that open no body and no event, each with its definition as its contract: it leaves the
-//! state and gives the value or the fault that the definition says, want of memory apart; every walk over listeners that was
+//! Each function of the code has its definition as its contract: it leaves the state and gives the value or the fault that the
+//! definition says, want of memory apart; every walk over listeners that was
 //! open stays open at its place, as many bodies and events are open as before, and what holds of a core holds after it.
 //! [`core_state::Core`] keeps what programs leave for the digest: tasks, probes, and what the watchers are to become. A command
 //! sets the count of bodies to 0.
@@ -16,19 +16,22 @@
 //! scopes that a page adds, `called` what a call calls, `callees` what a function does, `reading` the programs that are
 //! given as texts, `binding` the values of arguments, `keeping` what is written into the store, `places` what an assignment
 //! writes to, `scope_calls` what scopes register, `burying` the death of a scope, `event_objects` the objects of events,
-//! `opening` bodies, events and walks as they are opened and closed, `leaves` the expressions without parts, and `laws`
-//! what a reader may take from the definitions.
+//! `opening` bodies, events and walks as they are opened and closed, and `leaves` the expressions without parts. Then
+//! `acting`, `reaching`, `series`, `calling`, `emitting` and `visiting` run programs and events, `running` has what the
+//! crates above call, and `laws` what a reader may take from the definitions.
 //!
-//! Not here yet: the walk over a program's tree and over the listeners of an event, which runs these steps. The digest, and
-//! what a fired watch does, are the page's.
+//! The digest, and what a fired watch does, are the page's.
 #![tactic(auto)]
 
+mod acting;
 pub mod beginning;
 pub mod binding;
 pub mod burying;
 pub mod called;
 pub mod callees;
+mod calling;
 pub mod core_state;
+mod emitting;
 pub mod event_objects;
 pub mod growing;
 pub mod keeping;
@@ -37,5 +40,9 @@ pub mod leaves;
 pub mod opening;
 pub mod pending;
 pub mod places;
+mod reaching;
 pub mod reading;
+pub mod running;
 pub mod scope_calls;
+mod series;
+mod visiting;

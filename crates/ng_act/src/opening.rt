@@ -12,6 +12,9 @@ use ng_base::txt::Txt;
 use ng_events::listeners::EventWalk;
 use std::mem::replace;
 
+/// As many bodies and events are open at most.
+pub(crate) const ROOM: u32 = 64;
+
 /// A body more is open, with its own locals. The result are those of the body around it.
 #[tactic(auto, using(crate::proofs::SoundCores::opened))]
 pub fn enter_body(core: &mut Core, locals: Locals) -> Locals
