@@ -31,7 +31,7 @@ use ng_write::events::{EventCall, call_event};
 use std::alloc::Global;
 
 /// Registers a listener under the name of the function that takes it out, which is the value.
-fn listen(core: &mut Core, scope: ScopeId, name: &Txt, p: Program) -> Result<View, Fault>
+pub fn listen(core: &mut Core, scope: ScopeId, name: &Txt, p: Program) -> Result<View, Fault>
     requires sound { IsSound core.old }
     ensures run { Acts view_of result (state_of core.new) (listens scope.0 name.now (trees_of p) (state_of core.old)) }
     ensures sound { IsSound core.new }
@@ -99,7 +99,7 @@ pub fn call_of_event(
 }
 
 /// Declares a watch under the next number: the value is the function that takes it out.
-fn watch_declared(
+pub fn watch_declared(
     core: &mut Core,
     scope: ScopeId,
     kind: SnapKind,
