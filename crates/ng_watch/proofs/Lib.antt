@@ -1,3 +1,4 @@
 pub mod Judging
 pub mod Tables
+pub mod Taking
 pub mod Words
