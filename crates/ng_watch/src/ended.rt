@@ -11,6 +11,7 @@ ghost use Rattle.ng_watch.specs.Seen.{watching_of, watcher_of, WatchStands};
 use crate::testing::value_now;
 use crate::watched::Watched;
 use ng_base::fault::{Fault, Memory};
+use ng_base::txt::Txt;
 use ng_base::value::Value;
 use ng_base::view::View;
 use ng_parse::programs::Program;
@@ -31,13 +32,26 @@ fn is_literal_tree(statement: &Expr) -> bool
 }
 
 /// Whether a program is one array or object literal, and nothing else.
+#[tactic(auto, using(crate::proofs::Literals::sole))]
 fn is_literal(program: &Program) -> bool
     ensures { result ≡ is_literal (trees_of program.now) }
 {
-    match program.statements() {
-        [statement] => is_literal_tree(statement),
-        _ => false,
+    match program.statements().split_first() {
+        None => false,
+        Some((statement, others)) => others.is_empty() && is_literal_tree(statement),
     }
+}
+
+fn views_defined(views: &[View]) -> bool
+    ensures { result ≡ list_all (λ part. not (counts_undefined (view_of part))) views.now }
+{
+    views.iter().all(|part| !is_undefined(part))
+}
+
+fn fields_defined(fields: &[(Txt, View)]) -> bool
+    ensures { result ≡ list_all (λ field. not (counts_undefined (view_of field.1))) fields.now }
+{
+    fields.iter().all(|field| !is_undefined(&field.1))
 }
 
 /// Whether no part of a fresh list or record is undefined.
@@ -46,8 +60,8 @@ fn parts_defined(value: &View) -> bool
 {
     match value {
         View::Prim(_) => true,
-        View::List(views) => views.as_slice().iter().all(|part| !is_undefined(part)),
-        View::Rec(fields) => fields.as_slice().iter().all(|field| !is_undefined(&field.1)),
+        View::List(views) => views_defined(views.as_slice()),
+        View::Rec(fields) => fields_defined(fields.as_slice()),
     }
 }
 
