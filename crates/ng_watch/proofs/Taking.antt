@@ -1,19 +1,19 @@
 -- Rows are taken out by their keys, one after another.
-use Rattle.std.proofs.Common.{◌≡◌, ℕ, Bool, true, false, cond, List, [], ◌∷◌, ◌++◌, Option, Some, None, refl, ap, sym, subst, ◌∙◌, map, length, append_assoc, append-nil}
+use Rattle.std.proofs.Common.{◌≡◌, ℕ, Bool, true, false, cond, List, [], ◌∷◌, ◌++◌, Option, Some, None, refl, ap, sym, subst, ◌∙◌, map, append_assoc, append-nil}
 use Rattle.std.specs.Prelude.{not, option_map}
 use Rattle.std.specs.List.{filter, AllByRecursion, All}
 use Rattle.std.specs.List.Sorted.{IsStrictlySortedBy}
 use Rattle.std.specs.Map.{lookup, lookup_key, remove_entry, keys_of}
-use Rattle.std.specs.Option.{option_to_list, ForSome}
+use Rattle.std.specs.Option.{option_to_list}
 use Rattle.std.specs.Ordering.{is_eq, ordering_reverse}
-use Rattle.std.specs.declared.cmp.Ordering.TheVariants.{Less, Equal, Greater}
+use Rattle.std.specs.declared.cmp.Ordering.TheVariants.{Less}
 use Rattle.std.proofs.lemmas.Cmp.{tied_itself}
 use Rattle.std.proofs.lemmas.List.Elements.{All-weaker}
 use Rattle.std.proofs.lemmas.Map.Keys.{sorted_head, sorted_tail}
 use Rattle.ng_base.specs.declared.path.Key.{Key}
 use Rattle.ng_watch.specs.Keys.{key_cmp, key_cmp_total, is_key}
 use Rattle.ng_watch.specs.Seen.{Watcher, watcher_of, watching_of, WatchStands}
-use Rattle.ng_watch.specs.Table.{Table, entry_of, found, AllStand}
+use Rattle.ng_watch.specs.Table.{Table, entry_of, AllStand}
 use Rattle.ng_watch.specs.declared.watched.Watched.{Watched}
 use Rattle.ng_watch.proofs.Tables.{lookup-seen}
 

@@ -1,5 +1,5 @@
 -- The watchers of a page, in key order (guide: Scopes, "Scope Hierarchies").
-use Rattle.std.specs.Prelude.{ℕ, not, List, [], ◌∷◌, map, find, slice_get, Option, Some, None, option_map, option_and_then, if◌then◌else◌}
+use Rattle.std.specs.Prelude.{ℕ, not, List, [], ◌∷◌, map, find, slice_get, Option, None, option_map, option_and_then, if◌then◌else◌}
 use Rattle.std.specs.List.{filter}
 use Rattle.std.specs.Map.{lookup, remove_entry}
 use Rattle.std.specs.Option.{ForSome}

@@ -197,11 +197,7 @@ impl Watchers {
     }
 
     /// Takes the watchers of a scope, and of those below it, out, and hands them over in key order.
-    pub fn take_under(
-        &mut self,
-        alloc: Global,
-        p: &Path,
-    ) -> Result<Vec<(Key, Watched)>, Memory>
+    pub fn take_under(&mut self, alloc: Global, p: &Path) -> Result<Vec<(Key, Watched)>, Memory>
         ensures taken { IfOk result (λ rows. watchers_of rows.items ≡ under p.now (watchers_of self.old)) }
         ensures removed { OnOk result (watchers_of self.new ≡ without_under p.now (watchers_of self.old)) }
         ensures unchanged { OnErr result (watchers_of self.new ≡ watchers_of self.old) }
@@ -213,11 +209,7 @@ impl Watchers {
     }
 
     /// Takes the one-time watchers whose binding has ended out, and hands them over in key order.
-    pub fn take_over(
-        &mut self,
-        alloc: Global,
-        store: &Store,
-    ) -> Result<Vec<(Key, Watched)>, Memory>
+    pub fn take_over(&mut self, alloc: Global, store: &Store) -> Result<Vec<(Key, Watched)>, Memory>
         requires { AllStand (length store.now) (watchers_of self.old) }
         ensures taken { IfOk result (λ rows. watchers_of rows.items ≡ over store.now (watchers_of self.old)) }
         ensures removed { OnOk result (watchers_of self.new ≡ without_over store.now (watchers_of self.old)) }
@@ -231,8 +223,7 @@ impl Watchers {
     /// Says where a walk stands: calls at this key, or right after it, find it without a search.
     pub fn seek(&mut self, _key: &Key)
         ensures unchanged { self.new ≡ self.old }
-    {
-    }
+    {}
 
     /// The least key.
     pub fn first(&self) -> Option<&Key>

@@ -1,4 +1,4 @@
-use Rattle.std.proofs.Common.{◌≡◌, ◌≤◌, ◌+◌, List, ◌∷◌, ◌++◌, Option, ap, append-nil, arith, drop, length, refl, subst, sym, vec_capacity, vec_len, ◌∙◌}
+use Rattle.std.proofs.Common.{◌≡◌, ◌≤◌, ◌+◌, List, ◌∷◌, ◌++◌, Option, ap, append-nil, arith, drop, refl, subst, sym, vec_capacity, vec_len, ◌∙◌}
 use Rattle.std.specs.List.{filter}
 use Rattle.std.specs.Option.{option_to_list}
 use Rattle.std.proofs.lemmas.List.{drop_all, drop_more}
@@ -26,10 +26,10 @@ push_reserved-requires c = omega (arith, c.loop-key.invariant.room, c.loop-key.i
 pub loop-key-preserved : goal.loop-key-preserved
 loop-key-preserved c =
     let pushed : (vec_capacity c.match-remove_entry.rows ≡ vec_capacity c.loop-key.rows) × (vec_len c.match-remove_entry.rows ≤ vec_len c.loop-key.rows + 1) × (c.match-remove_entry.rows.items ≡ c.loop-key.rows.items ++ option_to_list c.remove_entry.result)
-          = elim c.match-remove_entry.branch [
-              in-Some w ↦ rw w.rows-is (w.push_reserved.ensures.capacity, omega (arith, w.push_reserved.ensures.len), w.push_reserved.ensures.items ∙ ap (λ (r : Option (Key × Watched)). c.loop-key.rows.items ++ option_to_list r) (sym w.in-Some.is))
-            | in_default w ↦ rw (w.rows-is, w.in_default.is) (refl, omega arith, sym (append-nil c.loop-key.rows.items))
-          ] in
+    = elim c.match-remove_entry.branch [
+      | in-Some w ↦ rw w.rows-is (w.push_reserved.ensures.capacity, omega (arith, w.push_reserved.ensures.len), w.push_reserved.ensures.items ∙ ap (λ (r : Option (Key × Watched)). c.loop-key.rows.items ++ option_to_list r) (sym w.in-Some.is))
+      | in_default w ↦ rw (w.rows-is, w.in_default.is) (refl, omega arith, sym (append-nil c.loop-key.rows.items))
+    ] in
     let item = drop_more c.args.keys.now c.loop-key.key-index c.key-item.result c.loop-key-test.true ∙ ap (λ k. k ∷ drop (c.loop-key.key-index + 1) c.args.keys.now) (sym c.key-item.is) in
     record {
       room = pushed.0 ∙ c.loop-key.invariant.room;

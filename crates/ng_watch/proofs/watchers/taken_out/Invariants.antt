@@ -13,5 +13,5 @@ invariant-loop-key l = record {
   room : vec_capacity l.rows ≡ length l.keys;
   filled : vec_len l.rows ≤ l.key-index;
   sorted : IsStrictlySortedBy key_cmp (keys_of l.table.entries);
-  steps : (passes : Key × Watched → Bool) → l.keys ≡ keys_of (filter passes l.initial.table.entries) → HasTaken passes (drop l.key-index l.keys) l.rows.items l.initial.table.entries l.table.entries
+  steps : (passes : Key × Watched → Bool) → l.keys ≡ keys_of (filter passes l.initial.table.entries) → HasTaken passes (drop l.key-index l.keys) l.rows.items l.initial.table.entries l.table.entries;
 }

@@ -1,4 +1,4 @@
-use Rattle.std.proofs.Common.{◌∙◌, ap, sym, map}
+use Rattle.std.proofs.Common.{ap, sym, map}
 use Rattle.ng_watch.specs.Table.{watchers_of, entry_of}
 use Rattle.ng_watch.proofs.Tables.{removed, there}
 use Rattle.ng_watch.proofs.watchers.Watchers.take.Goals as goal

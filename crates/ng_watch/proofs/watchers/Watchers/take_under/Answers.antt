@@ -1,7 +1,6 @@
 use Rattle.std.proofs.Common.{ap, map, ◌∙◌}
 use Rattle.std.specs.Prelude.{not}
 use Rattle.ng_watch.specs.Keys.{begins}
-use Rattle.ng_watch.specs.Seen.{watcher_of}
 use Rattle.ng_watch.specs.Table.{entry_of, watchers_of}
 use Rattle.ng_watch.proofs.Taking.{seen_apart}
 use Rattle.ng_watch.proofs.watchers.Watchers.take_under.Goals as goal
