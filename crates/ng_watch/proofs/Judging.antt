@@ -1,5 +1,5 @@
 -- The verdict of a watcher is that of its snapshot of now.
-use Rattle.std.proofs.Common.{◌≡◌, ◌↔◌, Bool, true, false, cond, not, List, Option, Some, None, Result, Ok, Err, refl, ap, sym, ◌∙◌}
+use Rattle.std.proofs.Common.{◌≡◌, Bool, true, false, cond, not, List, Option, Some, None, Result, Ok, Err, refl, ap, sym, ◌∙◌}
 use Rattle.ng_base.specs.Meets.{◌>>=◌}
 use Rattle.ng_base.specs.Objects.{Object}
 use Rattle.ng_base.specs.Views.{ViewTree}
@@ -10,7 +10,7 @@ use Rattle.ng_watch.specs.Laws.{is_two_way, CleanHasKept, FaultsAreOfNow, KeptIs
 use Rattle.ng_watch.specs.Now.{value_now, snapshot_of, now}
 use Rattle.ng_watch.specs.Seen.{Watcher}
 use Rattle.ng_watch.specs.Table.{keeping}
-use Rattle.ng_watch.specs.Verdicts.{Judged, clean, dirty, against, verdict_of, verdict}
+use Rattle.ng_watch.specs.Verdicts.{clean, dirty, against, verdict_of, verdict}
 use Rattle.ng_watch.specs.declared.watch.WatchKind.{WatchKind}
 use Rattle.ng_watch.specs.declared.watch.WatchKind.TheVariants as kinds
 

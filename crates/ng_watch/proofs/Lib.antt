@@ -1,3 +1,5 @@
 pub mod Judging
+pub mod Literals
 pub mod Tables
+pub mod Taking
 pub mod Words

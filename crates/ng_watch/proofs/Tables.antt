@@ -1,5 +1,5 @@
 -- A table of watches and what contracts see of it change alike.
-use Rattle.std.proofs.Common.{◌≡◌, ℕ, Bool, true, false, cond, Bor, List, [], ◌∷◌, ◌++◌, Option, Some, None, refl, ap, sym, ◌∙◌, map, length, rules, arith}
+use Rattle.std.proofs.Common.{◌≡◌, ℕ, Bool, true, false, cond, Bor, List, [], ◌∷◌, Option, Some, None, refl, ap, sym, ◌∙◌, map}
 use Rattle.std.specs.Prelude.{IsSome, is_some, IfSome, not, ◌&&◌, option_copied, find, option_map, slice_get}
 use Rattle.std.specs.List.{filter}
 use Rattle.std.specs.Map.{lookup, remove_entry, set_value, keys_of}
@@ -7,14 +7,14 @@ use Rattle.std.specs.BTreeMap.{insert_entry}
 use Rattle.std.specs.BTreeMap.Range.{entries_between}
 use Rattle.std.specs.declared.ops.Bound.TheVariants.{Excluded, Unbounded}
 use Rattle.std.specs.List.Sorted.{IsStrictlySortedBy}
-use Rattle.std.specs.Ordering.{is_eq, is_lt, match_ordering}
+use Rattle.std.specs.Ordering.{is_eq, match_ordering}
 use Rattle.std.specs.declared.cmp.Ordering.{Ordering}
 use Rattle.std.specs.declared.cmp.Ordering.TheVariants.{Less, Equal, Greater}
 use Rattle.ng_base.specs.declared.path.Key.{Key}
 use Rattle.ng_base.specs.contracts.path.KeyOrd.TheImpl as ordered
 use Rattle.std.proofs.lemmas.Cmp.{tied_itself}
 use Rattle.ng_watch.specs.Keys.{key_cmp, key_cmp_total, is_key, is_above, begins}
-use Rattle.ng_watch.specs.Seen.{Watching, Watcher, watcher_of, watching_of}
+use Rattle.ng_watch.specs.Seen.{Watcher, watcher_of, watching_of}
 use Rattle.ng_watch.specs.Table.{Table, entry_of, found, keeping, with_kept, with_watch, without_watch, without_under, first_key, key_after}
 use Rattle.ng_watch.specs.declared.watched.Watched.{Watched}
 use Rattle.ng_value.specs.Snaps.{snap_of}

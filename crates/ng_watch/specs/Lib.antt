@@ -3,4 +3,5 @@ pub mod Seen
 pub mod Table
 pub mod Now
 pub mod Verdicts
+pub mod Ended
 pub mod Laws

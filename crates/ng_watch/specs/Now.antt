@@ -1,5 +1,5 @@
 -- What a watcher would keep now (guide: Scopes, "Scope `$watch` Depths").
-use Rattle.std.specs.Prelude.{ℕ, List, [], map, Option, Some, None, Result, Ok}
+use Rattle.std.specs.Prelude.{ℕ, List, [], map, Result, Ok}
 use Rattle.ng_base.specs.Meets.{◌>>=◌}
 use Rattle.ng_base.specs.Objects.{Object}
 use Rattle.ng_base.specs.Views.{ViewTree, prim, list, rec, views_from}

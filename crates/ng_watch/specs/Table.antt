@@ -1,12 +1,13 @@
 -- The watchers of a page, in key order (guide: Scopes, "Scope Hierarchies").
-use Rattle.std.specs.Prelude.{ℕ, not, List, [], ◌∷◌, map, find, slice_get, Option, Some, None, option_map, option_and_then, if◌then◌else◌}
+use Rattle.std.specs.Prelude.{ℕ, not, List, [], ◌∷◌, map, find, slice_get, Option, None, option_map, option_and_then, if◌then◌else◌}
 use Rattle.std.specs.List.{filter}
 use Rattle.std.specs.Map.{lookup, remove_entry}
+use Rattle.std.specs.Option.{ForSome}
 use Rattle.std.specs.BTreeMap.{insert_entry}
 use Rattle.ng_base.specs.Views.{ViewTree}
 use Rattle.ng_base.specs.declared.path.Key.{Key}
 use Rattle.ng_watch.specs.Keys.{key_cmp, is_key, is_above, begins}
-use Rattle.ng_watch.specs.Seen.{Watching, Watcher, watcher_of}
+use Rattle.ng_watch.specs.Seen.{Watching, Watcher, watcher_of, WatchStands}
 use Rattle.ng_watch.specs.declared.watched.Watched.{Watched}
 
 -- keys with their watchers
@@ -36,6 +37,10 @@ with_watch k w t = insert_entry key_cmp t k (record { watch = w; kept = None })
 abbrev pub without_watch : Key → Table → Table
 without_watch k t = remove_entry (is_key k) t
 
+-- the watchers of a scope and of those below it
+abbrev pub under : List ℕ → Table → Table
+under p t = filter (λ e. begins p e.0.path) t
+
 -- without the watchers of a scope and of those below it
 abbrev pub without_under : List ℕ → Table → Table
 without_under p t = filter (λ e. not (begins p e.0.path)) t
@@ -55,3 +60,7 @@ keeping s w = record { watch = w.watch; kept = s }
 abbrev pub with_kept : Key → Option ViewTree → Table → Table
 with_kept k s [] = []
 with_kept k s (e ∷ es) = if is_key k e.0 then (e.0, keeping s e.1) ∷ es else e ∷ with_kept k s es
+
+-- the objects that the watchers name are among so many
+abbrev pub AllStand : ℕ → Table → Type 0
+AllStand count t = (k : Key) → ForSome (found k t) (λ w. WatchStands count w.watch)

@@ -24,8 +24,9 @@
 #![tactic(auto)]
 
 mod bindings;
+mod ended;
 pub mod laws;
 mod testing;
 pub mod watch;
-mod watched;
+pub mod watched;
 pub mod watchers;

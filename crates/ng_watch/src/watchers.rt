@@ -1,5 +1,8 @@
 //! The watchers of a page, by their keys.
-ghost use Rattle.std.specs.Prelude.{◌≡◌, [], Some, None, IsSome, is_some, option_map, length, OnOk, OnErr, IfErr, IfSome, option_copied};
+ghost use Rattle.std.specs.Prelude.{◌≡◌, [], Some, None, IsSome, is_some, option_map, length, OnOk, OnErr, IfErr, IfOk, IfSome, option_copied, not, Bool};
+ghost use Rattle.std.specs.List.{filter};
+ghost use Rattle.ng_base.specs.declared.path.Key.{Key as Name};
+ghost use Rattle.ng_watch.specs.declared.watched.Watched.{Watched as Row};
 ghost use Rattle.std.specs.List.Sorted.{IsStrictlySortedBy};
 ghost use Rattle.std.specs.Map.{keys_of};
 ghost use Rattle.std.specs.Option.{ForSome};
@@ -7,10 +10,12 @@ ghost use Rattle.ng_base.specs.Faults.{is_memory};
 ghost use Rattle.ng_base.specs.Meets.{Gives};
 ghost use Rattle.ng_value.specs.Snaps.{snap_of};
 ghost use Rattle.ng_watch.specs.Keys.{key_cmp, begins};
-ghost use Rattle.ng_watch.specs.Seen.{watching_of, WatchStands};
-ghost use Rattle.ng_watch.specs.Table.{watchers_of, found, kept_at, with_watch, without_watch, without_under, first_key, key_after, with_kept};
+ghost use Rattle.ng_watch.specs.Ended.{is_over, over, without_over};
+ghost use Rattle.ng_watch.specs.Seen.{watching_of, watcher_of, WatchStands};
+ghost use Rattle.ng_watch.specs.Table.{watchers_of, found, kept_at, with_watch, without_watch, under, without_under, first_key, key_after, with_kept, AllStand};
 ghost use Rattle.ng_watch.specs.Verdicts.{judged_of, verdict};
 
+use crate::ended::is_over;
 use crate::testing::verdict;
 use crate::watch::{Verdict, Watch};
 use crate::watched::{Watched, forget};
@@ -18,7 +23,7 @@ use ng_base::fault::{Fault, Memory};
 use ng_base::path::{Key, Path};
 use ng_store::store::Store;
 use ng_value::snapshot::Snap;
-use std::alloc::Global;
+use std::alloc::{AllocError, Global};
 use std::collections::BTreeMap;
 use std::marker::Model;
 use std::ops::Bound;
@@ -74,6 +79,73 @@ fn least_above<'a>(table: &'a BTreeMap<Key, Watched>, key: &Key) -> Option<&'a K
     Some(next)
 }
 
+/// A copy of a key.
+fn copied(key: &Key) -> Result<Key, AllocError>
+    ensures { IfOk result (λ k. k ≡ key.now) }
+{
+    let path = key.path.copied()?;
+    Ok(Key {
+        path,
+        serial: key.serial,
+    })
+}
+
+/// The keys of a scope and of those below it.
+fn keys_under(
+    alloc: Global,
+    table: &BTreeMap<Key, Watched>,
+    p: &Path,
+) -> Result<Vec<Key>, AllocError>
+    ensures keys { IfOk result (λ ks. ks.items ≡ keys_of (filter (λ e. begins p.now e.0.path) table.now.entries)) }
+    ensures ordered { OnOk result (IsStrictlySortedBy key_cmp (keys_of table.now.entries)) }
+{
+    let mut keys = Vec::new(alloc);
+    for (key, _) in table.iter() {
+        if begins(p.as_slice(), key.path.as_slice()) {
+            keys.push(copied(key)?)?;
+        }
+    }
+    Ok(keys)
+}
+
+/// The keys of the one-time watchers whose binding has ended.
+fn keys_over(
+    alloc: Global,
+    store: &Store,
+    table: &BTreeMap<Key, Watched>,
+) -> Result<Vec<Key>, Memory>
+    requires { AllStand (length store.now) (watchers_of table.now.entries) }
+    ensures keys { IfOk result (λ ks. ks.items ≡ keys_of (filter (λ e. is_over store.now (watcher_of e.1)) table.now.entries)) }
+    ensures ordered { OnOk result (IsStrictlySortedBy key_cmp (keys_of table.now.entries)) }
+{
+    let mut keys = Vec::new(alloc);
+    for (key, watched) in table.iter() {
+        if is_over(alloc, store, watched)? {
+            keys.push(copied(key)?)?;
+        }
+    }
+    Ok(keys)
+}
+
+/// Takes the rows of some keys out, and hands them over in order. The keys are those of the rows that pass a test.
+fn taken_out(
+    alloc: Global,
+    table: &mut BTreeMap<Key, Watched>,
+    keys: &[Key],
+) -> Result<Vec<(Key, Watched)>, AllocError>
+    requires { IsStrictlySortedBy key_cmp (keys_of table.old.entries) }
+    ensures taken { IfOk result (λ rows. (passes : Name × Row → Bool) → keys.now ≡ keys_of (filter passes table.old.entries) → (rows.items ≡ filter passes table.old.entries) × (table.new.entries ≡ filter (λ e. not (passes e)) table.old.entries)) }
+    ensures unchanged { OnErr result (table.new.entries ≡ table.old.entries) }
+{
+    let mut rows = Vec::with_capacity(alloc, keys.len())?;
+    for key in keys {
+        if let Some(row) = table.remove_entry(key) {
+            rows.push_reserved(row);
+        }
+    }
+    Ok(rows)
+}
+
 impl Watchers {
     /// No watch.
     pub fn new(alloc: Global) -> Watchers
@@ -108,6 +180,14 @@ impl Watchers {
         self.table.remove(key).is_some()
     }
 
+    /// Takes a watcher out and hands it over.
+    pub fn take(&mut self, key: &Key) -> Option<Watched>
+        ensures taken { option_map watcher_of result ≡ found key.now (watchers_of self.old) }
+        ensures removed { watchers_of self.new ≡ without_watch key.now (watchers_of self.old) }
+    {
+        self.table.remove(key)
+    }
+
     /// Takes the watches of a scope, and of those below it, out.
     pub fn remove_under(&mut self, p: &Path)
         ensures { watchers_of self.new ≡ without_under p.now (watchers_of self.old) }
@@ -115,6 +195,35 @@ impl Watchers {
         self.table
             .retain(|key, _| !begins(p.as_slice(), key.path.as_slice()));
     }
+
+    /// Takes the watchers of a scope, and of those below it, out, and hands them over in key order.
+    pub fn take_under(&mut self, alloc: Global, p: &Path) -> Result<Vec<(Key, Watched)>, Memory>
+        ensures taken { IfOk result (λ rows. watchers_of rows.items ≡ under p.now (watchers_of self.old)) }
+        ensures removed { OnOk result (watchers_of self.new ≡ without_under p.now (watchers_of self.old)) }
+        ensures unchanged { OnErr result (watchers_of self.new ≡ watchers_of self.old) }
+        ensures refused { IfErr result (λ e. e ≡ Memory.Refused) }
+    {
+        let keys = keys_under(alloc, &self.table, p)?;
+        let rows = taken_out(alloc, &mut self.table, &keys)?;
+        Ok(rows)
+    }
+
+    /// Takes the one-time watchers whose binding has ended out, and hands them over in key order.
+    pub fn take_over(&mut self, alloc: Global, store: &Store) -> Result<Vec<(Key, Watched)>, Memory>
+        requires { AllStand (length store.now) (watchers_of self.old) }
+        ensures taken { IfOk result (λ rows. watchers_of rows.items ≡ over store.now (watchers_of self.old)) }
+        ensures removed { OnOk result (watchers_of self.new ≡ without_over store.now (watchers_of self.old)) }
+        ensures unchanged { OnErr result (watchers_of self.new ≡ watchers_of self.old) }
+    {
+        let keys = keys_over(alloc, store, &self.table)?;
+        let rows = taken_out(alloc, &mut self.table, &keys)?;
+        Ok(rows)
+    }
+
+    /// Says where a walk stands: calls at this key, or right after it, find it without a search.
+    pub fn seek(&mut self, _key: &Key)
+        ensures unchanged { self.new ≡ self.old }
+    {}
 
     /// The least key.
     pub fn first(&self) -> Option<&Key>

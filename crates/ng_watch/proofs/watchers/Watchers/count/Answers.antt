@@ -1,6 +1,5 @@
-use Rattle.std.proofs.Common.{◌≡◌, ◌∙◌, sym, ap, refl, option_map, is_some, map}
-use Rattle.ng_watch.specs.Table.{watchers_of, entry_of, found}
-use Rattle.ng_watch.specs.Seen.{watcher_of}
+use Rattle.std.proofs.Common.{ap, map}
+use Rattle.ng_watch.specs.Table.{watchers_of, entry_of}
 use Rattle.ng_watch.proofs.Tables.{ordered_keys}
 use Rattle.ng_watch.proofs.watchers.Watchers.count.Goals as goal
 

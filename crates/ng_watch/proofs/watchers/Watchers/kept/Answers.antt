@@ -1,4 +1,4 @@
-use Rattle.std.proofs.Common.{◌∙◌, ap, sym, option_map, Some, map}
+use Rattle.std.proofs.Common.{◌∙◌, ap, option_map, Some, map}
 use Rattle.ng_watch.specs.Table.{watchers_of, entry_of}
 use Rattle.std.specs.Option.{option_copied}
 use Rattle.ng_watch.specs.Seen.{Watcher, watcher_of}

@@ -1,4 +1,4 @@
-use Rattle.std.proofs.Common.{◌∙◌, ap, sym, option_map, Some, map}
+use Rattle.std.proofs.Common.{◌∙◌, ap, sym, option_map, map}
 use Rattle.std.specs.Prelude.{option_and_then}
 use Rattle.ng_watch.specs.Table.{watchers_of, entry_of}
 use Rattle.std.specs.Option.{option_copied}

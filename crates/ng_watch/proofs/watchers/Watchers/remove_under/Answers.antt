@@ -1,4 +1,4 @@
-use Rattle.std.proofs.Common.{◌∙◌, ap, not, rules, map}
+use Rattle.std.proofs.Common.{ap, not, rules, map}
 use Rattle.ng_watch.specs.Table.{watchers_of, entry_of}
 use Rattle.std.proofs.lemmas.Map.Made.{filter_same_pairs}
 use Rattle.ng_watch.specs.Keys.{begins}
