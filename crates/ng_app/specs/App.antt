@@ -1,0 +1,140 @@
+-- What an application file is: what its page begins with, or the first refusal.
+use Rattle.std.specs.Prelude.{ℕ, Bool, true, false, ◌==◌, ◌&&◌, List, [], codes, Option, Some, None, is_some, option_and_then, Result, Ok, Err, if◌then◌else◌}
+use Rattle.std.specs.Str.{bytes_eq, is_utf8}
+use Rattle.serde_json.specs.Data.{Data, object, Members, no_members, member}
+use Rattle.serde_json.specs.Read.{read}
+use Rattle.serde_json.specs.Find.{as_number, as_u64, as_object, get_member}
+use Rattle.ng_act.specs.Beginning.{first_objects, first_state}
+use Rattle.ng_act.specs.State as act
+use Rattle.ng_base.specs.Meets.{◌>>=◌}
+use Rattle.ng_base.specs.Objects.{Object}
+use Rattle.ng_language.specs.Trees.{Trees}
+use Rattle.ng_store.specs.declared.json.JsonFault.{JsonFault}
+use Rattle.ng_store.specs.declared.json.JsonFault.TheVariants as json
+use Rattle.ng_app.specs.Entries.{function_entries, watch_entries, listener_entries, run_entry}
+use Rattle.ng_app.specs.Programs.{Declared, Watched, Heard, program_at, functions_read, watches_read, listeners_read}
+use Rattle.ng_app.specs.Refused.{fault}
+use Rattle.ng_app.specs.declared.entries.FunctionEntry.{FunctionEntry}
+use Rattle.ng_app.specs.declared.entries.WatchEntry.{WatchEntry}
+use Rattle.ng_app.specs.declared.entries.ListenerEntry.{ListenerEntry}
+use Rattle.ng_app.specs.declared.fault.Member.{Member}
+use Rattle.ng_app.specs.declared.fault.Member.TheVariants as the
+use Rattle.ng_app.specs.declared.fault.AppKind.TheVariants as kind
+use Rattle.ng_app.specs.declared.fault.AppFault.{AppFault}
+
+-- what a page begins with: the data stands in the object of the root scope; and what is installed and registered there, and
+-- runs, before the template is linked
+pub record Facts : Type 0 where
+  pub core : act.State
+  pub functions : List Declared
+  pub run : Trees
+  pub watches : List Watched
+  pub listeners : List Heard
+
+-- the members that an application may have
+abbrev pub member_named : List ℕ → Option Member
+member_named n =
+    if bytes_eq n (codes "format") then Some the.Format
+    else if bytes_eq n (codes "data") then Some the.Facts
+    else if bytes_eq n (codes "templates") then Some the.Templates
+    else if bytes_eq n (codes "directives") then Some the.Directives
+    else if bytes_eq n (codes "functions") then Some the.Functions
+    else if bytes_eq n (codes "run") then Some the.Run
+    else if bytes_eq n (codes "watch") then Some the.Watch
+    else if bytes_eq n (codes "on") then Some the.On
+    else None
+
+abbrev pub are_known : Members → Bool
+are_known no_members = true
+are_known (member k d ms) = is_some (member_named k) && are_known ms
+
+abbrev pub has : List ℕ → Members → Bool
+has n ms = is_some (get_member n ms)
+
+-- the first member, in the order of the table, that is there and not built yet
+abbrev pub first_later : Members → Option Member
+first_later ms =
+    if has (codes "templates") ms then Some the.Templates
+    else if has (codes "directives") ms then Some the.Directives
+    else None
+
+-- the one format is the whole number 1, which is meant too where none is named
+abbrev pub is_one : Option ℕ → Bool
+is_one None = false
+is_one (Some n) = n == 1
+
+abbrev pub is_format : Option Data → Bool
+is_format None = true
+is_format (Some d) = is_one (option_and_then as_u64 (as_number d))
+
+-- data that is given is an object
+abbrev pub is_data : Option Data → Bool
+is_data None = true
+is_data (Some d) = is_some (as_object d)
+
+-- where none is given there are no properties
+abbrev pub data_given : Option Data → Data
+data_given None = object no_members
+data_given (Some d) = d
+
+-- the entries of the members, each of its form
+pub record Written : Type 0 where
+  pub functions : List FunctionEntry
+  pub run : List ℕ
+  pub watches : List WatchEntry
+  pub listeners : List ListenerEntry
+
+abbrev pub written : Members → Result Written AppFault
+written ms =
+    function_entries (get_member (codes "functions") ms) >>= λ fs.
+    run_entry (get_member (codes "run") ms) >>= λ r.
+    watch_entries (get_member (codes "watch") ms) >>= λ ws.
+    listener_entries (get_member (codes "on") ms) >>= λ ls.
+    Ok (record { functions = fs; run = r; watches = ws; listeners = ls })
+
+-- why JSON is not read as data
+abbrev pub data_fault : JsonFault → AppFault
+data_fault json.Number = fault the.Facts kind.Number
+data_fault json.Full = fault the.Facts kind.Full
+data_fault (json.Memory m) = fault the.File (kind.Memory m)
+
+abbrev pub begun_with : List Object → Result (Unit {0}) JsonFault → Result act.State AppFault
+begun_with objects (Ok u) = Ok (first_state objects)
+begun_with objects (Err e) = Err (data_fault e)
+
+-- the root's object has the members of the data, but for the names that every scope has of its own
+abbrev pub core_with : Data → Result act.State AppFault
+core_with d = begun_with (first_objects d).0 (first_objects d).1
+
+-- the data is read, and then the programs, member by member
+abbrev pub facts_with : Data → Written → Result Facts AppFault
+facts_with d w =
+    core_with d >>= λ c.
+    functions_read [] w.functions >>= λ fs.
+    program_at the.Run 0 w.run >>= λ r.
+    watches_read [] w.watches >>= λ ws.
+    listeners_read [] w.listeners >>= λ ls.
+    Ok (record { core = c; functions = fs; run = r; watches = ws; listeners = ls })
+
+-- the members are of their kinds, in the order of the table
+abbrev pub facts_of_data : Option Data → Members → Result Facts AppFault
+facts_of_data d ms = if is_data d then (written ms >>= facts_with (data_given d)) else Err (fault the.Facts kind.Shape)
+
+abbrev pub facts_of_format : Members → Result Facts AppFault
+facts_of_format ms = if is_format (get_member (codes "format") ms) then facts_of_data (get_member (codes "data") ms) ms else Err (fault the.Format kind.Shape)
+
+abbrev pub facts_unless_later : Members → Option Member → Result Facts AppFault
+facts_unless_later ms (Some m) = Err (fault m kind.Later)
+facts_unless_later ms None = facts_of_format ms
+
+abbrev pub facts_of_object : Option Members → Result Facts AppFault
+facts_of_object None = Err (fault the.File kind.Shape)
+facts_of_object (Some ms) = if are_known ms then facts_unless_later ms (first_later ms) else Err (fault the.File kind.Shape)
+
+abbrev pub facts_of_json : Option Data → Result Facts AppFault
+facts_of_json None = Err (fault the.File kind.Json)
+facts_of_json (Some d) = facts_of_object (as_object d)
+
+-- what an application file begins a page with
+abbrev pub facts_of : List ℕ → Result Facts AppFault
+facts_of bytes = if is_utf8 bytes then facts_of_json (read bytes) else Err (fault the.File kind.Json)

@@ -1,0 +1,10 @@
+pub mod Free
+pub mod Refused
+pub mod Entries
+pub mod Programs
+pub mod App
+pub mod Installing
+pub mod Fresh
+pub mod ProgramsOf
+pub mod WrittenOf
+pub mod AppOf

@@ -1,0 +1,6 @@
+-- What the entries that were read stand for.
+use Rattle.ng_app.specs.App.{Written}
+use Rattle.ng_app.specs.declared.reading.Written.{Written as Entries}
+
+abbrev pub written_of : Entries → Written
+written_of w = record { functions = w.functions.items; run = w.run; watches = w.watches.items; listeners = w.listeners.items }

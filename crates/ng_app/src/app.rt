@@ -1,0 +1,33 @@
+//! What an application file gives.
+ghost use Rattle.std.specs.Prelude.{◌≡◌, length};
+ghost use Rattle.ng_app.specs.Fresh.{IsFresh};
+
+use crate::items::{AppFunction, AppListener, AppWatch};
+use ng_act::core_state::Core;
+use ng_collect::Registry;
+use ng_parse::Program;
+
+/// An application that was read: the core that its page begins with, what is to be installed and registered there, the
+/// program that runs first, and its directives.
+#[derive(Drop)]
+pub struct App {
+    pub(crate) core: Core,
+    pub(crate) functions: Vec<AppFunction>,
+    pub(crate) run: Program,
+    pub(crate) watches: Vec<AppWatch>,
+    pub(crate) listeners: Vec<AppListener>,
+    pub(crate) registry: Registry,
+    ghost fresh: { IsFresh core },
+    ghost none: { length registry ≡ 0 },
+}
+
+impl App {
+    ghost use Rattle.std.specs.Prelude.{[]};
+
+    /// The core's directives, and those of the application, which has none today.
+    pub fn registry(&self) -> &Registry
+        ensures { result.now ≡ [] }
+    {
+        &self.registry
+    }
+}
