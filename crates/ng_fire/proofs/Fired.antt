@@ -1,0 +1,88 @@
+-- What a fire runs.
+use Rattle.std.proofs.Common.{◌≡◌, ◌∙◌, ◌≤◌, ◌<◌, ℕ, Bool, true, false, List, length, Option, Some, None, refl, ap, subst, if◌then◌else◌, arith}
+use Rattle.std.specs.Prelude.{Ok, Err, option_map}
+use Rattle.std.specs.Map.{lookup}
+use Rattle.std.specs.Option.{ForSome}
+use Rattle.ng_act.specs.Actions.{a_body, stores}
+use Rattle.ng_act.specs.State as act
+use Rattle.ng_act.specs.State.{Run, ◌>>=◌, handed}
+use Rattle.ng_base.specs.Objects.{Object}
+use Rattle.ng_base.specs.Views.{ViewTree}
+use Rattle.ng_base.specs.declared.fault.Fault.{Fault}
+use Rattle.ng_base.specs.declared.path.Key.{Key}
+use Rattle.ng_fire.proofs.Rows.{listener_found}
+use Rattle.ng_fire.proofs.Runs.{asked_rises}
+use Rattle.ng_fire.proofs.RisingPrograms.{bind-rises, stores-rises}
+use Rattle.ng_fire.proofs.Snapshots.{dirty_stands, faulted}
+use Rattle.ng_fire.specs.Fires.{fire_run, former_value, listener_at, listener_locals, listener_run, run_with, value_at, value_of}
+use Rattle.ng_fire.specs.Runs.{asked_first}
+use Rattle.ng_fire.specs.Whole.{ListenersStand}
+use Rattle.ng_language.specs.Objects.{AreObjects}
+use Rattle.ng_language.specs.Views.{ViewStands}
+use Rattle.ng_works.specs.State.{State, Listening, is_site}
+use Rattle.ng_watch.specs.Keys.{is_key}
+use Rattle.ng_watch.specs.Now.{value_now}
+use Rattle.ng_watch.specs.Seen.{Watching, Watcher, WatchStands}
+use Rattle.ng_watch.specs.Table.{kept_at}
+use Rattle.ng_watch.specs.Verdicts.{dirty, verdict}
+
+-- the watch of a key
+
+pub watch_stands : (n : ℕ) (o : Option Watcher) (x : Watching) → option_map (λ (w : Watcher). w.watch) o ≡ Some x → ForSome o (λ w. WatchStands n w.watch) → WatchStands n x
+watch_stands n None x e f = absurd (cc)
+watch_stands n (Some w) x e f = let q : w.watch ≡ x = cc in subst (λ (y : Watching). WatchStands n y) q (f w refl)
+
+pub never_faulted : (objects : List Object) (o : Option Watcher) (x : Watching) (f : Fault) (now : ViewTree) → option_map (λ (w : Watcher). w.watch) o ≡ Some x → ForSome o (λ w. verdict objects w ≡ Ok (dirty now)) → value_now objects x ≡ Err f → ⊥
+never_faulted objects None x f now e d q = cc
+never_faulted objects (Some w) x f now e d q =
+    let i : w.watch ≡ x = cc in
+    faulted objects w f now (value_now objects w.watch) (rw i q) (d w refl)
+
+pub value_found : (s : State) (o : Option Watcher) (x : Watching) (v : ViewTree) → option_map (λ (w : Watcher). w.watch) o ≡ Some x → value_now s.core.objects x ≡ Ok v → value_of s o ≡ Some v
+value_found s None x v e q = absurd (cc)
+value_found s (Some w) x v e q = let i : w.watch ≡ x = cc in rw (i, q) refl
+
+pub dirty_found : (objects : List Object) → AreObjects objects → (o : Option Watcher) (x : Watching) (v now : ViewTree) → option_map (λ (w : Watcher). w.watch) o ≡ Some x → ForSome o (λ w. verdict objects w ≡ Ok (dirty now)) → WatchStands (length objects) x → value_now objects x ≡ Ok v → ViewStands (length objects) v → ViewStands (length objects) now
+dirty_found objects a None x v now e d ws q s = absurd (cc)
+dirty_found objects a (Some w) x v now e d ws q s =
+    let i : x ≡ w.watch = cc in
+    dirty_stands objects a w v now (subst (λ (y : Watching). WatchStands (length objects) y) i ws) (rw (← i) q) s (d w refl)
+
+-- the program of a key
+
+pub listener_scope : (n : ℕ) (s : State) (k : Key) (l : Listening) → ListenersStand n s.declared → listener_at s k ≡ Some l → l.scope < n
+listener_scope n s k l h e = by (is_site s.linked k) e
+  where
+    by : (b : Bool) → (if b then None else lookup (is_key k) s.declared) ≡ Some l → l.scope < n
+    by true e = absurd (cc)
+    by false e = listener_found n (is_key k) s.declared h l e
+
+pub run_is : (s : State) (k : Key) (l : Listening) (former : Option ViewTree) (v : ViewTree) → listener_at s k ≡ Some l → kept_at k s.watchers ≡ former → value_at s k ≡ Some v → fire_run k s ≡ Some (listener_run l former v s.core)
+run_is s k l former v el ef ev =
+    ap (λ (x : Option Listening). run_with x (kept_at k s.watchers) (value_at s k) s.core) el
+    ∙ (ap (λ (x : Option ViewTree). run_with (Some l) x (value_at s k) s.core) ef
+    ∙ ap (λ (x : Option ViewTree). run_with (Some l) former x s.core) ev)
+
+pub none_is : (s : State) (k : Key) → listener_at s k ≡ None → fire_run k s ≡ None
+none_is s k e = ap (λ (x : Option Listening). run_with x (kept_at k s.watchers) (value_at s k) s.core) e
+
+pub site_none : (s : State) (k : Key) → is_site s.linked k ≡ true → listener_at s k ≡ None
+site_none s k e = by (is_site s.linked k) e
+  where
+    by : (b : Bool) → b ≡ true → (if b then None else lookup (is_key k) s.declared) ≡ None
+    by true e = refl
+    by false e = absurd (cc)
+
+-- a fire lowers no number of registration
+
+former_rises : (former : Option ViewTree) (v : ViewTree) (c : act.State) → c.serial ≤ (former_value former v c).0.serial
+former_rises None v c = omega arith
+former_rises (Some f) v c = stores-rises f c
+
+pub listener_rises : (l : Listening) (former : Option ViewTree) (v : ViewTree) (c : act.State) → c.serial ≤ (listener_run l former v c).0.serial
+listener_rises l former v c =
+    let r : Run ViewTree = stores v c in
+    bind-rises c.serial r.0 r.1 (λ w d. former_value former w d >>= λ o e. asked_first (a_body l.scope (listener_locals w o) l.body) e) (stores-rises v c)
+    (λ w d. let q : Run ViewTree = former_value former w d in
+    bind-rises d.serial q.0 q.1 (λ o e. asked_first (a_body l.scope (listener_locals w o) l.body) e) (former_rises former w d)
+    (λ o e. asked_rises (a_body l.scope (listener_locals w o) l.body) e))

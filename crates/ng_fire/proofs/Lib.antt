@@ -1,0 +1,9 @@
+pub mod Rising
+pub mod RisingPrograms
+pub mod Snapshots
+pub mod Rows
+pub mod Wholes
+pub mod Runs
+pub mod Cores
+pub mod Fired
+pub mod Names

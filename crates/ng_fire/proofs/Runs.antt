@@ -1,0 +1,41 @@
+-- What a run as a value leaves, and what it comes to.
+use Rattle.std.proofs.Common.{◌≡◌, ◌≤◌, ◌-◌, ℕ, refl, sym, subst}
+use Rattle.std.specs.Prelude.{Result, Ok, Err, is_err}
+use Rattle.ng_act.specs.Actions.{Asked, does}
+use Rattle.ng_act.specs.Running.{as_value_run}
+use Rattle.ng_act.specs.State.{State, Run, handed}
+use Rattle.ng_base.specs.Views.{ViewTree}
+use Rattle.ng_base.specs.declared.fault.Fault.{Fault}
+use Rattle.ng_fire.proofs.RisingPrograms.{does-rises}
+use Rattle.ng_fire.specs.Runs.{asked_first}
+
+value_state : (s : State) (o : Result ViewTree Fault) → (as_value_run (s, o)).0 ≡ s
+value_state s (Ok v) = refl
+value_state s (Err e) = refl
+
+-- as a value a run leaves the same
+pub value_run_state : (r : Run ViewTree) → (as_value_run r).0 ≡ r.0
+value_run_state r = value_state r.0 r.1
+
+value_err : (s : State) (o : Result ViewTree Fault) → is_err (as_value_run (s, o)).1 ≡ is_err o
+value_err s (Ok v) = refl
+value_err s (Err e) = refl
+
+pub value_run_err : (r : Run ViewTree) → is_err (as_value_run r).1 ≡ is_err r.1
+value_run_err r = value_err r.0 r.1
+
+value_handed : (s : State) (o : Result ViewTree Fault) → handed (as_value_run (s, o)) ≡ handed (let r : Run ViewTree = (s, o) in r)
+value_handed s (Ok v) = refl
+value_handed s (Err e) = refl
+
+pub value_run_handed : (r : Run ViewTree) → handed (as_value_run r) ≡ handed r
+value_run_handed r = value_handed r.0 r.1
+
+-- what is asked first lowers no number of registration
+pub asked_rises : (a : Asked) (s : State) → s.serial ≤ (asked_first a s).0.serial
+unfolding asked_first
+asked_rises a s = does-rises 64 a s
+
+pub asked_is : (a : Asked) (s : State) (n : ℕ) → n ≡ 0 → does (64 - n) a s ≡ asked_first a s
+unfolding asked_first
+asked_is a s n e = subst (λ (k : ℕ). does (64 - k) a s ≡ does 64 a s) (sym e) refl

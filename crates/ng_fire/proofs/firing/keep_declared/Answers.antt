@@ -1,0 +1,29 @@
+use Rattle.std.proofs.Common.{length, subst, sym, Bool, Option, Some}
+use Rattle.ng_act.proofs.MoreScopes.{ok_and}
+use Rattle.ng_base.specs.Views.{ViewTree}
+use Rattle.ng_fire.proofs.Rows.{if_ok, rows_found}
+use Rattle.ng_fire.proofs.Wholes.{Stays, keeping_stays, stays_of, whole_with}
+use Rattle.ng_fire.specs.Whole.{KeptStands, RowStands}
+use Rattle.ng_works.specs.State.{State, state_of}
+use Rattle.ng_value.specs.Snaps.{snap_of}
+use Rattle.ng_fire.proofs.firing.keep_declared.Goals as goal
+
+pub returns-clause-stands : goal.returns-clause-stands
+returns-clause-stands c =
+    let w = c.args.works.now in
+    let s = state_of w in
+    if_ok c.keep.result c.keep.ensures.former
+    (λ f e. subst (λ (o : Option ViewTree). KeptStands (length w.core.store) o) (sym e)
+    (rows_found (length w.core.store) s.linked c.args.key.now s.watchers c.requires.declared c.requires.whole.kept))
+
+pub returns-clause-whole : goal.returns-clause-whole
+returns-clause-whole c =
+    let w = c.args.works.now in
+    let v = c.keep.new.self in
+    let n = length w.core.scopes in
+    let m = length w.core.store in
+    let t = snap_of c.args.snapshot in
+    let row = subst (λ (b : Bool). RowStands m b (Some t)) (sym c.requires.declared) c.requires.stands in
+    ok_and c.keep.result c.keep.ensures.state c.keep.ensures.stands
+    (λ state stands. whole_with w v c.requires.whole c.keep.ensures.core stands
+    (subst (λ (s : State). Stays n m s) (sym state) (keeping_stays n m c.args.key.now t (state_of w) row (stays_of w c.requires.whole))))

@@ -1,0 +1,82 @@
+-- The fire of a watcher that was dirty (guide: Scopes, "Scope `$watch` Depths"; API: `$watch`). It keeps the snapshot of now; the
+-- former one is what it had kept before.
+use Rattle.std.specs.Prelude.{◌≡◌, Bool, false, List, [], ◌∷◌, codes, Option, Some, None, Result, Ok, Err, is_err, if◌then◌else◌}
+use Rattle.std.specs.Map.{lookup}
+use Rattle.std.specs.Option.{ForSome}
+use Rattle.ng_act.specs.Actions.{a_body, stores}
+use Rattle.ng_act.specs.State as act
+use Rattle.ng_act.specs.State.{Run, ◌>>=◌}
+use Rattle.ng_base.specs.Views.{ViewTree}
+use Rattle.ng_base.specs.declared.fault.Fault.{Fault}
+use Rattle.ng_base.specs.declared.path.Key.{Key}
+use Rattle.ng_fire.specs.Changes.{has_additions}
+use Rattle.ng_fire.specs.Runs.{asked_first, followed}
+use Rattle.ng_works.specs.Calls.{keeping_at}
+use Rattle.ng_works.specs.State.{State, Listening, is_site}
+use Rattle.ng_view.specs.Evaluation.{Local}
+use Rattle.ng_watch.specs.Keys.{is_key}
+use Rattle.ng_watch.specs.Now.{value_now}
+use Rattle.ng_watch.specs.Seen.{Watcher}
+use Rattle.ng_watch.specs.Table.{found, kept_at}
+use Rattle.ng_watch.specs.Verdicts.{verdict, dirty}
+use Rattle.ng_write.specs.Making.{value_in}
+
+-- What `old` is: what the former snapshot holds, a list or record as a new object. Where nothing was kept it is the value.
+abbrev pub former_value : Option ViewTree → ViewTree → act.State → Run ViewTree
+former_value None v c = (c, Ok v)
+former_value (Some f) v c = stores f c
+
+abbrev pub listener_locals : ViewTree → ViewTree → List Local
+listener_locals v o = (codes "value", value_in v) ∷ (codes "old", value_in o) ∷ []
+
+-- the program of a declared watch runs on its scope with `value` and `old`; a fresh list or record of either is a new object
+abbrev pub listener_run : Listening → Option ViewTree → ViewTree → act.State → Run ViewTree
+listener_run l former v c =
+    stores v c >>= λ w d. former_value former w d >>= λ o e. asked_first (a_body l.scope (listener_locals w o) l.body) e
+
+-- the value now of a watcher
+abbrev pub value_of : State → Option Watcher → Option ViewTree
+value_of s None = None
+value_of s (Some w) = by (value_now s.core.objects w.watch)
+  where
+    by : Result ViewTree Fault → Option ViewTree
+    by (Ok v) = Some v
+    by (Err f) = None
+
+abbrev pub value_at : State → Key → Option ViewTree
+value_at s k = value_of s (found k s.watchers)
+
+-- the program of the declared watch of a key; the site of a template has none, and only shows what it keeps
+abbrev pub listener_at : State → Key → Option Listening
+listener_at s k = if is_site s.linked k then None else lookup (is_key k) s.declared
+
+-- the test of a watcher was dirty, and this is the snapshot of now
+abbrev pub IsDirtyWith : ViewTree → State → Key → Type 0
+IsDirtyWith now s k = ForSome (found k s.watchers) (λ w. verdict s.core.objects w ≡ Ok (dirty now))
+
+-- what a fire runs, where it runs anything
+abbrev pub run_with : Option Listening → Option ViewTree → Option ViewTree → act.State → Option (Run ViewTree)
+run_with None former value c = None
+run_with (Some l) former None c = None
+run_with (Some l) former (Some v) c = Some (listener_run l former v c)
+
+abbrev pub fire_run : Key → State → Option (Run ViewTree)
+fire_run k s = run_with (listener_at s k) (kept_at k s.watchers) (value_at s k) s.core
+
+-- the state after that, and whether the fire itself faulted
+abbrev pub fired_by : Option (Run ViewTree) → State → State × Bool
+fired_by None s = (s, false)
+fired_by (Some r) s = (followed r s, is_err r.1)
+
+-- whether it left a watcher more
+abbrev pub adds_by : Option (Run ViewTree) → Bool
+adds_by None = false
+adds_by (Some r) = has_additions r.0.changes
+
+-- the fire of a dirty watcher: it keeps the snapshot of now, and its program runs
+abbrev pub fired : Key → ViewTree → State → State × Bool
+fired k now s = fired_by (fire_run k s) (keeping_at k now s)
+
+-- whether the fire leaves a watcher more
+abbrev pub fire_adds : Key → State → Bool
+fire_adds k s = adds_by (fire_run k s)

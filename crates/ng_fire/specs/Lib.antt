@@ -1,0 +1,5 @@
+pub mod Changes
+pub mod Runs
+pub mod Fires
+pub mod Settling
+pub mod Whole

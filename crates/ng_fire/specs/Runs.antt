@@ -1,0 +1,37 @@
+-- The program of a declared watch, of a task: a body that is run while no other is open.
+use Rattle.std.specs.Prelude.{Bool, true, false, List, [], ◌∷◌}
+use Rattle.ng_act.specs.Actions.{Asked, a_body, does}
+use Rattle.ng_act.specs.State as act
+use Rattle.ng_act.specs.State.{Run, Task, handed}
+use Rattle.ng_base.specs.Views.{ViewTree}
+use Rattle.ng_fire.specs.Changes.{changed}
+use Rattle.ng_works.specs.Calls.{with_core}
+use Rattle.ng_works.specs.State.{State}
+
+-- What is asked where no body and no event is open, so that 64 may be. It is closed where its steps don't matter.
+unfoldable pub asked_first : Asked → act.State → Run ViewTree
+asked_first a c = does 64 a c
+
+-- a run's fault is handed over, and then what it left for the watchers is done
+abbrev pub followed : {A : Type 0} → Run A → State → State
+followed r s = changed (with_core (handed r) s)
+
+-- the core while a task runs: it waits no more
+abbrev pub without_task : List Task → act.State → act.State
+without_task ts c = record c { tasks = ts }
+
+abbrev pub task_run : Task → act.State → Run ViewTree
+task_run t c = asked_first (a_body t.scope [] t.body) c
+
+-- whether a task waits
+abbrev pub any_waits : List Task → Bool
+any_waits [] = false
+any_waits (t ∷ ts) = true
+
+abbrev pub ran_of : List Task → State → State
+ran_of [] s = s
+ran_of (t ∷ ts) s = followed (task_run t (without_task ts s.core)) s
+
+-- the first task that waits runs on its scope, live or not (API: `$rootScope.Scope`, `$evalAsync`)
+abbrev pub ran : State → State
+ran s = ran_of s.core.tasks s

@@ -1,0 +1,179 @@
+//! The fire of a watcher.
+ghost use Rattle.std.specs.Prelude.{◌≡◌, ◌<◌, length, false, true, Some, option_map, IsSome, IfOk, OnOk};
+ghost use Rattle.ng_base.specs.Faults.{is_memory};
+ghost use Rattle.ng_base.specs.Meets.{Gives};
+ghost use Rattle.ng_base.specs.ViewOf.{view_of};
+ghost use Rattle.ng_base.specs.Views.{ViewTree};
+ghost use Rattle.ng_fire.specs.Fires.{fired, fired_by, fire_adds, adds_by, listener_at, listener_run, value_at, IsDirtyWith};
+ghost use Rattle.ng_fire.specs.Whole.{IsWhole, KeptStands};
+ghost use Rattle.ng_language.specs.Views.{ViewStands};
+ghost use Rattle.ng_works.specs.Calls.{keeping_at};
+ghost use Rattle.ng_works.specs.State.{state_of, templates_of, listening_of, is_site};
+ghost use Rattle.ng_value.specs.Snaps.{snap_of};
+ghost use Rattle.ng_watch.specs.Now.{value_now};
+ghost use Rattle.ng_watch.specs.Seen.{watching_of};
+ghost use Rattle.ng_watch.specs.Table.{found, kept_at};
+
+use crate::following::{Followed, follow};
+use crate::listening::run_listener;
+use ng_base::fault::{Fault, Memory};
+use ng_base::locals::Locals;
+use ng_base::path::Key;
+use ng_base::view::View;
+use ng_store::store::Store;
+use ng_value::snapshot::Snap;
+use ng_view::view;
+use ng_watch::watch::Watch;
+use ng_works::works::{Listener, Works};
+use std::alloc::Global;
+
+/// The value of a watch's program over its scope.
+#[tactic(auto, using(ng_view::proofs::Pure::pure_are, ng_view::proofs::Pure::known_are), unfolding(ng_watch::specs::Now::value_now))]
+fn value_now(alloc: Global, store: &Store, watch: &Watch) -> Result<View, Fault>
+    requires { watch.now.scope.0 < length store.now }
+    ensures exact { Gives is_memory view_of (value_now store.now (watching_of watch.now)) result }
+    ensures stands { IfOk result (λ v. ViewStands (length store.now) (view_of v)) }
+{
+    let locals = Locals::new(alloc);
+    view(alloc, store, watch.scope, &locals, &watch.program)
+}
+
+/// The value of a watcher whose test was dirty.
+fn dirty_value(alloc: Global, works: &Works, key: &Key) -> Result<View, Memory>
+    requires whole { IsWhole works.now }
+    requires there { IsSome (found key.now (state_of works.now).watchers) }
+    requires dirty { (now : ViewTree) × IsDirtyWith now (state_of works.now) key.now }
+    ensures value { IfOk result (λ v. value_at (state_of works.now) key.now ≡ Some (view_of v)) }
+    ensures stands { IfOk result (λ v. ViewStands (length works.now.core.store) (view_of v)) }
+    ensures snapshot { OnOk result ((now : ViewTree) → IsDirtyWith now (state_of works.now) key.now → ViewStands (length works.now.core.store) now) }
+{
+    works.core.store.sound();
+    match value_now(alloc, &works.core.store, works.watchers().watch(key)) {
+        Ok(value) => Ok(value),
+        Err(Fault::Memory(memory)) => Err(memory),
+        Err(_) => unreachable!(),
+    }
+}
+
+/// The declared watch of a key, where it is one's.
+fn listener_at(alloc: Global, works: &Works, key: &Key) -> Result<Option<Listener>, Memory>
+    ensures { IfOk result (λ l. option_map listening_of l ≡ listener_at (state_of works.now) key.now) }
+{
+    if works.is_site(key) {
+        return Ok(None);
+    }
+    match works.listener(key) {
+        None => Ok(None),
+        Some(listener) => Ok(Some(Listener {
+            scope: listener.scope,
+            program: listener.program.copied(alloc)?,
+        })),
+    }
+}
+
+/// The watcher of what is no site keeps a snapshot, and what it had kept is handed back.
+fn keep_declared(works: &mut Works, key: &Key, snapshot: Snap) -> Result<Option<Snap>, Memory>
+    requires whole { IsWhole works.old }
+    requires there { IsSome (found key.now (state_of works.old).watchers) }
+    requires stands { ViewStands (length works.old.core.store) (snap_of snapshot) }
+    requires declared { is_site (state_of works.old).linked key.now ≡ false }
+    ensures state { OnOk result (state_of works.new ≡ keeping_at key.now (snap_of snapshot) (state_of works.old)) }
+    ensures former { IfOk result (λ f. option_map snap_of f ≡ kept_at key.now (state_of works.old).watchers) }
+    ensures stands { IfOk result (λ f. KeptStands (length works.old.core.store) (option_map snap_of f)) }
+    ensures core { works.new.core ≡ works.old.core }
+    ensures whole { OnOk result (IsWhole works.new) }
+    ensures templates { templates_of works.new ≡ templates_of works.old }
+{
+    works.keep(key, snapshot)
+}
+
+/// The site of a template keeps a snapshot, and shows it.
+fn keep_site(works: &mut Works, key: &Key, snapshot: Snap) -> Result<(), Memory>
+    requires whole { IsWhole works.old }
+    requires there { IsSome (found key.now (state_of works.old).watchers) }
+    requires site { is_site (state_of works.old).linked key.now ≡ true }
+    ensures state { OnOk result (state_of works.new ≡ keeping_at key.now (snap_of snapshot) (state_of works.old)) }
+    ensures whole { OnOk result (IsWhole works.new) }
+    ensures templates { templates_of works.new ≡ templates_of works.old }
+{
+    let _ = works.keep(key, snapshot)?;
+    Ok(())
+}
+
+/// The program of a declared watch runs, and what comes after it is done.
+fn run_declared(
+    works: &mut Works,
+    alloc: Global,
+    listener: &Listener,
+    former: Option<Snap>,
+    value: &View,
+) -> Result<Followed, Memory>
+    requires whole { IsWhole works.old }
+    requires scope { listener.now.scope.0 < length works.old.core.scopes }
+    requires former { KeptStands (length works.old.core.store) (option_map snap_of former) }
+    requires value { ViewStands (length works.old.core.store) (view_of value.now) }
+    ensures state { IfOk result (λ f. (state_of works.new, f.faulted) ≡ fired_by (Some (listener_run (listening_of listener.now) (option_map snap_of former) (view_of value.now) (state_of works.old).core)) (state_of works.old)) }
+    ensures added { IfOk result (λ f. f.added ≡ adds_by (Some (listener_run (listening_of listener.now) (option_map snap_of former) (view_of value.now) (state_of works.old).core))) }
+    ensures whole { OnOk result (IsWhole works.new) }
+    ensures linked { OnOk result ((state_of works.new).linked ≡ (state_of works.old).linked) }
+    ensures templates { templates_of works.new ≡ templates_of works.old }
+{
+    let end = run_listener(&mut works.core, alloc, listener, former, value);
+    follow(works, alloc, end)
+}
+
+/// The fire of what is no site: its watcher keeps the snapshot, and the program of the declared watch runs.
+fn fire_declared(
+    works: &mut Works,
+    alloc: Global,
+    key: &Key,
+    snapshot: Snap,
+) -> Result<Followed, Memory>
+    requires whole { IsWhole works.old }
+    requires there { IsSome (found key.now (state_of works.old).watchers) }
+    requires dirty { IsDirtyWith (snap_of snapshot) (state_of works.old) key.now }
+    requires declared { is_site (state_of works.old).linked key.now ≡ false }
+    ensures state { IfOk result (λ f. (state_of works.new, f.faulted) ≡ fired key.now (snap_of snapshot) (state_of works.old)) }
+    ensures added { IfOk result (λ f. f.added ≡ fire_adds key.now (state_of works.old)) }
+    ensures whole { OnOk result (IsWhole works.new) }
+    ensures linked { OnOk result ((state_of works.new).linked ≡ (state_of works.old).linked) }
+    ensures templates { templates_of works.new ≡ templates_of works.old }
+{
+    let value = dirty_value(alloc, works, key)?;
+    let listener = listener_at(alloc, works, key)?;
+    let former = keep_declared(works, key, snapshot)?;
+    match listener {
+        None => Ok(quiet()),
+        Some(listener) => run_declared(works, alloc, &listener, former, &value),
+    }
+}
+
+/// No program ran.
+fn quiet() -> Followed
+    ensures faulted { result.faulted ≡ false }
+    ensures added { result.added ≡ false }
+{
+    Followed {
+        faulted: false,
+        added: false,
+    }
+}
+
+/// The fire of a watcher whose test was dirty: it keeps the snapshot of now, which the site of a template then shows; a declared
+/// watch runs its program (guide: Scopes, "Scope `$watch` Depths").
+pub fn fire(works: &mut Works, alloc: Global, key: &Key, snapshot: Snap) -> Result<Followed, Memory>
+    requires whole { IsWhole works.old }
+    requires there { IsSome (found key.now (state_of works.old).watchers) }
+    requires dirty { IsDirtyWith (snap_of snapshot) (state_of works.old) key.now }
+    ensures state { IfOk result (λ f. (state_of works.new, f.faulted) ≡ fired key.now (snap_of snapshot) (state_of works.old)) }
+    ensures added { IfOk result (λ f. f.added ≡ fire_adds key.now (state_of works.old)) }
+    ensures whole { OnOk result (IsWhole works.new) }
+    ensures linked { OnOk result ((state_of works.new).linked ≡ (state_of works.old).linked) }
+    ensures templates { templates_of works.new ≡ templates_of works.old }
+{
+    if works.is_site(key) {
+        keep_site(works, key, snapshot)?;
+        return Ok(quiet());
+    }
+    fire_declared(works, alloc, key, snapshot)
+}

@@ -1,0 +1,28 @@
+//! What a fire, a task and a settled digest do to the works of a page (guide: Scopes, "Scope Life Cycle"; API: `$watch`, `$digest`).
+//!
+//! The works of `ng_works` are a core, watchers and a document. A program that runs on the core leaves there what the watchers
+//! are to become, and its fault is handed over. This crate runs the programs that a digest runs, and does what they leave:
+//!
+//! - `fire`: a dirty watcher keeps its snapshot of now. The site of a template shows it, and that is all; a declared watch runs
+//!   its program with the locals `value` and `old`;
+//! - `run_task`: the first task that waits runs;
+//! - `settle`: once the rounds are over, watchers whose fire faulted keep nothing, one-time bindings whose value is there end,
+//!   and probes are evaluated, in this order; `give_up` does the first alone;
+//! - `follow`: after a program that a command ran, the same is done as after one that a fire ran.
+//!
+//! The contract that the crate above uses: each call leaves the state that its definition in `specs/` says, want of memory
+//! alone apart, and `IsWhole` of `specs/Whole.antt` holds of the works after it as before.
+//!
+//! In reading order: `changing` does what programs leave for the watchers, `following` hands a fault over before that,
+//! `listening` runs the program of a declared watch, `firing` is the fire, `tasks` the tasks, `settling` what comes last.
+//!
+//! Not here: which watcher is tested when (`ng_digest`, `ng_page`), what a program does (`ng_act`), and how nodes and watchers
+//! hang together (`ng_works`).
+#![tactic(auto)]
+
+pub mod changing;
+pub mod firing;
+pub mod following;
+mod listening;
+pub mod settling;
+pub mod tasks;

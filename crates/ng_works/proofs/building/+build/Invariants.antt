@@ -1,0 +1,30 @@
+use Rattle.std.proofs.Common.{◌≡◌, ◌+◌, ◌*◌, ◌++◌, take, map}
+use Rattle.ng_dom.specs.Document.{next_name}
+use Rattle.ng_dom.specs.Drawing.{shows}
+use Rattle.ng_dom.specs.Nodes.{names_of}
+use Rattle.ng_drawing.specs.Nodes.{part_nodes, nodes}
+use Rattle.ng_drawing.specs.Template.{parts_from}
+use Rattle.ng_template.specs.Seen.{part_of, parts_of}
+use Rattle.ng_works.specs.Building.{unset, parent_name, Builds}
+use Rattle.ng_works.specs.Shape.{keys_from, shape, holes}
+use Rattle.ng_works.proofs.building.+build.Given as goal
+
+abbrev pub invariant-build_parts-loop-part : goal.invariant-build_parts-loop-part
+invariant-build_parts-loop-part l =
+    let done = parts_from (map part_of (take l.part-index l.parts)) in
+    let keys = keys_from l.path l.first in
+    let m = next_name l.initial.dom in
+    record {
+      names : l.group.nodes.items ≡ names_of (shows unset (shape keys m done));
+      builds : Builds (parent_name l.parent) (shape keys m done) (nodes done) l.initial.dom l.dom;
+      holes : l.spots.items ≡ l.initial.spots.items ++ holes m done;
+    }
+
+abbrev pub decreases-build_part : goal.decreases-build_part
+decreases-build_part l = 3 * part_nodes (part_of l.part.now)
+
+abbrev pub decreases-build_parts : goal.decreases-build_parts
+decreases-build_parts l = 3 * nodes (parts_from (map part_of l.parts.now)) + 1
+
+abbrev pub decreases-build_whole : goal.decreases-build_whole
+decreases-build_whole l = 3 * nodes (parts_of l.parts.now) + 2

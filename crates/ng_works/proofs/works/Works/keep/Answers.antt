@@ -1,0 +1,36 @@
+use Rattle.std.proofs.Common.{◌≡◌, Option, Some, None, ap, sym, subst, ◌∙◌}
+use Rattle.std.specs.Prelude.{option_map, option_and_then}
+use Rattle.ng_base.specs.Views.{ViewTree}
+use Rattle.ng_dom.specs.declared.dom.Dom.{Dom}
+use Rattle.ng_value.specs.Snaps.{snap_of}
+use Rattle.ng_watch.specs.Seen.{Watcher}
+use Rattle.ng_watch.specs.Table.{Table}
+use Rattle.ng_works.specs.Firing.{WritesAt}
+use Rattle.ng_works.specs.State.{State, state_of, texts_of, spot_in}
+use Rattle.ng_works.specs.Standing.{Standing}
+use Rattle.ng_works.specs.declared.works.Works.{Works}
+use Rattle.ng_works.proofs.Fired.{kept_stands}
+use Rattle.ng_works.proofs.works.Works.keep.Goals as goal
+
+-- what a watcher that is there had kept
+former_kept : (o : Option Watcher) (r : Option ViewTree) → option_map (λ (w : Watcher). w.kept) o ≡ Some r → r ≡ option_and_then (λ (w : Watcher). w.kept) o
+former_kept None r e = absurd (cc)
+former_kept (Some w) r e = let same : w.kept ≡ r = cc in sym same
+
+pub returns-clause-state : goal.returns-clause-state
+returns-clause-state c =
+    ap state_of c.in_ok-show_kept.ensures.fires.rest
+    ∙ ap (λ (t : Table). record (state_of c.args.self.now) { watchers = t }) c.keep-former.ensures.kept
+
+pub returns-clause-former : goal.returns-clause-former
+returns-clause-former c = former_kept _ _ c.keep-former.ensures.former
+
+pub returns-clause-stands : goal.returns-clause-stands
+returns-clause-stands c =
+    let old = c.args.self.now in
+    let new = c.show_kept.new.self in
+    let k = c.args.key.now in
+    let fires = c.in_ok-show_kept.ensures.fires in
+    let W : Table → Type 0 = λ t. WritesAt (texts_of t (state_of old).resting) (spot_in old.page k) old.dom new.dom in
+    λ ts g. let F : Works → Type 0 = λ x. Standing x ts in
+    subst F (sym fires.rest) (kept_stands old c.keep-former.new.self new.dom k (Some (snap_of c.args.s)) c.keep-former.ensures.kept (subst W c.keep-former.ensures.kept fires.dom) ts g)

@@ -1,0 +1,64 @@
+-- Nodes that are built apart, for what stands of parts.
+use Rattle.std.specs.Prelude.{ℕ, ◌≡◌, ◌+◌, ◌<◌, List, [], ◌∷◌, Option, None, Some, option_map}
+use Rattle.ng_base.specs.declared.name.NodeId.{NodeId}
+use Rattle.ng_base.specs.declared.path.Key.{Key}
+use Rattle.ng_dom.specs.Document.{rooms, homes, top, next_name, live_count, IsLive, Remains}
+use Rattle.ng_works.specs.Sources.{sources}
+use Rattle.ng_dom.specs.Drawing.{Place, Source, in_text, of_text, of_comment, of_element, Stand, Stands, Bodies, text_stands, comment_stands, element_stands, block_stands, none_stand, stand_then, no_bodies, body_then, shows}
+use Rattle.ng_dom.specs.Nodes.{NamedNode, named_then, nothing_named}
+use Rattle.ng_dom.specs.Rooms.{Rooms, ReadsIn}
+use Rattle.ng_dom.specs.Nodes.{NamedForest}
+use Rattle.ng_dom.specs.declared.dom.Dom.{Dom}
+
+-- nothing is kept yet
+abbrev pub unset : Key → List ℕ
+unset k = []
+
+-- each node is drawn from what stands
+abbrev mutual
+  pub Homed : (ℕ → Option Source) → Stand → Type 0
+  Homed home (text_stands n ps) = home n ≡ Some (of_text ps)
+  Homed home (comment_stands n t) = home n ≡ Some of_comment
+  Homed home (element_stands n e ats ms) = (home n ≡ Some (of_element ats)) × HomedAll home ms
+  Homed home (block_stands n bs) = HomedBodies home bs
+
+  pub HomedAll : (ℕ → Option Source) → Stands → Type 0
+  HomedAll home none_stand = Unit {0}
+  HomedAll home (stand_then m ms) = Homed home m × HomedAll home ms
+
+  pub HomedBodies : (ℕ → Option Source) → Bodies → Type 0
+  HomedBodies home no_bodies = Unit {0}
+  HomedBodies home (body_then ms bs) = HomedAll home ms × HomedBodies home bs
+
+abbrev pub parent_name : Option NodeId → Option ℕ
+parent_name p = option_map (λ n. n.made.0) p
+
+-- the top, or a live node
+abbrev pub IsThere : Dom → Option NodeId → Type 0
+IsThere d None = Unit {0}
+IsThere d (Some p) = IsLive d p.made.0
+
+-- a node is made apart for a parent or the top
+pub record IsMade (p : Option ℕ) (x : NamedNode) (d e : Dom) : Type 0 where
+  pub remains : Remains d e
+  pub reads : ReadsIn (rooms e) p (named_then x nothing_named)
+  pub top : top e ≡ top d
+
+-- What was read in a table in which a name was free is read as before. So calls on a new node spare what is older.
+abbrev pub Spares : ℕ → Dom → Dom → Type 0
+Spares n d e = (r : Rooms) → r n ≡ None → (p : Option ℕ) (f : NamedForest) → ReadsIn r p f → ReadsIn (rooms d) p f → ReadsIn (rooms e) p f
+
+-- what stands is built apart for a parent or the top, in so many nodes of the next names
+pub record Builds (p : Option ℕ) (ts : Stands) (count : ℕ) (d e : Dom) : Type 0 where
+  pub remains : Remains d e
+  pub reads : ReadsIn (rooms e) p (shows unset ts)
+  pub homed : HomedAll (sources e) ts
+  pub homes : (q : ℕ) → q < next_name d → homes e q ≡ homes d q
+  pub next : next_name e ≡ next_name d + count
+  pub live : live_count e ≡ live_count d + count
+  pub top : top e ≡ top d
+
+-- names of nodes stand at keys that rise from a number on
+abbrev pub AllAt : (Key → Option Place) → (ℕ → Key) → ℕ → List ℕ → Type 0
+AllAt site keys n [] = Unit {0}
+AllAt site keys n (x ∷ xs) = (site (keys n) ≡ Some (in_text x)) × AllAt site keys (n + 1) xs

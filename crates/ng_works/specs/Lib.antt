@@ -1,0 +1,12 @@
+pub mod Sources
+pub mod Shape
+pub mod Seen
+pub mod Order
+pub mod Rows
+pub mod Building
+pub mod State
+pub mod Calls
+pub mod Standing
+pub mod Firing
+pub mod Laws
+pub mod Untroubled

@@ -1,0 +1,62 @@
+-- What linking makes of a template: what stands of it, with a name for each node in document order, and a key for each site
+-- (guide: HTML Compiler, "How directives are compiled").
+use Rattle.std.specs.Prelude.{ℕ, ◌+◌, List, [], ◌∷◌, ◌++◌, map, Result, Ok, Err, nat_lt, if◌then◌else◌}
+use Rattle.ng_base.specs.declared.fault.Fault.{Fault}
+use Rattle.ng_base.specs.declared.fault.Fault.TheVariants.{NodeLimit}
+use Rattle.ng_base.specs.declared.path.Key.{Key}
+use Rattle.ng_dom.specs.Drawing.{DrawnAttributes, Stand, Stands, text_stands, comment_stands, element_stands, none_stand, stand_then}
+use Rattle.ng_dom.specs.declared.record.Piece.{Piece}
+use Rattle.ng_dom.specs.declared.record.Piece.TheVariants.{Words, Hole}
+use Rattle.ng_drawing.specs.Nodes.{part_nodes, nodes, node_limit}
+use Rattle.ng_drawing.specs.Template as template
+use Rattle.ng_drawing.specs.Template.{word, hole, PartAttributes, Part, Parts, text_part, comment_part, element_part, no_parts, part_then}
+
+-- the key of a number on a scope's path
+abbrev pub key_on : List ℕ → ℕ → Key
+key_on path serial = record { path = path; serial = record { 0 = serial } }
+
+-- the keys of sites by their numbers: they rise from the next number of registration on
+abbrev pub keys_from : List ℕ → ℕ → ℕ → Key
+keys_from path first n = key_on path (first + n)
+
+abbrev pub linked_piece : (ℕ → Key) → template.Piece → Piece
+linked_piece keys (word w) = Words w
+linked_piece keys (hole n) = Hole (keys n)
+
+-- pieces with the keys of their holes
+abbrev pub linked_pieces : (ℕ → Key) → List template.Piece → List Piece
+linked_pieces keys ps = map (linked_piece keys) ps
+
+abbrev pub linked_values : (ℕ → Key) → PartAttributes → DrawnAttributes
+linked_values keys ats = map (λ a. (a.0, linked_pieces keys a.1)) ats
+
+-- what stands of parts, given the keys of the sites and the name of the first node
+abbrev mutual
+  pub part_shape : (ℕ → Key) → ℕ → Part → Stand
+  part_shape keys n (text_part ps) = text_stands n (linked_pieces keys ps)
+  part_shape keys n (comment_part t) = comment_stands n t
+  part_shape keys n (element_part e ats ps) = element_stands n e (linked_values keys ats) (shape keys (n + 1) ps)
+
+  pub shape : (ℕ → Key) → ℕ → Parts → Stands
+  shape keys n no_parts = none_stand
+  shape keys n (part_then p ps) = stand_then (part_shape keys n p) (shape keys (n + part_nodes p) ps)
+
+-- the names of the nodes in which the holes stand, in document order
+abbrev pub piece_holes : ℕ → List template.Piece → List ℕ
+piece_holes n [] = []
+piece_holes n (word w ∷ ps) = piece_holes n ps
+piece_holes n (hole k ∷ ps) = n ∷ piece_holes n ps
+
+abbrev mutual
+  pub part_holes : ℕ → Part → List ℕ
+  part_holes n (text_part ps) = piece_holes n ps
+  part_holes n (comment_part t) = []
+  part_holes n (element_part e ats ps) = holes (n + 1) ps
+
+  pub holes : ℕ → Parts → List ℕ
+  holes n no_parts = []
+  holes n (part_then p ps) = part_holes n p ++ holes (n + part_nodes p) ps
+
+-- Where so many nodes are live, the nodes of parts find room, or there is the fault NodeLimit. Nothing is made then.
+abbrev pub linked : ℕ → Parts → Result (Unit {0}) Fault
+linked live ps = if nat_lt node_limit (live + nodes ps) then Err NodeLimit else Ok tt

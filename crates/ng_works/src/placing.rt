@@ -1,0 +1,127 @@
+//! The sites of an instance: where each is drawn, and that it is watched.
+ghost use Rattle.std.specs.Prelude.{◌≡◌, List, map, true, OnOk, IfErr, IfOk, option_map};
+ghost use Rattle.ng_base.specs.Faults.{is_memory};
+ghost use Rattle.ng_template.specs.Kept.{Named};
+ghost use Rattle.ng_template.specs.SiteOf.{site_of};
+ghost use Rattle.ng_watch.specs.Seen.{watching_of};
+ghost use Rattle.ng_watch.specs.Table.{watchers_of, with_watch};
+ghost use Rattle.ng_works.specs.Rows.{watch_kind, watching_site, with_sites};
+ghost use Rattle.ng_works.specs.State.{page_of, linked_of, is_site_of, is_site, spot_at, spot_in};
+
+use crate::copying::key_at;
+use crate::works::Linked;
+use ng_base::fault::Fault;
+use ng_base::name::{NodeId, Oid, Serial};
+use ng_base::path::{Key, Path};
+use ng_drawing::kind::SiteKind;
+use ng_template::Site;
+use ng_watch::watch::{Watch, WatchKind};
+use ng_watch::watchers::Watchers;
+use std::alloc::Global;
+
+impl Linked {
+    /// Whether a key is that of one of these sites.
+    pub(crate) fn has(&self, key: &Key) -> bool
+        ensures { result ≡ is_site_of (page_of self.now) key.now }
+    {
+        self.path == key.path
+            && self.first <= key.serial.0
+            && key.serial.0 - self.first < self.spots.len() as u64
+    }
+
+    /// The node that the site of a key is drawn in.
+    fn spot(&self, key: &Key) -> Option<NodeId>
+        ensures { option_map (λ n. n.made.0) result ≡ spot_at self.now key.now }
+    {
+        if !self.has(key) {
+            return None;
+        }
+        let n = self.spots.get((key.serial.0 - self.first) as usize)?;
+        Some(NodeId {
+            slot: 0,
+            made: Serial(*n),
+        })
+    }
+}
+
+/// Whether a key is that of a site of what is linked.
+pub(crate) fn is_site(page: &Option<Linked>, key: &Key) -> bool
+    ensures { (all : List Named) → result ≡ is_site (linked_of all page.now) key.now }
+{
+    match page {
+        None => false,
+        Some(p) => p.has(key),
+    }
+}
+
+/// The node that the site of a key is drawn in, where it is one of what is linked.
+pub(crate) fn spot_in(page: &Option<Linked>, key: &Key) -> Option<NodeId>
+    ensures { option_map (λ n. n.made.0) result ≡ spot_in page.now key.now }
+{
+    match page {
+        None => None,
+        Some(p) => p.spot(key),
+    }
+}
+
+/// What a watcher keeps of the value of a site.
+fn watch_kind(kind: SiteKind) -> WatchKind
+    ensures { result ≡ watch_kind kind }
+{
+    match kind {
+        SiteKind::Text => WatchKind::Text,
+        SiteKind::Words => WatchKind::Words,
+        SiteKind::Reference => WatchKind::Reference,
+        SiteKind::Collection => WatchKind::Collection,
+        SiteKind::Deep => WatchKind::Deep,
+    }
+}
+
+/// The watch of a site over a scope's object.
+fn watch_of(alloc: Global, object: Oid, site: &Site) -> Result<Watch, Fault>
+    ensures watch { IfOk result (λ w. watching_of w ≡ watching_site object.0 (site_of site.now)) }
+    ensures faults { IfErr result (λ e. is_memory e ≡ true) }
+{
+    let program = site.program().copied(alloc)?;
+    Ok(Watch {
+        kind: watch_kind(site.kind()),
+        program,
+        one_time: site.one_time(),
+        scope: object,
+    })
+}
+
+/// A site is watched.
+fn watch_one(
+    watchers: &mut Watchers,
+    alloc: Global,
+    key: Key,
+    object: Oid,
+    site: &Site,
+) -> Result<(), Fault>
+    ensures added { OnOk result (watchers_of watchers.new ≡ with_watch key (watching_site object.0 (site_of site.now)) (watchers_of watchers.old)) }
+    ensures faults { IfErr result (λ e. is_memory e ≡ true) }
+{
+    let watch = watch_of(alloc, object, site)?;
+    watchers.add(key, watch)?;
+    Ok(())
+}
+
+/// Sites are watched, one after another.
+pub(crate) fn watch_all(
+    watchers: &mut Watchers,
+    alloc: Global,
+    path: &Path,
+    first: u64,
+    object: Oid,
+    sites: &[Site],
+) -> Result<(), Fault>
+    ensures rows { OnOk result (watchers_of watchers.new ≡ with_sites path.now object.0 first (map site_of sites.now) (watchers_of watchers.old)) }
+    ensures faults { IfErr result (λ e. is_memory e ≡ true) }
+{
+    for i in 0..sites.len() {
+        let key = key_at(path, first, i as u64)?;
+        watch_one(watchers, alloc, key, object, &sites[i])?;
+    }
+    Ok(())
+}

@@ -1,0 +1,158 @@
+//! The works of a page: the core, the templates, what stands of them, and the watchers.
+ghost use Rattle.std.specs.Prelude.{◌≡◌, [], None, option_map};
+ghost use Rattle.std.specs.Map.{lookup};
+ghost use Rattle.ng_act.specs.Frames.{state_of as core_state, held, IsSound};
+ghost use Rattle.ng_act.specs.State.{with_fault};
+ghost use Rattle.ng_watch.specs.Keys.{is_key};
+ghost use Rattle.ng_works.specs.Calls.{blank, with_core};
+ghost use Rattle.ng_works.specs.State.{page_of, listening_of, is_site, state_of, templates_of};
+ghost use Rattle.ng_works.specs.Standing.{Standing};
+ghost use Rattle.ng_works.specs.Untroubled.{untroubled};
+ghost use Rattle.ng_dom.specs.Drawing.{Stands, none_stand};
+ghost use Rattle.ng_template.specs.Kept.{templates_of as kept_templates};
+
+use crate::placing::is_site;
+use ng_act::core_state::{Core, Handed};
+use ng_base::fault::Fault;
+use ng_base::name::{ScopeId, TplId};
+use ng_base::path::{Key, Path};
+use ng_dom::dom::Dom;
+use ng_parse::Program;
+use ng_template::Templates;
+use ng_value::snapshot::Snap;
+use ng_watch::watchers::Watchers;
+use std::alloc::Global;
+use std::collections::BTreeMap;
+
+/// An instance by its name. The page's is 0.
+#[derive(Clone, Copy, Debug, PartialEq, Eq, Drop)]
+pub struct InstId(pub u32);
+
+/// An instance that stands. The keys of its sites have this path, and their numbers rise from `first` on. For each site there is
+/// the name of the node that it is drawn in.
+#[derive(Drop)]
+pub struct Linked {
+    pub(crate) template: TplId,
+    pub(crate) scope: ScopeId,
+    pub(crate) path: Path,
+    pub(crate) first: u64,
+    pub(crate) spots: Vec<u64>,
+}
+
+/// The program that a declared watch runs, and the scope that it runs on.
+#[derive(Drop)]
+pub struct Listener {
+    pub scope: ScopeId,
+    pub program: Program,
+}
+
+/// The works of a page. Nodes stand by name and watchers by key. A site that rests has what it had kept, and a declared watch its
+/// listener. The core is all that programs change.
+#[derive(Drop)]
+pub struct Works {
+    pub(crate) alloc: Global,
+    pub core: Core,
+    pub(crate) watchers: Watchers,
+    pub(crate) dom: Dom,
+    pub(crate) resting: BTreeMap<Key, Option<Snap>>,
+    pub declared: BTreeMap<Key, Listener>,
+    pub(crate) templates: Templates,
+    pub(crate) page: Option<Linked>,
+}
+
+impl Works {
+    /// The works over a core and templates, of which none is linked.
+    pub fn new(alloc: Global, core: Core, templates: Templates) -> Works
+        ensures core { result.core ≡ core }
+        ensures state { state_of result ≡ blank (core_state core) }
+        ensures templates { templates_of result ≡ kept_templates templates }
+        ensures stands { Standing result none_stand }
+    {
+        Works {
+            alloc,
+            core,
+            watchers: Watchers::new(alloc),
+            dom: Dom::new(alloc),
+            resting: BTreeMap::new(alloc),
+            declared: BTreeMap::new(alloc),
+            templates,
+            page: None,
+        }
+    }
+
+    /// A fault is handed over.
+    pub fn hand_over(&mut self, f: Fault)
+        ensures state { state_of self.new ≡ with_core (with_fault f (state_of self.old).core) (state_of self.old) }
+        ensures sound { IsSound self.old.core → IsSound self.new.core }
+        ensures held { held self.new.core ≡ held self.old.core }
+        ensures depth { self.new.core.depth ≡ self.old.core.depth }
+        ensures templates { templates_of self.new ≡ templates_of self.old }
+        ensures stands { (ts : Stands) → Standing self.old ts → Standing self.new ts }
+    {
+        self.core.hand_over(f);
+    }
+
+    /// No fault was handed over yet.
+    pub fn forget_faults(&mut self)
+        ensures state { state_of self.new ≡ with_core (untroubled (state_of self.old).core) (state_of self.old) }
+        ensures core { self.new.core ≡ record self.old.core { handed = record { count = 0; first = None } } }
+        ensures sound { IsSound self.old.core → IsSound self.new.core }
+        ensures templates { templates_of self.new ≡ templates_of self.old }
+        ensures stands { (ts : Stands) → Standing self.old ts → Standing self.new ts }
+    {
+        self.core.handed = Handed {
+            count: 0,
+            first: None,
+        };
+    }
+
+    /// The watchers.
+    pub fn watchers(&self) -> &Watchers
+        ensures { result.now ≡ self.now.watchers }
+    {
+        &self.watchers
+    }
+
+    /// The document.
+    pub fn dom(&self) -> &Dom
+        ensures { result.now ≡ self.now.dom }
+    {
+        &self.dom
+    }
+
+    /// The templates.
+    pub fn templates(&self) -> &Templates
+        ensures { kept_templates result.now ≡ templates_of self.now }
+    {
+        &self.templates
+    }
+
+    /// The instance that stands, as its template and the keys of its sites.
+    pub fn page(&self) -> Option<&Linked>
+        ensures { option_map (λ p. page_of p.now) result ≡ option_map (λ l. l.page) (state_of self.now).linked }
+    {
+        self.page.as_ref()
+    }
+
+    /// Whether a key is that of a site of what is linked. Every other watcher is a declared watch.
+    pub fn is_site(&self, key: &Key) -> bool
+        ensures { result ≡ is_site (state_of self.now).linked key.now }
+    {
+        is_site(&self.page, key)
+    }
+
+    /// The listener of a declared watch.
+    pub fn listener(&self, key: &Key) -> Option<&Listener>
+        ensures { option_map (λ l. listening_of l.now) result ≡ lookup (is_key key.now) (state_of self.now).declared }
+    {
+        self.declared.get(key)
+    }
+
+    /// Says where the walk over the watchers stands: the next calls at this key, or right after it, find it without a search.
+    /// Nothing that contracts see changes.
+    pub fn seek(&mut self, key: &Key)
+        ensures unchanged { self.new ≡ self.old }
+    {
+        self.watchers.seek(key);
+    }
+}
