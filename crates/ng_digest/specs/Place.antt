@@ -22,8 +22,9 @@ pub record Moves (W : Type 0) : Type 1 where
   pub Key : Type 0
   pub machine : Machine State Key
   pub at : W → Place State Key
-  -- what else holds of a world between its calls, unless memory ran out
+  -- what else holds of a world between its calls, and what holds once its rounds are over, unless memory ran out
   pub Holds : W → Type 0
+  pub Rests : W → Type 0
 
 -- the cursor may move: behind a key that was dealt with, or once no task waits
 abbrev pub MayAdvance : Stage → Bool → Type 0

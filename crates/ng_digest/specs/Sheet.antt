@@ -26,7 +26,7 @@ abbrev pub place_of : Sheet → Place State ℕ
 place_of w = place (view w.board) w.progress
 
 abbrev pub sheet_moves : Moves Sheet
-sheet_moves = record { State = State; Key = ℕ; machine = board_machine; at = place_of; Holds = λ w. Unit {0} }
+sheet_moves = record { State = State; Key = ℕ; machine = board_machine; at = place_of; Holds = λ w. Unit {0}; Rests = λ w. Unit {0} }
 
 -- a state before a digest: nothing was handed over
 abbrev pub readied : State → State

@@ -194,7 +194,7 @@ fn finish<W: World>(w: &mut W, report: Report) -> Result<Report, DigestFault>
     requires stage { (W.moves.at w.old).stage ≡ Calm }
     requires holds { W.moves.Holds w.old }
     ensures end { Finishes W.moves.machine (W.moves.at w.old) report result (W.moves.at w.new) }
-    ensures holds { Unless result (W.moves.Holds w.new) }
+    ensures rests { Unless result (W.moves.Rests w.new) }
 {
     match w.post() {
         Ok(()) => {}
@@ -212,7 +212,7 @@ fn run<W: World>(w: &mut W) -> Result<Report, DigestFault>
     requires log { (W.moves.at w.old).log ≡ zero_log }
     requires holds { W.moves.Holds w.old }
     ensures run { Digests W.moves.machine (W.moves.at w.old) result (W.moves.at w.new) }
-    ensures holds { Unless result (W.moves.Holds w.new) }
+    ensures rests { Unless result (W.moves.Rests w.new) }
 {
     let end = match settle(w) {
         Ok(end) => end,
@@ -253,7 +253,7 @@ pub fn digest<W: World>(w: &mut W) -> Result<Report, DigestFault>
     ensures faulted { Unless result ((first : Fault) (count : ℕ) → result ≡ Err (Faulted first count) ↔ HasSettled W.moves.machine (Some (first, count)) (W.moves.at w.new)) }
     ensures settled { Unless result (IsOk result ↔ HasSettled W.moves.machine None (W.moves.at w.new)) }
     ensures report { IfOk result (λ report. IsReport report (W.moves.at w.new).log) }
-    ensures holds { Unless result (W.moves.Holds w.new) }
+    ensures rests { Unless result (W.moves.Rests w.new) }
 {
     run(w)
 }

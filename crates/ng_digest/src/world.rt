@@ -39,8 +39,8 @@ pub enum Stage {
 
 /// Watchers under keys, a cursor that goes up over the live keys, and tasks.
 pub trait World {
-    /// Its states and keys, what its calls do to a state, where it stands, and what else holds of it between its
-    /// calls. After a call that wanted memory nothing is said of it.
+    /// Its states and keys, what its calls do to a state, where it stands, what else holds of it between its calls, and what
+    /// holds once its rounds are over. After a call that wanted memory nothing is said of it.
     ghost moves: { Moves Self };
 
     /// Begins a round, and puts the cursor before the least key.
@@ -105,13 +105,13 @@ pub trait World {
         requires stage { (moves.at self.old).stage ≡ Stage.Calm }
         requires holds { moves.Holds self.old }
         ensures step { OnOk result (moves.at self.new ≡ posted moves.machine (moves.at self.old)) }
-        ensures holds { OnOk result (moves.Holds self.new) };
+        ensures rests { OnOk result (moves.Rests self.new) };
 
     /// Does what comes once the rounds were given up.
     fn fail(&mut self)
         requires { moves.Holds self.old }
         ensures step { moves.at self.new ≡ given_up moves.machine (moves.at self.old) }
-        ensures holds { moves.Holds self.new };
+        ensures rests { moves.Rests self.new };
 
     /// What was counted in this digest.
     fn log(&self) -> &Log

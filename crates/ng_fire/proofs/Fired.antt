@@ -19,7 +19,7 @@ use Rattle.ng_fire.specs.Runs.{asked_first}
 use Rattle.ng_fire.specs.Whole.{ListenersStand}
 use Rattle.ng_language.specs.Objects.{AreObjects}
 use Rattle.ng_language.specs.Views.{ViewStands}
-use Rattle.ng_works.specs.State.{State, Listening, is_site}
+use Rattle.ng_link.specs.State.{State, Listening, is_site}
 use Rattle.ng_watch.specs.Keys.{is_key}
 use Rattle.ng_watch.specs.Now.{value_now}
 use Rattle.ng_watch.specs.Seen.{Watching, Watcher, WatchStands}

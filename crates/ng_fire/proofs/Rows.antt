@@ -10,8 +10,8 @@ use Rattle.std.specs.declared.cmp.Ordering.TheVariants.{Less, Equal, Greater}
 use Rattle.ng_base.specs.Views.{ViewTree}
 use Rattle.ng_base.specs.declared.path.Key.{Key}
 use Rattle.ng_fire.specs.Whole.{KeptStands, ListenersStand, RowStands, RowsStand}
-use Rattle.ng_works.proofs.Keys.{key_is}
-use Rattle.ng_works.specs.State.{Linked, Listening, Declared, is_site}
+use Rattle.ng_link.proofs.Keys.{key_is}
+use Rattle.ng_link.specs.State.{Linked, Listening, Declared, is_site}
 use Rattle.ng_watch.specs.Keys.{key_cmp, is_key}
 use Rattle.ng_watch.specs.Seen.{Watching, Watcher}
 use Rattle.ng_watch.specs.Table.{Table, found, keeping, kept_at, with_kept, with_watch}

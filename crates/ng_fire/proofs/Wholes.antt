@@ -18,11 +18,11 @@ use Rattle.ng_fire.proofs.Runs.{value_run_state}
 use Rattle.ng_fire.specs.Changes.{applied, key_in, watching_in, listening_in}
 use Rattle.ng_fire.specs.Settling.{unset_all}
 use Rattle.ng_fire.specs.Whole.{IsWhole, ListenersStand, RowStands, RowsStand, Unless}
-use Rattle.ng_works.proofs.Same.{core_stands}
-use Rattle.ng_works.specs.Calls.{keeping_at, unset_at, declared_at, undeclared_at, left_at, ended_at}
-use Rattle.ng_works.specs.State.{State, Linked, Listening, is_site, state_of}
-use Rattle.ng_works.specs.Standing.{Standing}
-use Rattle.ng_works.specs.declared.works.Works.{Works}
+use Rattle.ng_link.proofs.Same.{core_stands}
+use Rattle.ng_link.specs.Calls.{keeping_at, unset_at, declared_at, undeclared_at, left_at, ended_at}
+use Rattle.ng_link.specs.State.{State, Linked, Listening, is_site, state_of}
+use Rattle.ng_link.specs.Standing.{Standing}
+use Rattle.ng_link.specs.declared.works.Works.{Works}
 use Rattle.ng_watch.specs.Ended.{is_over}
 use Rattle.ng_watch.specs.Keys.{begins, is_key, key_cmp}
 use Rattle.ng_watch.specs.Seen.{Watching, Watcher}

@@ -7,9 +7,9 @@ use Rattle.ng_base.specs.declared.path.Key.{Key}
 use Rattle.ng_behaviour.specs.Scopes.{path_at, object_at}
 use Rattle.ng_language.specs.declared.snapshots.SnapKind.{SnapKind}
 use Rattle.ng_language.specs.declared.snapshots.SnapKind.TheVariants as snaps
-use Rattle.ng_works.specs.Calls.{with_core, declared_at, undeclared_at, left_at}
-use Rattle.ng_works.specs.Shape.{key_on}
-use Rattle.ng_works.specs.State.{State, Listening}
+use Rattle.ng_link.specs.Calls.{with_core, declared_at, undeclared_at, left_at}
+use Rattle.ng_link.specs.Shape.{key_on}
+use Rattle.ng_link.specs.State.{State, Listening}
 use Rattle.ng_watch.specs.Seen.{Watching}
 use Rattle.ng_watch.specs.declared.watch.WatchKind.{WatchKind}
 use Rattle.ng_watch.specs.declared.watch.WatchKind.TheVariants as kinds

@@ -11,8 +11,8 @@ use Rattle.ng_base.specs.declared.fault.Fault.{Fault}
 use Rattle.ng_base.specs.declared.path.Key.{Key}
 use Rattle.ng_fire.specs.Changes.{has_additions}
 use Rattle.ng_fire.specs.Runs.{asked_first, followed}
-use Rattle.ng_works.specs.Calls.{keeping_at}
-use Rattle.ng_works.specs.State.{State, Listening, is_site}
+use Rattle.ng_link.specs.Calls.{keeping_at}
+use Rattle.ng_link.specs.State.{State, Listening, is_site}
 use Rattle.ng_view.specs.Evaluation.{Local}
 use Rattle.ng_watch.specs.Keys.{is_key}
 use Rattle.ng_watch.specs.Now.{value_now}

@@ -5,8 +5,8 @@ use Rattle.ng_act.specs.State as act
 use Rattle.ng_act.specs.State.{Run, Task, handed}
 use Rattle.ng_base.specs.Views.{ViewTree}
 use Rattle.ng_fire.specs.Changes.{changed}
-use Rattle.ng_works.specs.Calls.{with_core}
-use Rattle.ng_works.specs.State.{State}
+use Rattle.ng_link.specs.Calls.{with_core}
+use Rattle.ng_link.specs.State.{State}
 
 -- What is asked where no body and no event is open, so that 64 may be. It is closed where its steps don't matter.
 unfoldable pub asked_first : Asked → act.State → Run ViewTree

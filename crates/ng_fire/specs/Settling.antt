@@ -10,8 +10,8 @@ use Rattle.ng_base.specs.declared.path.Key.{Key}
 use Rattle.ng_behaviour.specs.Scopes.{object_at}
 use Rattle.ng_drawing.specs.Instance.{text_now}
 use Rattle.ng_language.specs.Trees.{Trees}
-use Rattle.ng_works.specs.Calls.{with_core, unset_at, ended_at}
-use Rattle.ng_works.specs.State.{State}
+use Rattle.ng_link.specs.Calls.{with_core, unset_at, ended_at}
+use Rattle.ng_link.specs.State.{State}
 use Rattle.ng_view.specs.Purity.{are_pure, all_filters_known}
 
 -- watchers keep nothing any more, so that the next digest fires them again

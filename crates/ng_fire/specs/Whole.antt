@@ -7,9 +7,9 @@ use Rattle.ng_base.specs.Views.{ViewTree}
 use Rattle.ng_base.specs.declared.fault.Fault.{Fault}
 use Rattle.ng_base.specs.declared.path.Key.{Key}
 use Rattle.ng_language.specs.Views.{ViewStands}
-use Rattle.ng_works.specs.Standing.{IsStanding}
-use Rattle.ng_works.specs.State.{Linked, Listening, Declared, is_site, state_of}
-use Rattle.ng_works.specs.declared.works.Works.{Works}
+use Rattle.ng_link.specs.Standing.{IsStanding}
+use Rattle.ng_link.specs.State.{Linked, Listening, Declared, is_site, state_of}
+use Rattle.ng_link.specs.declared.works.Works.{Works}
 use Rattle.ng_watch.specs.Seen.{Watcher}
 use Rattle.ng_watch.specs.Table.{Table}
 

@@ -6,8 +6,8 @@ ghost use Rattle.ng_behaviour.specs.Scopes.{path_at};
 ghost use Rattle.ng_fire.specs.Changes.{kind_of, applied, applied_all, changed, without_changes, has_additions};
 ghost use Rattle.ng_fire.specs.Whole.{IsWhole};
 ghost use Rattle.ng_act.specs.State.{adds};
-ghost use Rattle.ng_works.specs.Shape.{key_on};
-ghost use Rattle.ng_works.specs.State.{state_of, templates_of};
+ghost use Rattle.ng_link.specs.Shape.{key_on};
+ghost use Rattle.ng_link.specs.State.{state_of, templates_of};
 
 use ng_act::core_state::Core;
 use ng_act::pending::{DeclaredWatch, WatchChange};
@@ -16,7 +16,7 @@ use ng_base::name::{ScopeId, Serial};
 use ng_base::path::Key;
 use ng_language::snapshots::SnapKind;
 use ng_watch::watch::{Watch, WatchKind};
-use ng_works::works::{Listener, Works};
+use ng_link::works::{Listener, Works};
 use std::alloc::Global;
 use std::mem::replace;
 

@@ -7,8 +7,8 @@ ghost use Rattle.ng_base.specs.Views.{ViewTree};
 ghost use Rattle.ng_fire.specs.Fires.{fired, fired_by, fire_adds, adds_by, listener_at, listener_run, value_at, IsDirtyWith};
 ghost use Rattle.ng_fire.specs.Whole.{IsWhole, KeptStands};
 ghost use Rattle.ng_language.specs.Views.{ViewStands};
-ghost use Rattle.ng_works.specs.Calls.{keeping_at};
-ghost use Rattle.ng_works.specs.State.{state_of, templates_of, listening_of, is_site};
+ghost use Rattle.ng_link.specs.Calls.{keeping_at};
+ghost use Rattle.ng_link.specs.State.{state_of, templates_of, listening_of, is_site};
 ghost use Rattle.ng_value.specs.Snaps.{snap_of};
 ghost use Rattle.ng_watch.specs.Now.{value_now};
 ghost use Rattle.ng_watch.specs.Seen.{watching_of};
@@ -24,7 +24,7 @@ use ng_store::store::Store;
 use ng_value::snapshot::Snap;
 use ng_view::view;
 use ng_watch::watch::Watch;
-use ng_works::works::{Listener, Works};
+use ng_link::works::{Listener, Works};
 use std::alloc::Global;
 
 /// The value of a watch's program over its scope.

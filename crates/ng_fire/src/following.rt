@@ -8,14 +8,14 @@ ghost use Rattle.ng_base.specs.declared.value.Value.{Value as Given};
 ghost use Rattle.ng_fire.specs.Changes.{changed, has_additions};
 ghost use Rattle.ng_fire.specs.Runs.{followed};
 ghost use Rattle.ng_fire.specs.Whole.{IsWhole, Unless};
-ghost use Rattle.ng_works.specs.Calls.{with_core};
-ghost use Rattle.ng_works.specs.State.{state_of, templates_of};
+ghost use Rattle.ng_link.specs.Calls.{with_core};
+ghost use Rattle.ng_link.specs.State.{state_of, templates_of};
 ghost use Rattle.ng_act.specs.State.{with_fault};
 
 use crate::changing::apply_changes;
 use ng_base::fault::{Fault, Memory};
 use ng_base::value::Value;
-use ng_works::works::Works;
+use ng_link::works::Works;
 use std::alloc::Global;
 
 /// What a program that ran came to: whether it faulted, and whether it left a watcher more.

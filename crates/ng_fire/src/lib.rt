@@ -1,6 +1,6 @@
 //! What a fire, a task and a settled digest do to the works of a page (guide: Scopes, "Scope Life Cycle"; API: `$watch`, `$digest`).
 //!
-//! The works of `ng_works` are a core, watchers and a document. A program that runs on the core leaves there what the watchers
+//! The works of `ng_link` are a core, watchers and a document. A program that runs on the core leaves there what the watchers
 //! are to become, and its fault is handed over. This crate runs the programs that a digest runs, and does what they leave:
 //!
 //! - `fire`: a dirty watcher keeps its snapshot of now. The site of a template shows it, and that is all; a declared watch runs
@@ -17,7 +17,7 @@
 //! `listening` runs the program of a declared watch, `firing` is the fire, `tasks` the tasks, `settling` what comes last.
 //!
 //! Not here: which watcher is tested when (`ng_digest`, `ng_page`), what a program does (`ng_act`), and how nodes and watchers
-//! hang together (`ng_works`).
+//! hang together (`ng_link`).
 #![tactic(auto)]
 
 pub mod changing;

@@ -6,7 +6,7 @@ ghost use Rattle.ng_base.specs.ViewOf.{view_of};
 ghost use Rattle.ng_fire.specs.Fires.{former_value, listener_locals, listener_run};
 ghost use Rattle.ng_fire.specs.Whole.{KeptStands};
 ghost use Rattle.ng_language.specs.Views.{ViewStands};
-ghost use Rattle.ng_works.specs.State.{listening_of};
+ghost use Rattle.ng_link.specs.State.{listening_of};
 ghost use Rattle.ng_value.specs.Snaps.{snap_of};
 ghost use Rattle.ng_view.specs.Evaluation.{LocalsStand};
 
@@ -22,7 +22,7 @@ use ng_base::value::Value;
 use ng_base::view::View;
 use ng_value::copies::copied;
 use ng_value::snapshot::Snap;
-use ng_works::works::Listener;
+use ng_link::works::Listener;
 use std::alloc::{AllocError, Global};
 
 /// The value of a snapshot, or of the value of now where nothing was kept.

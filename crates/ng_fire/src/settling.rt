@@ -8,8 +8,8 @@ ghost use Rattle.ng_base.specs.declared.fault.Fault.{Fault as AFault};
 ghost use Rattle.ng_drawing.specs.Instance.{text_now as text_now_of};
 ghost use Rattle.ng_fire.specs.Settling.{settled, given_up, unset_all, probed, probe_text, printed_as, is_watchable, without_probes};
 ghost use Rattle.ng_fire.specs.Whole.{IsWhole};
-ghost use Rattle.ng_works.specs.Calls.{ended_at};
-ghost use Rattle.ng_works.specs.State.{state_of, templates_of};
+ghost use Rattle.ng_link.specs.Calls.{ended_at};
+ghost use Rattle.ng_link.specs.State.{state_of, templates_of};
 ghost use Rattle.ng_parse.specs.ProgramOf.{program as trees_of};
 ghost use Rattle.std.specs.Prelude.{Err};
 
@@ -24,7 +24,7 @@ use ng_parse::Program;
 use ng_store::store::Store;
 use ng_value::texts::show_text;
 use ng_view::{filters_known, is_pure, view};
-use ng_works::works::Works;
+use ng_link::works::Works;
 use std::alloc::{AllocError, Global};
 use std::collections::BTreeSet;
 

@@ -6,8 +6,8 @@ ghost use Rattle.ng_act.specs.Frames.{IsSound, Acts, task_of};
 ghost use Rattle.ng_act.specs.Running.{as_value_run, same};
 ghost use Rattle.ng_fire.specs.Runs.{any_waits, asked_first, followed, ran, without_task};
 ghost use Rattle.ng_fire.specs.Whole.{IsWhole};
-ghost use Rattle.ng_works.specs.Calls.{with_core};
-ghost use Rattle.ng_works.specs.State.{state_of, templates_of};
+ghost use Rattle.ng_link.specs.Calls.{with_core};
+ghost use Rattle.ng_link.specs.State.{state_of, templates_of};
 ghost use Rattle.ng_parse.specs.ProgramOf.{program};
 ghost use Rattle.ng_view.specs.Evaluation.{LocalsStand};
 
@@ -20,7 +20,7 @@ use ng_base::locals::Locals;
 use ng_base::name::ScopeId;
 use ng_base::value::Value;
 use ng_parse::Program;
-use ng_works::works::Works;
+use ng_link::works::Works;
 use std::alloc::Global;
 
 /// Runs a program as a body while none is open.

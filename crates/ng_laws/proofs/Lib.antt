@@ -1,11 +1,11 @@
 pub mod Ends
+pub mod Sorted
+pub mod Ordered
 pub mod Opening
 pub mod Cloaks
 pub mod Cutting
 pub mod Cases
 pub mod Found
-pub mod Soon
 pub mod Spans
 pub mod Cuts
-pub mod Watched
 pub mod Crowded

@@ -2,4 +2,3 @@ pub mod Sessions
 pub mod Cloaks
 pub mod Turns
 pub mod Camel
-pub mod Rounds

@@ -1,20 +1,29 @@
 -- What is there: the end of a digest, and the session of the files of a run; and what a page with too many nodes is.
-use Rattle.std.specs.Prelude.{ℕ, ◌≡◌, ◌<◌, Result, Ok}
+use Rattle.std.specs.Prelude.{◌≡◌, ◌<◌, Result, Ok}
 use Rattle.std.specs.Option.{IfSome}
+use Rattle.ng_base.specs.declared.path.Key.{Key}
+use Rattle.ng_digest.specs.Early.{plain_answer}
 use Rattle.ng_digest.specs.Laws.{InOrder}
 use Rattle.ng_digest.specs.Plain.{Plain, PlainDigests}
+use Rattle.ng_digest.specs.Place.{Place}
+use Rattle.ng_digest.specs.Short.{Digests}
+use Rattle.ng_digest.specs.declared.log.Report.{Report}
 use Rattle.ng_digest.specs.declared.rounds.DigestFault.{DigestFault}
 use Rattle.ng_drawing.specs.Nodes.{nodes, node_limit}
+use Rattle.ng_link.specs.State as link
+use Rattle.ng_link.specs.State.{shown}
 use Rattle.ng_markup.specs.Forest.{no_nodes}
-use Rattle.ng_page.specs.PageMachine.{page_machine}
-use Rattle.ng_page.specs.State.{State, shown}
+use Rattle.ng_page.specs.Answered.{ready_place}
+use Rattle.ng_page.specs.PageMachine.{State, page_machine, readied}
 use Rattle.ng_run.specs.Files.{Inputs}
 use Rattle.ng_run.specs.Refusals.{Accepted, accepted}
 use Rattle.ng_run.specs.Session.{Reply, Session}
 
--- a plain digest over the watchers of a page, which stand in key order, comes to an end, with an answer
+-- A digest over the watchers of a page, which stand in key order, comes to an end: the one that stops early, and the plain one
+-- with the same answer and in the same state.
 abbrev pub DigestEnds : Type 0
-DigestEnds = (s : State) → InOrder page_machine s → (answer : Result (ℕ × ℕ) DigestFault) × (end : Plain State) × PlainDigests page_machine s answer end
+DigestEnds = (s : link.State) → InOrder page_machine (readied s) → (answer : Result Report DigestFault) × (short : Place State Key) × (end : Plain State)
+    × Digests page_machine (ready_place s) answer short × PlainDigests page_machine (readied s) (plain_answer answer) end × (end.state ≡ short.state)
 
 -- the files of a run have a session
 abbrev pub SessionIsThere : Type 0

@@ -2,11 +2,10 @@
 //!
 //! - `sessions`: the files of a run have a session. `run` of `ng_run` says that what a run writes is the session of its files, a
 //!   relation over the plain digest, and `session_is_one` of that crate that there is at most one. The law here says that there
-//!   is one: whatever the bytes of the files are, the session refuses one of them, or the page opens and its plain digest comes
-//!   to an end. `proofs/Ends` shows that of any world at which no task waits and whose keys stand in order: a fire and a test
-//!   leave the live keys, so that each step of a walk has one key less ahead, and the eleventh dirty round is the last. And it
-//!   comes soon, which `proofs/Soon` shows of any world whose fires leave their watchers clean and dirty no other: the second
-//!   round finds nothing to fire. `proofs/Watched` has what both rest on, of the watchers of a page.
+//!   is one: whatever the bytes of the files are, the session refuses one of them, or the page opens and its plain digest, where
+//!   one is due, comes to an end. `proofs/Ends` shows that of any world whose keys stand in order whatever is done to it: a test
+//!   leaves the live keys, so that each step of a walk has one key less ahead; fires and tasks are limited, and the eleventh
+//!   dirty round is the last. `proofs/Ordered` shows of a page that its keys stand in order.
 //! - `cloak`: `ng-cloak` leaves no trace in a class. Each class is words, each after its white space, and what stays is
 //!   the same without the words `ng-cloak`; so a class without that word stays as it is.
 //! - `holes`: each text is words and holes in turn, and is cut into them. Words go up to the first `{{`, a hole up to the

@@ -1,17 +1,10 @@
 //! Sessions and their digests: contracts without bodies.
-ghost use Rattle.ng_laws.specs.Rounds.{DigestEndsSoon};
 ghost use Rattle.ng_laws.specs.Sessions.{DigestEnds, SessionIsThere, CrowdedPageIsEmpty};
 
 /// The files of a run have a session, whatever their bytes are, since a digest over the watchers of a page comes to an end.
 pub fn each_pair_of_files_has_a_session()
     ensures ends { DigestEnds }
     ensures there { SessionIsThere }
-{}
-
-/// A page of whose watchers none is a two-way binding settles in two rounds: its digest answers Ok then, hands the faults of
-/// its tests over, or meets the limit of fires, and nothing else.
-pub fn digest_ends_soon()
-    ensures { DigestEndsSoon }
 {}
 
 /// A page that would have more than 200,000 nodes is empty, and the status of the run is 1.

@@ -1,5 +1,5 @@
 -- A page that stands displays the drawing of its template with what its instance has kept.
-use Rattle.std.proofs.Common.{◌≡◌, ◌<◌, ◌+◌, ℕ, zero, suc, List, [], ◌∷◌, ◌++◌, Option, Some, refl, ap, ◌∙◌, sym, subst, arith, slice_get}
+use Rattle.std.proofs.Common.{◌≡◌, ◌<◌, ◌+◌, ℕ, zero, suc, List, [], ◌∷◌, ◌++◌, Option, Some, None, refl, ap, ◌∙◌, sym, subst, arith, slice_get}
 use Rattle.ng_markup.specs.Forest.{Attributes, Node, Forest, element, text, no_nodes, node}
 use Rattle.ng_dom.specs.Drawing.{Stands, none_stand, shows}
 use Rattle.ng_dom.specs.Nodes.{plain}
@@ -10,8 +10,8 @@ use Rattle.ng_template.specs.Holes.{PiecesBelow, ValuesBelow, PartBelow, HolesBe
 use Rattle.ng_watch.specs.Table.{Table}
 use Rattle.ng_link.specs.Laws.{PageDisplaysInstance}
 use Rattle.ng_link.specs.Shape.{key_on}
-use Rattle.ng_link.specs.Standing.{HasShape, IsShape, IsPage, Standing, Displays}
-use Rattle.ng_link.specs.State.{Page, keys_of, table_of, templates_of, texts_of, site_state, site_states, instance_at}
+use Rattle.ng_link.specs.Standing.{HasShape, IsPage, Standing, Displays}
+use Rattle.ng_link.specs.State.{Page, Linked, Resting, keys_of, state_of, texts_of, texts_in, site_state, site_states, instance_at, shown_in}
 use Rattle.ng_link.specs.declared.works.Works.{Works}
 use Rattle.ng_link.proofs.Shapes.{shape_draws}
 
@@ -43,41 +43,48 @@ module _ (look same : Look) (count : ℕ) (agree : (n : ℕ) → n < count → l
         ∙ ap (λ (f : Forest). node (draw_part same p) f) (same_parts ps h.1)
 
 -- the state of a site by its number
-pub state_at : (t : Table) (scope : ℕ) (path : List ℕ) (n k j : ℕ) → j < k → slice_get (site_states t scope path n k) j ≡ Some (site_state t scope (key_on path (n + j)))
-state_at t scope path n zero j lt = absurd (omega (arith, lt))
-state_at t scope path n (suc k) zero lt = ap (λ (m : ℕ). Some (site_state t scope (key_on path m))) (let same : n ≡ n + 0 = omega arith in same)
-state_at t scope path n (suc k) (suc j) lt = state_at t scope path (n + 1) k j (omega (arith, lt)) ∙ ap (λ (m : ℕ). Some (site_state t scope (key_on path m))) (let same : n + 1 + j ≡ n + suc j = omega arith in same)
+module _ (t : Table) (r : Resting) (scope : ℕ) (path : List ℕ) where
+  state_at : (n k j : ℕ) → j < k → slice_get (site_states t r scope path n k) j ≡ Some (site_state t r scope (key_on path (n + j)))
+  state_at n zero j lt = absurd (omega (arith, lt))
+  state_at n (suc k) zero lt = ap (λ (m : ℕ). Some (site_state t r scope (key_on path m))) (let same : n ≡ n + 0 = omega arith in same)
+  state_at n (suc k) (suc j) lt = state_at (n + 1) k j (omega (arith, lt)) ∙ ap (λ (m : ℕ). Some (site_state t r scope (key_on path m))) (let same : n + 1 + j ≡ n + suc j = omega arith in same)
 
-shaped : (w : Works) (ts : Stands) (p : Page) (t : Template) (g : Standing w ts) → HasShape t p ts → Displays w (shown t (instance_at (table_of w) p))
-shaped w ts p t g h = record {
-  forest = shows (texts_of (table_of w)) ts;
+  -- one site more
+  states-push : (n k : ℕ) → site_states t r scope path n k ++ site_state t r scope (key_on path (n + k)) ∷ [] ≡ site_states t r scope path n (suc k)
+  states-push n zero = ap (λ (m : ℕ). site_state t r scope (key_on path m) ∷ []) (let same : n + 0 ≡ n = omega arith in same)
+  states-push n (suc k) =
+      ap (λ (m : ℕ). site_state t r scope (key_on path n) ∷ (site_states t r scope path (n + 1) k ++ site_state t r scope (key_on path m) ∷ [])) (let same : n + suc k ≡ n + 1 + k = omega arith in same)
+      ∙ ap (λ (zs : List SiteState). site_state t r scope (key_on path n) ∷ zs) (states-push (n + 1) k)
+
+  pub states_then : (n k : ℕ) (xs : List SiteState) (y : SiteState) → xs ≡ site_states t r scope path n k → y ≡ site_state t r scope (key_on path (n + k)) → xs ++ y ∷ [] ≡ site_states t r scope path n (k + 1)
+  states_then n k xs y e is =
+      ap (λ (ys : List SiteState). ys ++ y ∷ []) e
+      ∙ (ap (λ (z : SiteState). site_states t r scope path n k ++ z ∷ []) is
+      ∙ (states-push n k ∙ ap (site_states t r scope path n) (let same : suc k ≡ k + 1 = omega arith in same)))
+
+-- what is linked
+shaped : (w : Works) (ts : Stands) (l : Linked) → Standing w ts → HasShape l.template l.page ts → Displays w (shown_in (state_of w).watchers (state_of w).resting (Some l))
+shaped w ts l g h =
+    let t = (state_of w).watchers in
+    let r = (state_of w).resting in
+    let p : Page = l.page in
+    record {
+      forest = shows (texts_in (state_of w)) ts;
+      shown = g.shown;
+      plain =
+          ap (λ (s : Stands). plain (shows (texts_in (state_of w)) s)) h.shape
+          ∙ (shape_draws (keys_of p) (texts_of t r) h.name l.template.parts
+          ∙ same_parts (λ n. texts_of t r (keys_of p n)) (λ n. state_text (slice_get (instance_at t r p).sites n)) p.count
+          (λ n lt. sym (ap state_text (state_at t r p.scope p.path p.first p.count n lt))) l.template.parts h.holes);
+    }
+
+displays_linked : (w : Works) (ts : Stands) (o : Option Linked) → Standing w ts → IsPage o w.dom ts → Displays w (shown_in (state_of w).watchers (state_of w).resting o)
+displays_linked w ts None g h = record {
+  forest = shows (texts_in (state_of w)) ts;
   shown = g.shown;
-  plain =
-      ap (λ (s : Stands). plain (shows (texts_of (table_of w)) s)) h.shape
-      ∙ (shape_draws (keys_of p) (texts_of (table_of w)) h.name t.parts
-      ∙ same_parts (λ n. texts_of (table_of w) (keys_of p n)) (λ n. state_text (slice_get (instance_at (table_of w) p).sites n)) p.count
-      (λ n lt. sym (ap state_text (state_at (table_of w) p.scope p.path p.first p.count n lt))) t.parts h.holes);
+  plain = ap (λ (s : Stands). plain (shows (texts_in (state_of w)) s)) h.stands;
 }
+displays_linked w ts (Some l) g h = shaped w ts l g h
 
 pub page_displays : PageDisplaysInstance
-page_displays w ts p t g is at =
-    let here : IsPage (templates_of w) (Some p) ts = let F : Option Page → Type 0 = λ o. IsPage (templates_of w) o ts in subst F is g.page in
-    let there : IsShape (Some t) p ts = let F : Option Template → Type 0 = λ o. IsShape o p ts in subst F at here in
-    shaped w ts p t g there
-
--- where nothing stands, nothing is displayed
-pub bare_displays : (w : Works) → Standing w none_stand → Displays w no_nodes
-bare_displays w g = record { forest = shows (texts_of (table_of w)) none_stand; shown = g.shown; plain = refl }
-
--- one site more
-states-push : (t : Table) (scope : ℕ) (path : List ℕ) (n k : ℕ) → site_states t scope path n k ++ site_state t scope (key_on path (n + k)) ∷ [] ≡ site_states t scope path n (suc k)
-states-push t scope path n zero = ap (λ (m : ℕ). site_state t scope (key_on path m) ∷ []) (let same : n + 0 ≡ n = omega arith in same)
-states-push t scope path n (suc k) =
-    ap (λ (m : ℕ). site_state t scope (key_on path n) ∷ (site_states t scope path (n + 1) k ++ site_state t scope (key_on path m) ∷ [])) (let same : n + suc k ≡ n + 1 + k = omega arith in same)
-    ∙ ap (λ (zs : List SiteState). site_state t scope (key_on path n) ∷ zs) (states-push t scope path (n + 1) k)
-
-pub states_then : (t : Table) (scope : ℕ) (path : List ℕ) (n k : ℕ) (xs : List SiteState) (y : SiteState) → xs ≡ site_states t scope path n k → y ≡ site_state t scope (key_on path (n + k)) → xs ++ y ∷ [] ≡ site_states t scope path n (k + 1)
-states_then t scope path n k xs y e is =
-    ap (λ (ys : List SiteState). ys ++ y ∷ []) e
-    ∙ (ap (λ (z : SiteState). site_states t scope path n k ++ z ∷ []) is
-    ∙ (states-push t scope path n k ∙ ap (site_states t scope path n) (let same : suc k ≡ k + 1 = omega arith in same)))
+page_displays w ts g = displays_linked w ts (state_of w).linked g g.page

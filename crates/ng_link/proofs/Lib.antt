@@ -1,10 +1,15 @@
 pub mod Shapes
 pub mod Ends
 pub mod Keys
+pub mod Tables
+pub mod Watched
+pub mod Agree
+pub mod Places
+pub mod Rested
+pub mod Same
 pub mod Built
 pub mod Loops
 pub mod Rows
 pub mod Displayed
 pub mod Fired
 pub mod Links
-pub mod Handed

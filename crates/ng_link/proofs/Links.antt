@@ -1,32 +1,46 @@
 -- What a link leaves stands.
-use Rattle.std.proofs.Common.{◌≡◌, ◌≤◌, ◌<◌, ◌+◌, ℕ, zero, suc, Bool, true, false, cond, List, [], ◌∷◌, ◌++◌, Option, Some, None, refl, ap, ◌∙◌, sym, subst, map, length, arith, slice_get}
-use Rattle.std.specs.Prelude.{◌==◌, IsSome, option_map, option_and_then}
+use Rattle.std.proofs.Common.{◌≡◌, ◌≤◌, ◌<◌, ◌+◌, ℕ, zero, suc, Bool, true, false, cond, List, [], ◌∷◌, ◌++◌, Option, Some, None, refl, ap, ◌∙◌, sym, subst, map, length, arith, slice_get, get_or}
+use Rattle.std.specs.Prelude.{◌==◌, IsSome, option_map, option_and_then, unwrap_or}
 use Rattle.std.proofs.lemmas.Bool.{eqb-true}
-use Rattle.std.specs.BTreeMap.{BTreeMap, get}
+use Rattle.std.specs.Map.{lookup}
 use Rattle.std.proofs.lemmas.Option.{slice_get-get_or}
-use Rattle.ng_base.specs.declared.name.NodeId.{NodeId}
+use Rattle.ng_act.specs.Frames as cores
+use Rattle.ng_act.specs.State as act
+use Rattle.ng_act.specs.declared.core_state.Core.{Core}
+use Rattle.ng_behaviour.specs.Scopes.{path_at, object_at}
 use Rattle.ng_base.specs.declared.path.Key.{Key}
 use Rattle.ng_dom.specs.Drawing.{in_text}
-use Rattle.ng_drawing.specs.Template.{PartAttributes, Part, Parts, text_part, comment_part, element_part, no_parts, part_then, Template}
-use Rattle.ng_watch.specs.Keys.{key_cmp}
+use Rattle.ng_drawing.specs.Template.{PartAttributes, Part, Parts, text_part, comment_part, element_part, no_parts, part_then, Site, Template}
+use Rattle.ng_drawing.specs.Instance.{kept_text}
+use Rattle.ng_drawing.specs.declared.kind.SiteKind.TheVariants.{Text}
+use Rattle.ng_language.specs.Trees.{no_trees}
+use Rattle.ng_watch.specs.Keys.{is_key}
+use Rattle.ng_watch.specs.Seen.{Watcher}
+use Rattle.ng_watch.specs.Table.{Table, watchers_of, found}
+use Rattle.ng_watch.specs.declared.watched.Watched.{Watched}
 use Rattle.std.proofs.Common.{zero-add}
-use Rattle.ng_behaviour.specs.Scopes.{path_at, object_at}
 use Rattle.ng_dom.specs.Document.{Shows}
 use Rattle.ng_link.specs.Sources.{sources}
-use Rattle.ng_dom.specs.Drawing.{Stands, shows}
+use Rattle.ng_dom.specs.Drawing.{Stands, shows, HeldAll}
+use Rattle.ng_dom.specs.Nodes.{NamedForest}
+use Rattle.ng_dom.specs.declared.dom.Dom.{Dom}
 use Rattle.std.specs.List.{list_all}
 use Rattle.ng_drawing.specs.Template as template
+use Rattle.ng_template.specs.Kept.{Named}
 use Rattle.ng_template.specs.Holes.{PiecesBelow, ValuesBelow, PartBelow, HolesBelow}
 use Rattle.ng_link.specs.Building.{unset, HomedAll, AllAt}
-use Rattle.ng_link.specs.Linked.{Links}
-use Rattle.ng_link.specs.Rows.{fresh_rows}
-use Rattle.ng_act.specs.State.{State}
-use Rattle.ng_link.specs.State.{core_of, table_of, templates_of, page_of, template_at, places_of}
+use Rattle.ng_link.specs.Rows.{with_sites}
+use Rattle.ng_link.specs.Standing.{WatchersStand, IsStanding}
+use Rattle.ng_link.specs.Calls.{numbered, linked_in}
+use Rattle.ng_link.specs.State.{State, is_site_of, kept_or, page_of, templates_of, template_at, template_or, places_of, state_of, texts_in}
+use Rattle.ng_link.specs.declared.works.Linked.{Linked as Instance}
 use Rattle.ng_link.specs.declared.works.Works.{Works}
+use Rattle.ng_link.proofs.Agree.{all_agree}
+use Rattle.ng_link.proofs.Places.{placed_site, number_below, number_of_site, spot_there}
+use Rattle.ng_link.proofs.Rows.{fresh, sites_found, all_at}
 use Rattle.ng_link.proofs.Shapes.{both_true, counted, all_held}
-use Rattle.ng_link.proofs.Rows.{rows_unset, rows_found, rows_stand, all_at}
+use Rattle.ng_link.proofs.Watched.{stand_sites}
 use Rattle.ng_link.specs.Order.{after_pieces, after_part, after_parts, is_plain_piece, are_plain, are_regular, names_rise, is_number, is_regular, HasRising, HaveRising}
-use Rattle.ng_link.specs.Placing.{node_name, HoldsAll, AllBelow}
 use Rattle.ng_link.specs.Shape.{keys_from, shape, holes}
 
 regular_rises : (ats : PartAttributes) → are_regular ats ≡ true → names_rise ats ≡ true
@@ -59,56 +73,92 @@ regular_count t e = by_count (after_parts 0 t.parts) e
     by_count None g = absurd (cc)
     by_count (Some k) g = ap Some (eqb-true k (length t.sites) g)
 
--- the key of each number below has a place
-pub held_there : (texts : BTreeMap Key NodeId) (path : List ℕ) (first : ℕ) (holes : List ℕ) → HoldsAll texts path first holes → (j : ℕ) → j < length holes → IsSome (option_map in_text (node_name (get key_cmp texts (keys_from path first j))))
-held_there texts path first holes all j lt =
-    let there : node_name (get key_cmp texts (keys_from path first j)) ≡ Some (Rattle.std.proofs.Common.get_or holes j 0) = all j (Rattle.std.proofs.Common.get_or holes j 0) (slice_get-get_or holes j 0 lt) in
-    rw there refl
+no_site : Site
+no_site = record { kind = Text; one_time = false; program = no_trees }
 
-placed_some : (o : Option ℕ) → IsSome (option_map in_text o) → IsSome o
-placed_some None h = absurd (cc)
-placed_some (Some n) h = refl
+-- What a link leaves: the works with another core, other watchers, another document and an instance.
+abbrev pub after : Works → Core → List (Key × Watched) → Dom → Instance → Works
+after w core ws d p = record w { core = core; watchers = ws; dom = d; page = Some p }
 
--- a link leaves what stands
-pub linked_stands : (old new : Works) (t : Template) (scope number m : ℕ) (path : List ℕ) (object first : ℕ) (found_holes : List ℕ)
-    → path ≡ path_at (core_of old).scopes scope → object ≡ object_at (core_of old).scopes scope → first ≡ (core_of old).serial
-    → is_regular t ≡ true → HolesBelow (length t.sites) t.parts → object < length (core_of old).objects
-    → page_of new ≡ Some (record { template = number; scope = scope; path = path; first = first; count = length t.sites })
-    → table_of new ≡ fresh_rows path object first t.sites
-    → core_of new ≡ record (core_of old) { serial = first + length t.sites }
-    → templates_of new ≡ templates_of old → template_at (templates_of old) number ≡ Some t
-    → Shows new.dom (shows unset (shape (keys_from path first) m t.parts))
-    → HomedAll (sources new.dom) (shape (keys_from path first) m t.parts)
-    → found_holes ≡ holes m t.parts
-    → HoldsAll new.texts path first found_holes → AllBelow new.texts (first + length found_holes)
-    → Links scope number t old new
-linked_stands old new t scope number m path object first found_holes is_path is_object is_first regular below_count room page table core templates at shown homed is_holes held under =
-    let count : after_parts 0 t.parts ≡ Some (length t.sites) = regular_count t regular in
-    let many : length t.sites ≡ 0 + length (holes m t.parts) = counted 0 m (length t.sites) t.parts count in
-    let many_found : length found_holes ≡ length t.sites = ap length is_holes ∙ sym (many ∙ zero-add (length (holes m t.parts))) in
-    let serial : (core_of new).serial ≡ first + length t.sites = ap (λ (c : State). c.serial) core in
-    let objects : (core_of new).objects ≡ (core_of old).objects = ap (λ (c : State). c.objects) core in
-    let ts : Stands = shape (keys_from path first) m t.parts in
-    let places : AllAt (places_of new) (keys_from path first) 0 (holes m t.parts) =
-    subst (λ (xs : List ℕ). AllAt (places_of new) (keys_from path first) 0 xs) is_holes
-    (all_at (places_of new) (keys_from path first) 0 found_holes (λ j x e. ap (λ (i : ℕ). places_of new (keys_from path first i)) (zero-add j) ∙ ap (option_map in_text) (held j x e))) in
-    record {
-      page = rw (← is_path, ← is_first) page;
-      table = rw (← is_path, ← is_object, ← is_first) table;
-      core = rw (← is_first) core;
-      templates = templates;
-      stands = (
+-- a site for each hole
+pub many_holes : (t : Template) (m : ℕ) → is_regular t ≡ true → length (holes m t.parts) ≡ length t.sites
+many_holes t m regular =
+    let all : length t.sites ≡ 0 + length (holes m t.parts) = counted 0 m (length t.sites) t.parts (regular_count t regular) in
+    sym (all ∙ zero-add (length (holes m t.parts)))
+
+pub is_template : (all : List Named) (n : ℕ) (t : Template) → template_at all n ≡ Some t → template_or all n ≡ t
+is_template all n t at = ap (λ (o : Option Template). unwrap_or o (record { parts = no_parts; sites = [] })) at
+
+-- the state after a link
+module _ (w : Works) (core : Core) (ws : List (Key × Watched)) (d : Dom) (p : Instance) (t : Template) where
+  abbrev made : act.State → Table → Template → List ℕ → ℕ → ℕ → State
+  made c table u path first count = record (state_of w) {
+    core = c;
+    watchers = table;
+    linked = Some (record { template = u; page = record { template = p.template.0; scope = p.scope.0; path = path; first = first; count = count } });
+  }
+
+  pub linked_state : cores.state_of core ≡ numbered t (state_of w).core
+      → watchers_of ws ≡ with_sites (path_at (state_of w).core.scopes p.scope.0) (object_at (state_of w).core.scopes p.scope.0) (state_of w).core.serial t.sites (state_of w).watchers
+      → template_at (templates_of w) p.template.0 ≡ Some t → p.path ≡ path_at (state_of w).core.scopes p.scope.0 → p.first ≡ (state_of w).core.serial → length p.spots.items ≡ length t.sites
+      → state_of (after w core ws d p) ≡ linked_in p.template.0 p.scope.0 t (state_of w)
+  linked_state is_core is_table at is_path is_first many =
+      let u = template_or (templates_of w) p.template.0 in
+      let c : act.State = numbered t (state_of w).core in
+      let table : Table = with_sites (path_at (state_of w).core.scopes p.scope.0) (object_at (state_of w).core.scopes p.scope.0) (state_of w).core.serial t.sites (state_of w).watchers in
+      ap (λ (x : act.State). made x (watchers_of ws) u p.path p.first (length p.spots.items)) is_core
+      ∙ (ap (λ (x : Table). made c x u p.path p.first (length p.spots.items)) is_table
+      ∙ (ap (λ (x : Template). made c table x p.path p.first (length p.spots.items)) (is_template (templates_of w) p.template.0 t at)
+      ∙ (ap (λ (x : List ℕ). made c table t x p.first (length p.spots.items)) is_path
+      ∙ (ap (λ (x : ℕ). made c table t (path_at (state_of w).core.scopes p.scope.0) x (length p.spots.items)) is_first
+      ∙ ap (λ (x : ℕ). made c table t (path_at (state_of w).core.scopes p.scope.0) (state_of w).core.serial x) many))))
+
+-- what stands after a link
+module _ (w : Works) (core : Core) (ws : List (Key × Watched)) (d : Dom) (p : Instance) (t : Template) (object m : ℕ)
+    (regular : is_regular t ≡ true) (room : object < length (state_of w).core.objects)
+    (is_first : p.first ≡ (state_of w).core.serial) (is_holes : p.spots.items ≡ holes m t.parts)
+    (serial : core.serial.0 ≡ p.first + length t.sites) (objects : length core.store ≡ length (state_of w).core.objects)
+    (watchers : watchers_of ws ≡ with_sites p.path object p.first t.sites (state_of w).watchers) where
+  many : length p.spots.items ≡ length t.sites
+  many = ap length is_holes ∙ many_holes t m regular
+
+  -- the site of each number has kept nothing
+  none_kept : (k : Key) → IsSome (places_of (after w core ws d p) k) → unset k ≡ texts_in (state_of (after w core ws d p)) k
+  none_kept k there =
+      let site : is_site_of (page_of p) k ≡ true = placed_site (after w core ws d p) k there in
+      let at = number_of_site p.path p.first (length p.spots.items) k site in
+      let lt : at.0 < length t.sites = let h : at.0 < length p.spots.items = at.1 in omega (arith, h, many) in
+      let x : Site = get_or t.sites at.0 no_site in
+      let one : slice_get t.sites at.0 ≡ Some x = slice_get-get_or t.sites at.0 no_site lt in
+      let found_here : found k (watchers_of ws) ≡ Some (fresh object x) =
+      ap (found k) watchers ∙ (ap (λ (q : Key). found q (with_sites p.path object p.first t.sites (state_of w).watchers)) at.2 ∙ sites_found p.path object p.first t.sites (state_of w).watchers at.0 x one) in
+      sym (ap (λ (o : Option Watcher). kept_text (kept_or o (lookup (is_key k) (state_of w).resting))) found_here)
+
+  places : AllAt (places_of (after w core ws d p)) (keys_from p.path p.first) 0 (holes m t.parts)
+  places =
+      subst (λ (xs : List ℕ). AllAt (places_of (after w core ws d p)) (keys_from p.path p.first) 0 xs) is_holes
+      (all_at (places_of (after w core ws d p)) (keys_from p.path p.first) 0 p.spots.items
+      (λ j x e. ap (λ (i : ℕ). places_of (after w core ws d p) (keys_from p.path p.first i)) (zero-add j) ∙ ap (option_map in_text) (spot_there p j x e)))
+
+  pub linked_stands : HolesBelow (length t.sites) t.parts → template_at (templates_of w) p.template.0 ≡ Some t
+      → Shows d (shows unset (shape (keys_from p.path p.first) m t.parts)) → HomedAll (sources d) (shape (keys_from p.path p.first) m t.parts)
+      → WatchersStand (length (state_of w).core.objects) (state_of w).watchers → IsStanding (after w core ws d p)
+  linked_stands below at shown homed watched =
+      let ts : Stands = shape (keys_from p.path p.first) m t.parts in
+      let count : after_parts 0 t.parts ≡ Some (length t.sites) = regular_count t regular in
+      let held : HeldAll (places_of (after w core ws d p)) (sources d) ts = all_held (places_of (after w core ws d p)) (sources d) (keys_from p.path p.first) 0 m (length t.sites) t.parts count places homed in
+      let texts : shows unset ts ≡ shows (texts_in (state_of (after w core ws d p))) ts = all_agree (places_of (after w core ws d p)) (sources d) unset (texts_in (state_of (after w core ws d p))) none_kept ts held in
+      let F : NamedForest → Type 0 = λ f. Shows d f in
+      let is : template_or (templates_of w) p.template.0 ≡ t = is_template (templates_of w) p.template.0 t at in (
         ts,
         record {
-          shown = rw (table, rows_unset path object first t.sites) shown;
-          held = all_held (places_of new) (sources new.dom) (keys_from path first) 0 m (length t.sites) t.parts count places homed;
-          placed = λ k h. rows_found (λ q. IsSome (places_of new q)) path object first t.sites (λ j lt. held_there new.texts path first found_holes held j (omega (arith, lt, many_found))) k (rw table at h);
-          below = λ k h. let lt = under k (placed_some (node_name (get key_cmp new.texts k)) h) in rw serial (omega (arith, lt, many_found));
-          watched = λ k. rw (table, objects) (rows_stand (length (core_of old).objects) path object first t.sites room k);
-          page = rw (page, templates, at) (record { name = m; shape = refl; count = refl; holes = below_count });
+          shown = subst F texts shown;
+          held = held;
+          below = λ k h. let lt = number_below p.path p.first (length p.spots.items) k (placed_site (after w core ws d p) k h) in omega (arith, lt, many, serial);
+          watched = rw (watchers, objects) (stand_sites (length (state_of w).core.objects) p.path object p.first t.sites (state_of w).watchers room watched);
+          page = rw is (record { name = m; shape = refl; count = many; holes = rw many below });
         },
-      );
-    }
+      )
 
 -- holes that are numbered have numbers below the one after them
 pieces_below : (n c b : ℕ) (ps : List template.Piece) → after_pieces n ps ≡ Some c → c ≤ b → (n ≤ c) × PiecesBelow b ps

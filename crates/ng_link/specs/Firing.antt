@@ -1,15 +1,12 @@
--- The fire of a text: the node of a hole shows what is kept now, and nothing else is changed.
+-- The node of a hole shows what is kept now, and nothing else is changed.
 use Rattle.std.specs.Prelude.{ℕ, ◌≡◌, List, Option, None, Some}
 use Rattle.ng_base.specs.declared.path.Key.{Key}
 use Rattle.ng_dom.specs.Document.{Becomes, Stays}
-use Rattle.ng_link.specs.Sources.{sources}
 use Rattle.ng_dom.specs.Drawing.{Source, of_text, of_comment, of_element, joined}
 use Rattle.ng_dom.specs.Editing.{changed_in, with_text}
 use Rattle.ng_dom.specs.declared.dom.Dom.{Dom}
-use Rattle.std.specs.BTreeMap.{get}
-use Rattle.ng_watch.specs.Keys.{key_cmp}
-use Rattle.ng_link.specs.Placing.{node_name}
-use Rattle.ng_link.specs.State.{table_of, templates_of, page_of, texts_of}
+use Rattle.ng_link.specs.Sources.{sources}
+use Rattle.ng_link.specs.State.{state_of, texts_in, spot_in}
 use Rattle.ng_link.specs.declared.works.Works.{Works}
 
 -- the text that is drawn from a source
@@ -33,9 +30,5 @@ WritesAt v (Some n) d e = Writes v n d e
 
 -- the node of a key's hole shows what is kept now, and all else is as before
 pub record Fires (k : Key) (old new : Works) : Type 0 where
-  pub dom : WritesAt (texts_of (table_of old)) (node_name (get key_cmp old.texts k)) old.dom new.dom
-  pub texts : new.texts ≡ old.texts
-  pub table : table_of new ≡ table_of old
-  pub core : new.core ≡ old.core
-  pub templates : templates_of new ≡ templates_of old
-  pub page : page_of new ≡ page_of old
+  pub dom : WritesAt (texts_in (state_of old)) (spot_in old.page k) old.dom new.dom
+  pub rest : new ≡ record old { dom = new.dom }

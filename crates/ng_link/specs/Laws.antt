@@ -1,20 +1,30 @@
 -- What is proved of what stands.
-use Rattle.std.specs.Prelude.{ℕ, ◌≡◌, List, Some}
+use Rattle.std.specs.Prelude.{ℕ, ◌≡◌, ◌≤◌, List, length}
+use Rattle.ng_act.specs.declared.core_state.Core.{Core}
 use Rattle.ng_base.specs.declared.path.Key.{Key}
 use Rattle.ng_dom.specs.Drawing.{Stands, shows}
 use Rattle.ng_dom.specs.Nodes.{plain}
 use Rattle.ng_drawing.specs.Drawing.{draw}
-use Rattle.ng_drawing.specs.Instance.{shown}
-use Rattle.ng_drawing.specs.Template.{Parts, Template}
+use Rattle.ng_drawing.specs.Template.{Parts}
+use Rattle.ng_watch.specs.Table.{Table, AllStand}
 use Rattle.ng_link.specs.Shape.{shape}
-use Rattle.ng_link.specs.State.{Page, page_of, table_of, templates_of, template_at, instance_at}
-use Rattle.ng_link.specs.Standing.{Standing, Displays}
+use Rattle.ng_link.specs.State.{state_of, shown}
+use Rattle.ng_link.specs.Standing.{WatchersStand, Standing, Displays}
 use Rattle.ng_link.specs.declared.works.Works.{Works}
 
 -- what stands of parts is drawn as the parts are, whatever their sites show
 abbrev pub ShapeDrawsParts : Type 0
 ShapeDrawsParts = (keys : ℕ → Key) (v : Key → List ℕ) (n : ℕ) (ps : Parts) → plain (shows v (shape keys n ps)) ≡ draw (λ k. v (keys k)) ps
 
--- a page that stands displays the drawing of its template with what its instance has kept
+-- a page that stands displays the drawing of its template with what its instance has kept, and nothing where none is linked
 abbrev pub PageDisplaysInstance : Type 0
-PageDisplaysInstance = (w : Works) (ts : Stands) (p : Page) (t : Template) → Standing w ts → page_of w ≡ Some p → template_at (templates_of w) p.template ≡ Some t → Displays w (shown t (instance_at (table_of w) p))
+PageDisplaysInstance = (w : Works) (ts : Stands) → Standing w ts → Displays w (shown (state_of w))
+
+-- What stands asks of the core only that no number of registration is given anew, and that no object is lost.
+abbrev pub StandingWithCore : Type 0
+StandingWithCore = (w : Works) (core : Core) → (state_of w).core.serial ≤ core.serial.0 → length (state_of w).core.objects ≤ length core.store
+    → (ts : Stands) → Standing w ts → Standing (record w { core = core }) ts
+
+-- the objects that a watcher names are there, under whatever key it is found
+abbrev pub WatchersAreFound : Type 0
+WatchersAreFound = (count : ℕ) (t : Table) → WatchersStand count t → AllStand count t

@@ -4,10 +4,9 @@ pub mod Seen
 pub mod Order
 pub mod Rows
 pub mod Building
-pub mod Placing
 pub mod State
+pub mod Calls
 pub mod Standing
-pub mod Linked
 pub mod Firing
 pub mod Laws
 pub mod Untroubled

@@ -1,10 +1,10 @@
--- The watchers of the sites of a template, right after they were linked.
-use Rattle.std.specs.Prelude.{ℕ, ◌+◌, List, [], ◌∷◌, None}
+-- The watchers of the sites of a template.
+use Rattle.std.specs.Prelude.{ℕ, ◌+◌, List, [], ◌∷◌}
 use Rattle.ng_drawing.specs.Template.{Site}
 use Rattle.ng_drawing.specs.declared.kind.SiteKind.{SiteKind}
 use Rattle.ng_drawing.specs.declared.kind.SiteKind.TheVariants as sites
 use Rattle.ng_watch.specs.Seen.{Watching}
-use Rattle.ng_watch.specs.Table.{Table}
+use Rattle.ng_watch.specs.Table.{Table, with_watch}
 use Rattle.ng_watch.specs.declared.watch.WatchKind.{WatchKind}
 use Rattle.ng_watch.specs.declared.watch.WatchKind.TheVariants as kinds
 use Rattle.ng_link.specs.Shape.{key_on}
@@ -20,7 +20,7 @@ watch_kind sites.Deep = kinds.Deep
 abbrev pub watching_site : ℕ → Site → Watching
 watching_site object x = record { kind = watch_kind x.kind; program = x.program; one_time = x.one_time; scope = object }
 
--- the watchers of sites, whose keys rise from a number on; none has kept anything
-abbrev pub fresh_rows : List ℕ → ℕ → ℕ → List Site → Table
-fresh_rows path object n [] = []
-fresh_rows path object n (x ∷ xs) = (key_on path n, record { watch = watching_site object x; kept = None }) ∷ fresh_rows path object (n + 1) xs
+-- sites are watched, one after another, under keys that rise from a number on; none has kept anything
+abbrev pub with_sites : List ℕ → ℕ → ℕ → List Site → Table → Table
+with_sites path object n [] t = t
+with_sites path object n (x ∷ xs) t = with_sites path object (n + 1) xs (with_watch (key_on path n) (watching_site object x) t)

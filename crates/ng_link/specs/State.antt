@@ -1,19 +1,29 @@
--- What contracts see of the works of a page.
-use Rattle.std.specs.Prelude.{ℕ, zero, suc, ◌+◌, List, [], ◌∷◌, Option, option_map, slice_get, not, is_some}
-use Rattle.std.specs.BTreeMap.{get}
+-- The state of a page, as contracts see its works.
+use Rattle.std.specs.Prelude.{ℕ, zero, suc, ◌+◌, ◌-◌, ◌&&◌, Bool, false, List, [], ◌∷◌, Option, Some, None, map, length, option_map, unwrap_or, slice_get, not, is_some, nat_le, nat_lt, if◌then◌else◌}
+use Rattle.std.specs.Map.{lookup}
+use Rattle.std.specs.Str.{bytes_eq}
+use Rattle.ng_act.specs.Frames as cores
+use Rattle.ng_act.specs.State as act
+use Rattle.ng_base.specs.Views.{ViewTree}
 use Rattle.ng_base.specs.declared.path.Key.{Key}
-use Rattle.ng_act.specs.Frames.{state_of}
-use Rattle.ng_act.specs.State.{State}
 use Rattle.ng_dom.specs.Drawing.{Place, in_text}
+use Rattle.ng_drawing.specs.Drawing.{Rendered, shown_as}
+use Rattle.ng_drawing.specs.Instance as instances
 use Rattle.ng_drawing.specs.Instance.{SiteState, Instance, kept_text}
-use Rattle.ng_drawing.specs.Template.{Template}
+use Rattle.ng_drawing.specs.Template.{Template, no_parts}
+use Rattle.ng_language.specs.Trees.{Trees}
+use Rattle.ng_markup.specs.Forest.{Forest, no_nodes}
+use Rattle.ng_parse.specs.ProgramOf.{program}
 use Rattle.ng_template.specs.Kept.{Named}
 use Rattle.ng_template.specs.Kept as templates
-use Rattle.ng_watch.specs.Keys.{key_cmp}
-use Rattle.ng_watch.specs.Table.{Table, watchers_of, found, kept_at}
-use Rattle.ng_link.specs.Placing.{node_name}
+use Rattle.ng_value.specs.Snaps.{snap_of}
+use Rattle.ng_value.specs.declared.snapshot.Snap.{Snap}
+use Rattle.ng_watch.specs.Keys.{is_key}
+use Rattle.ng_watch.specs.Seen.{Watcher}
+use Rattle.ng_watch.specs.Table.{Table, watchers_of, found}
 use Rattle.ng_link.specs.Shape.{key_on, keys_from}
-use Rattle.ng_link.specs.declared.works.Linked.{Linked}
+use Rattle.ng_link.specs.declared.works.Linked as code
+use Rattle.ng_link.specs.declared.works.Listener.{Listener}
 use Rattle.ng_link.specs.declared.works.Works.{Works}
 
 -- an instance that stands: its template and scope by number, the path of its sites' keys, the number of the first, and how many
@@ -24,49 +34,147 @@ pub record Page : Type 0 where
   pub first : ℕ
   pub count : ℕ
 
-abbrev pub linked_of : Linked → Page
-linked_of i = record { template = i.template.0; scope = i.scope.0; path = i.path; first = i.first; count = i.count }
-
 -- the keys of its sites by number
 abbrev pub keys_of : Page → ℕ → Key
 keys_of p = keys_from p.path p.first
 
--- the core
-abbrev pub core_of : Works → State
-core_of w = state_of w.core
+-- a template that is linked, with its scope and the keys of its sites
+pub record Linked : Type 0 where
+  pub template : Template
+  pub page : Page
 
--- the watchers by key, with what they have kept
-abbrev pub table_of : Works → Table
-table_of w = watchers_of w.watchers
+-- the program that a declared watch runs, and the scope that it runs on
+pub record Listening : Type 0 where
+  pub scope : ℕ
+  pub body : Trees
+
+-- keys of sites that rest, with what they had kept
+abbrev pub Resting : Type 0
+Resting = List (Key × Option ViewTree)
+
+-- keys of declared watches, with their programs
+abbrev pub Declared : Type 0
+Declared = List (Key × Listening)
+
+-- The state of a page: the core; the live watchers, with what they have kept; the sites that rest, with what they had kept; the
+-- programs of declared watches; and what is linked. All lists are in key order.
+pub record State : Type 0 where
+  pub core : act.State
+  pub watchers : Table
+  pub resting : Resting
+  pub declared : Declared
+  pub linked : Option Linked
+
+-- whether a key is on a path, with one of so many numbers from the first on
+abbrev pub is_in : List ℕ → ℕ → ℕ → Key → Bool
+is_in path first count k = bytes_eq path k.path && (nat_le first k.serial.0 && nat_lt k.serial.0 (first + count))
+
+abbrev pub is_site_of : Page → Key → Bool
+is_site_of p k = is_in p.path p.first p.count k
+
+-- Whether a key is that of a site of what is linked. Every other watcher is a declared watch.
+abbrev pub is_site : Option Linked → Key → Bool
+is_site None k = false
+is_site (Some l) k = is_site_of l.page k
+
+-- what a watcher has kept, or else what had been kept at rest
+abbrev pub kept_or : Option Watcher → Option (Option ViewTree) → Option ViewTree
+kept_or (Some w) r = w.kept
+kept_or None (Some s) = s
+kept_or None None = None
+
+-- what the site of a key shows: what its watcher has kept, or what it had kept when it came to rest
+abbrev pub kept_in : Table → Resting → Key → Option ViewTree
+kept_in t r k = kept_or (found k t) (lookup (is_key k) r)
+
+-- the text of that, or none
+abbrev pub texts_of : Table → Resting → Key → List ℕ
+texts_of t r k = kept_text (kept_in t r k)
+
+abbrev pub texts_in : State → Key → List ℕ
+texts_in s = texts_of s.watchers s.resting
+
+-- a site with what it shows; it rests where it has no watcher
+abbrev pub site_state : Table → Resting → ℕ → Key → SiteState
+site_state t r scope k = record { key = k; scope = scope; kept = kept_in t r k; rests = not (is_some (found k t)) }
+
+-- so many sites from a number on
+abbrev pub site_states : Table → Resting → ℕ → List ℕ → ℕ → ℕ → List SiteState
+site_states t r scope path n zero = []
+site_states t r scope path n (suc k) = site_state t r scope (key_on path n) ∷ site_states t r scope path (n + 1) k
+
+-- the instance that stands
+abbrev pub instance_at : Table → Resting → Page → Instance
+instance_at t r p = record { scope = p.scope; sites = site_states t r p.scope p.path p.first p.count }
+
+abbrev pub instance_in : Table → Resting → Option Linked → Option Instance
+instance_in t r None = None
+instance_in t r (Some l) = Some (instance_at t r l.page)
+
+-- the page's instance; there is none where the opening link met a fault
+abbrev pub instance : State → Option Instance
+instance s = instance_in s.watchers s.resting s.linked
+
+abbrev pub shown_in : Table → Resting → Option Linked → Forest
+shown_in t r None = no_nodes
+shown_in t r (Some l) = instances.shown l.template (instance_at t r l.page)
+
+-- the document that a page shows: the drawing with what its sites have kept
+abbrev pub shown : State → Forest
+shown s = shown_in s.watchers s.resting s.linked
+
+abbrev pub rendering_in : act.State → Table → Resting → Option Linked → Rendered Forest
+rendering_in c t r None = shown_as no_nodes
+rendering_in c t r (Some l) = instances.rendering c.objects c.scopes l.template (instance_at t r l.page)
+
+-- The rendering: the document computed afresh over data and scopes. Without an instance it is empty.
+abbrev pub rendering : State → Rendered Forest
+rendering s = rendering_in s.core s.watchers s.resting s.linked
 
 -- the templates, and the name that each is included by
 abbrev pub templates_of : Works → List Named
 templates_of w = templates.templates_of w.templates
 
--- the instance of the page's template, where that stands
-abbrev pub page_of : Works → Option Page
-page_of w = option_map linked_of w.page
-
 abbrev pub template_at : List Named → ℕ → Option Template
-template_at ts n = option_map (λ k. k.1) (slice_get ts n)
+template_at all n = option_map (λ k. k.1) (slice_get all n)
+
+-- the template of a number, or an empty one
+abbrev pub template_or : List Named → ℕ → Template
+template_or all n = unwrap_or (template_at all n) (record { parts = no_parts; sites = [] })
+
+-- an instance keeps for each site the node that it is drawn in
+abbrev pub page_of : code.Linked → Page
+page_of i = record { template = i.template.0; scope = i.scope.0; path = i.path; first = i.first; count = length i.spots.items }
+
+abbrev pub linked_of : List Named → Option code.Linked → Option Linked
+linked_of all i = option_map (λ p. record { template = template_or all p.template.0; page = page_of p }) i
+
+abbrev pub resting_of : List (Key × Option Snap) → Resting
+resting_of r = map (λ e. (e.0, option_map snap_of e.1)) r
+
+abbrev pub listening_of : Listener → Listening
+listening_of l = record { scope = l.scope.0; body = program l.program }
+
+abbrev pub declared_of : List (Key × Listener) → Declared
+declared_of d = map (λ e. (e.0, listening_of e.1)) d
+
+abbrev pub state_of : Works → State
+state_of w = record {
+  core = cores.state_of w.core;
+  watchers = watchers_of w.watchers;
+  resting = resting_of w.resting.entries;
+  declared = declared_of w.declared.entries;
+  linked = linked_of (templates_of w) w.page;
+}
+
+-- the node that the site of a key is drawn in
+abbrev pub spot_at : code.Linked → Key → Option ℕ
+spot_at p k = if is_site_of (page_of p) k then slice_get p.spots.items (k.serial.0 - p.first) else None
+
+abbrev pub spot_in : Option code.Linked → Key → Option ℕ
+spot_in None k = None
+spot_in (Some p) k = spot_at p k
 
 -- where the site of a key is drawn
 abbrev pub places_of : Works → Key → Option Place
-places_of w k = option_map in_text (node_name (get key_cmp w.texts k))
-
--- the text that the watcher of a key has kept, or none
-abbrev pub texts_of : Table → Key → List ℕ
-texts_of t k = kept_text (kept_at k t)
-
--- a site with what its watcher has kept; it rests where it has no watcher
-abbrev pub site_state : Table → ℕ → Key → SiteState
-site_state t scope k = record { key = k; scope = scope; kept = kept_at k t; rests = not (is_some (found k t)) }
-
--- so many sites from a number on
-abbrev pub site_states : Table → ℕ → List ℕ → ℕ → ℕ → List SiteState
-site_states t scope path n zero = []
-site_states t scope path n (suc k) = site_state t scope (key_on path n) ∷ site_states t scope path (n + 1) k
-
--- the instance that stands
-abbrev pub instance_at : Table → Page → Instance
-instance_at t p = record { scope = p.scope; sites = site_states t p.scope p.path p.first p.count }
+places_of w k = option_map in_text (spot_in w.page k)

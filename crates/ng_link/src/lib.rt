@@ -1,13 +1,18 @@
 //! Linking: a template becomes part of a page (guide: HTML Compiler, "How directives are compiled").
 //!
-//! [`works::Works`] holds what a page works with: the core, the templates, the document, the watchers, and for each hole of a text
-//! the node that it is drawn in. Nodes stand by name and watchers by key, and a fire is one look-up and one edit of one node.
+//! [`works::Works`] holds what a page works with: the core, the templates, the document, the watchers, what sites kept that rest, the
+//! listeners of declared watches, and the instance that stands. Contracts see a state, by the definition in `specs/State.antt`, and
+//! each call is one change of it, in `specs/Calls.antt`. Nodes stand by name and watchers by key, an instance knows the node of each
+//! of its sites, and a fire is one look-up and one edit of one node.
 //!
 //! - `link` makes the nodes of a template, puts its sites among the watchers, all of them unset, and notes its instance. The nodes
 //!   are counted before the first is made, so that after the fault `NodeLimit` all is as before. Nodes are made apart, with
 //!   what each is drawn from, and are shown by one call at the end.
-//! - `keep` has the watcher of a key keep a snapshot, and the node of its hole shows the text that is joined from what the
-//!   watchers of all its holes have kept. `fire` is the second half of it.
+//! - `keep` has the watcher of a key keep a snapshot, and the node of its hole shows the text that is joined from what all its
+//!   holes show.
+//! - `declare`, `undeclare` and `unset` are for the watches that programs declare, which are drawn nowhere.
+//! - A site rests where its scope has died (`leave`) or its one-time binding has ended (`end_over`): it has no watcher any more,
+//!   and goes on showing what it had kept.
 //! - `instance` reads the instance off the tables.
 //!
 //! What stands of a template, its nodes and keys without any value, exists in the definitions alone. `Standing` of
@@ -17,7 +22,8 @@
 //! stands is the drawing of its template with what its instance has kept.
 //!
 //! In reading order: `works`; `order` counts nodes and looks at a template's numbers, `copying` copies pieces with the keys
-//! of their holes, `building` makes nodes, `placing` the places and watchers, `firing` joins texts; `linking`; `instance`; `laws`.
+//! of their holes, `building` makes nodes, `placing` the places and watchers of sites, `linking`; `firing` joins texts, `declaring`,
+//! `resting`; `instance`; `laws`.
 //!
 //! Today there is one instance, the page's, at the top of an empty document, and its attributes have no holes. A template whose
 //! holes aren't numbered in document order, or whose attributes aren't in order of their names, comes from no document, and `link`
@@ -28,10 +34,12 @@
 
 mod building;
 mod copying;
+mod declaring;
 mod firing;
 pub mod instance;
 pub mod laws;
 pub mod linking;
 mod order;
 mod placing;
+mod resting;
 pub mod works;

@@ -1,16 +1,15 @@
-//! The sites of an instance are placed and watched.
-ghost use Rattle.std.specs.Prelude.{◌≡◌, ◌+◌, ◌<◌, [], length, map, Some, true, OnOk, IfErr, IfOk, if◌then◌else◌};
-ghost use Rattle.std.specs.BTreeMap.{get};
+//! The sites of an instance: where each is drawn, and that it is watched.
+ghost use Rattle.std.specs.Prelude.{◌≡◌, List, map, true, OnOk, IfErr, IfOk, option_map};
 ghost use Rattle.ng_base.specs.Faults.{is_memory};
-ghost use Rattle.ng_base.specs.declared.path.Key.{Key as Name};
+ghost use Rattle.ng_template.specs.Kept.{Named};
 ghost use Rattle.ng_template.specs.SiteOf.{site_of};
-ghost use Rattle.ng_watch.specs.Keys.{key_cmp, is_key};
 ghost use Rattle.ng_watch.specs.Seen.{watching_of};
 ghost use Rattle.ng_watch.specs.Table.{watchers_of, with_watch};
-ghost use Rattle.ng_link.specs.Placing.{HoldsAll, AllBelow, node_name};
-ghost use Rattle.ng_link.specs.Rows.{watch_kind, watching_site, fresh_rows};
+ghost use Rattle.ng_link.specs.Rows.{watch_kind, watching_site, with_sites};
+ghost use Rattle.ng_link.specs.State.{page_of, linked_of, is_site_of, is_site, spot_at, spot_in};
 
 use crate::copying::key_at;
+use crate::works::Linked;
 use ng_base::fault::Fault;
 use ng_base::name::{NodeId, Oid, Serial};
 use ng_base::path::{Key, Path};
@@ -18,38 +17,51 @@ use ng_drawing::kind::SiteKind;
 use ng_template::Site;
 use ng_watch::watch::{Watch, WatchKind};
 use ng_watch::watchers::Watchers;
-use std::alloc::{AllocError, Global};
-use std::collections::BTreeMap;
+use std::alloc::Global;
 
-/// The key of a hole gets its node.
-fn place(texts: &mut BTreeMap<Key, NodeId>, key: Key, n: u64) -> Result<(), AllocError>
-    ensures { OnOk result ((q : Name) → node_name (get key_cmp texts.new q) ≡ (if is_key key q then Some n else node_name (get key_cmp texts.old q))) }
-{
-    let node = NodeId {
-        slot: 0,
-        made: Serial(n),
-    };
-    let _ = texts.insert(key, node)?;
-    Ok(())
+impl Linked {
+    /// Whether a key is that of one of these sites.
+    pub(crate) fn has(&self, key: &Key) -> bool
+        ensures { result ≡ is_site_of (page_of self.now) key.now }
+    {
+        self.path == key.path
+            && self.first <= key.serial.0
+            && key.serial.0 - self.first < self.spots.len() as u64
+    }
+
+    /// The node that the site of a key is drawn in.
+    fn spot(&self, key: &Key) -> Option<NodeId>
+        ensures { option_map (λ n. n.made.0) result ≡ spot_at self.now key.now }
+    {
+        if !self.has(key) {
+            return None;
+        }
+        let n = self.spots.get((key.serial.0 - self.first) as usize)?;
+        Some(NodeId {
+            slot: 0,
+            made: Serial(*n),
+        })
+    }
 }
 
-/// The keys of holes, by number, get their nodes.
-pub(crate) fn place_all(
-    texts: &mut BTreeMap<Key, NodeId>,
-    path: &Path,
-    first: u64,
-    spots: &[u64],
-) -> Result<(), Fault>
-    requires { AllBelow texts.old first }
-    ensures there { OnOk result (HoldsAll texts.new path.now first spots.now) }
-    ensures below { OnOk result (AllBelow texts.new (first + length spots.now)) }
-    ensures faults { IfErr result (λ e. is_memory e ≡ true) }
+/// Whether a key is that of a site of what is linked.
+pub(crate) fn is_site(page: &Option<Linked>, key: &Key) -> bool
+    ensures { (all : List Named) → result ≡ is_site (linked_of all page.now) key.now }
 {
-    for i in 0..spots.len() {
-        let key = key_at(path, first, i as u64)?;
-        place(texts, key, spots[i])?;
+    match page {
+        None => false,
+        Some(p) => p.has(key),
     }
-    Ok(())
+}
+
+/// The node that the site of a key is drawn in, where it is one of what is linked.
+pub(crate) fn spot_in(page: &Option<Linked>, key: &Key) -> Option<NodeId>
+    ensures { option_map (λ n. n.made.0) result ≡ spot_in page.now key.now }
+{
+    match page {
+        None => None,
+        Some(p) => p.spot(key),
+    }
 }
 
 /// What a watcher keeps of the value of a site.
@@ -104,8 +116,7 @@ pub(crate) fn watch_all(
     object: Oid,
     sites: &[Site],
 ) -> Result<(), Fault>
-    requires { watchers_of watchers.old ≡ [] }
-    ensures rows { OnOk result (watchers_of watchers.new ≡ fresh_rows path.now object.0 first (map site_of sites.now)) }
+    ensures rows { OnOk result (watchers_of watchers.new ≡ with_sites path.now object.0 first (map site_of sites.now) (watchers_of watchers.old)) }
     ensures faults { IfErr result (λ e. is_memory e ≡ true) }
 {
     for i in 0..sites.len() {

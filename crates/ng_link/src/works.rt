@@ -1,14 +1,25 @@
 //! The works of a page: the core, the templates, what stands of them, and the watchers.
 ghost use Rattle.std.specs.Prelude.{◌≡◌, [], None, option_map};
-ghost use Rattle.ng_act.specs.Frames.{state_of, IsSound};
+ghost use Rattle.std.specs.Map.{lookup};
+ghost use Rattle.ng_act.specs.Frames.{state_of as core_state, held, IsSound};
 ghost use Rattle.ng_act.specs.State.{with_fault};
+ghost use Rattle.ng_watch.specs.Keys.{is_key};
+ghost use Rattle.ng_link.specs.Calls.{blank, with_core};
+ghost use Rattle.ng_link.specs.State.{page_of, listening_of, is_site, state_of, templates_of};
+ghost use Rattle.ng_link.specs.Standing.{Standing};
+ghost use Rattle.ng_link.specs.Untroubled.{untroubled};
+ghost use Rattle.ng_dom.specs.Drawing.{Stands, none_stand};
+ghost use Rattle.ng_template.specs.Kept.{templates_of as kept_templates};
 
+use crate::placing::is_site;
 use ng_act::core_state::{Core, Handed};
 use ng_base::fault::Fault;
-use ng_base::name::{NodeId, ScopeId, TplId};
+use ng_base::name::{ScopeId, TplId};
 use ng_base::path::{Key, Path};
 use ng_dom::dom::Dom;
+use ng_parse::Program;
 use ng_template::Templates;
+use ng_value::snapshot::Snap;
 use ng_watch::watchers::Watchers;
 use std::alloc::Global;
 use std::collections::BTreeMap;
@@ -17,41 +28,44 @@ use std::collections::BTreeMap;
 #[derive(Clone, Copy, Debug, PartialEq, Eq, Drop)]
 pub struct InstId(pub u32);
 
-/// An instance that stands. The keys of its sites have this path, and their numbers rise from `first` on.
+/// An instance that stands. The keys of its sites have this path, and their numbers rise from `first` on. For each site there is
+/// the name of the node that it is drawn in.
 #[derive(Drop)]
 pub struct Linked {
     pub(crate) template: TplId,
     pub(crate) scope: ScopeId,
     pub(crate) path: Path,
     pub(crate) first: u64,
-    pub(crate) count: usize,
+    pub(crate) spots: Vec<u64>,
 }
 
-/// The works of a page. Nodes stand by name, watchers by key, and for each hole of a text the node that it is drawn in.
+/// The program that a declared watch runs, and the scope that it runs on.
+#[derive(Drop)]
+pub struct Listener {
+    pub scope: ScopeId,
+    pub program: Program,
+}
+
+/// The works of a page. Nodes stand by name and watchers by key. A site that rests has what it had kept, and a declared watch its
+/// listener. The core is all that programs change.
 #[derive(Drop)]
 pub struct Works {
     pub(crate) alloc: Global,
-    pub(crate) core: Core,
+    pub core: Core,
     pub(crate) watchers: Watchers,
     pub(crate) dom: Dom,
-    pub(crate) texts: BTreeMap<Key, NodeId>,
+    pub(crate) resting: BTreeMap<Key, Option<Snap>>,
+    pub declared: BTreeMap<Key, Listener>,
     pub(crate) templates: Templates,
     pub(crate) page: Option<Linked>,
 }
 
 impl Works {
-    ghost use Rattle.ng_link.specs.State.{linked_of, core_of, table_of, templates_of, page_of};
-    ghost use Rattle.ng_template.specs.Kept.{templates_of as kept_templates};
-    ghost use Rattle.ng_link.specs.Untroubled.{untroubled};
-    ghost use Rattle.ng_link.specs.Standing.{IsBare, Standing};
-    ghost use Rattle.ng_dom.specs.Drawing.{Stands, none_stand};
-
     /// The works over a core and templates, of which none is linked.
     pub fn new(alloc: Global, core: Core, templates: Templates) -> Works
-        ensures core { core_of result ≡ state_of core }
-        ensures sound { IsSound core → IsSound result.core }
+        ensures core { result.core ≡ core }
+        ensures state { state_of result ≡ blank (core_state core) }
         ensures templates { templates_of result ≡ kept_templates templates }
-        ensures bare { IsBare result }
         ensures stands { Standing result none_stand }
     {
         Works {
@@ -59,39 +73,32 @@ impl Works {
             core,
             watchers: Watchers::new(alloc),
             dom: Dom::new(alloc),
-            texts: BTreeMap::new(alloc),
+            resting: BTreeMap::new(alloc),
+            declared: BTreeMap::new(alloc),
             templates,
             page: None,
         }
     }
 
-    /// The core.
-    pub fn core(&self) -> &Core
-        ensures { state_of result.now ≡ core_of self.now }
-    {
-        &self.core
-    }
-
     /// A fault is handed over.
     pub fn hand_over(&mut self, f: Fault)
-        ensures core { core_of self.new ≡ with_fault f (core_of self.old) }
+        ensures state { state_of self.new ≡ with_core (with_fault f (state_of self.old).core) (state_of self.old) }
         ensures sound { IsSound self.old.core → IsSound self.new.core }
-        ensures stands { (ts : Stands) → Standing self.old ts → Standing self.new ts }
-        ensures table { table_of self.new ≡ table_of self.old }
+        ensures held { held self.new.core ≡ held self.old.core }
+        ensures depth { self.new.core.depth ≡ self.old.core.depth }
         ensures templates { templates_of self.new ≡ templates_of self.old }
-        ensures page { page_of self.new ≡ page_of self.old }
+        ensures stands { (ts : Stands) → Standing self.old ts → Standing self.new ts }
     {
         self.core.hand_over(f);
     }
 
     /// No fault was handed over yet.
     pub fn forget_faults(&mut self)
-        ensures core { core_of self.new ≡ untroubled (core_of self.old) }
+        ensures state { state_of self.new ≡ with_core (untroubled (state_of self.old).core) (state_of self.old) }
+        ensures core { self.new.core ≡ record self.old.core { handed = record { count = 0; first = None } } }
         ensures sound { IsSound self.old.core → IsSound self.new.core }
-        ensures stands { (ts : Stands) → Standing self.old ts → Standing self.new ts }
-        ensures table { table_of self.new ≡ table_of self.old }
         ensures templates { templates_of self.new ≡ templates_of self.old }
-        ensures page { page_of self.new ≡ page_of self.old }
+        ensures stands { (ts : Stands) → Standing self.old ts → Standing self.new ts }
     {
         self.core.handed = Handed {
             count: 0,
@@ -122,8 +129,30 @@ impl Works {
 
     /// The instance that stands, as its template and the keys of its sites.
     pub fn page(&self) -> Option<&Linked>
-        ensures { option_map (λ p. linked_of p.now) result ≡ page_of self.now }
+        ensures { option_map (λ p. page_of p.now) result ≡ option_map (λ l. l.page) (state_of self.now).linked }
     {
         self.page.as_ref()
+    }
+
+    /// Whether a key is that of a site of what is linked. Every other watcher is a declared watch.
+    pub fn is_site(&self, key: &Key) -> bool
+        ensures { result ≡ is_site (state_of self.now).linked key.now }
+    {
+        is_site(&self.page, key)
+    }
+
+    /// The listener of a declared watch.
+    pub fn listener(&self, key: &Key) -> Option<&Listener>
+        ensures { option_map (λ l. listening_of l.now) result ≡ lookup (is_key key.now) (state_of self.now).declared }
+    {
+        self.declared.get(key)
+    }
+
+    /// Says where the walk over the watchers stands: the next calls at this key, or right after it, find it without a search.
+    /// Nothing that contracts see changes.
+    pub fn seek(&mut self, key: &Key)
+        ensures unchanged { self.new ≡ self.old }
+    {
+        self.watchers.seek(key);
     }
 }

@@ -1,42 +1,163 @@
--- A page right after it was linked: its sites are watched.
-use Rattle.std.proofs.Common.{◌≡◌, ℕ, ◌+◌, ◌<◌, Bool, true, false, List, [], ◌∷◌, cond, None, Some, Result, Ok, Err, refl, ap, ◌∙◌, arith}
-use Rattle.std.specs.Prelude.{option_map}
-use Rattle.std.specs.Map.{lookup}
-use Rattle.ng_act.specs.State as act
-use Rattle.ng_base.specs.declared.fault.Fault.{Fault}
-use Rattle.ng_behaviour.specs.Scopes.{object_at, path_at}
+-- A page right after its template was linked: what holds of its works, and that its sites are watched.
+use Rattle.std.proofs.Common.{◌≡◌, ℕ, zero, suc, ◌+◌, ◌<◌, Bool, true, false, List, [], ◌∷◌, ◌++◌, length, cond, not, Option, None, Some, Result, Ok, Err, refl, ap, sym, subst, ◌∙◌, slice_get, arith}
+use Rattle.std.specs.BTreeMap.{insert_entry}
+use Rattle.std.proofs.lemmas.Cmp.{tied_itself}
+use Rattle.std.specs.List.{filter, AllByRecursion}
+use Rattle.std.specs.List.Sorted.{IsStrictlySortedBy}
+use Rattle.std.specs.Map.{lookup, keys_of}
+use Rattle.std.specs.Ordering.{match_ordering}
+use Rattle.std.specs.declared.cmp.Ordering.{Ordering}
+use Rattle.std.specs.declared.cmp.Ordering.TheVariants.{Less, Equal, Greater}
+use Rattle.ng_act.specs.Frames.{IsSound}
+use Rattle.ng_base.specs.declared.path.Key.{Key}
+use Rattle.ng_behaviour.specs.Scopes.{object_at, path_at, live_at}
+use Rattle.ng_dom.specs.Drawing.{Stands}
 use Rattle.ng_drawing.specs.Template.{Site, Template}
-use Rattle.ng_link.specs.Rows.{watch_kind, watching_site, fresh_rows}
-use Rattle.ng_link.specs.Shape.{key_on, linked}
-use Rattle.ng_watch.specs.Keys.{is_key}
-use Rattle.ng_watch.specs.Seen.{Watcher}
-use Rattle.ng_watch.specs.Table.{Table}
-use Rattle.ng_page.specs.Opening.{opening_by, opening, AreTexts}
+use Rattle.ng_fire.specs.Whole.{IsWhole, ListenersStand, RowStands, RowsStand}
+use Rattle.ng_link.specs.Calls.{linked_in, left_at, page_on}
+use Rattle.ng_link.specs.Rows.{watch_kind, watching_site, with_sites}
+use Rattle.ng_link.specs.Shape.{key_on}
+use Rattle.ng_link.specs.Standing.{Standing, IsStanding}
+use Rattle.ng_link.specs.State.{State, Linked, Declared, Listening, is_site, state_of, templates_of}
+use Rattle.ng_link.specs.declared.works.Works.{Works}
+use Rattle.ng_link.proofs.Rows.{fresh, sites_found}
+use Rattle.ng_template.specs.Kept.{Named}
+use Rattle.ng_template.specs.TplNames.{next_name}
+use Rattle.ng_link.specs.State.{template_at}
+use Rattle.ng_watch.specs.Keys.{key_cmp, key_cmp_total, is_key, begins}
+use Rattle.ng_watch.specs.Seen.{Watching, Watcher}
+use Rattle.ng_watch.specs.Table.{Table, found}
+use Rattle.ng_page.specs.Opening.{AreTexts, linked_root}
 use Rattle.ng_page.specs.PageLaws.{is_itself, key_is}
-use Rattle.ng_page.specs.Settled.{text_watch, AreWatched, IsWatched}
+use Rattle.ng_page.specs.Settled.{text_watch, WatchesAt, AreWatched, IsLinked, IsLinkedIn, IsWatched}
+use Rattle.ng_page.proofs.Sites.{left_sites}
+use Rattle.ng_page.proofs.Watched.{watched_stays}
 
--- a row with a lower number hides none
-past_row : (path : List ℕ) (o n m : ℕ) (w : Watcher) (t : Table) (xs : List Site) → n < m → AreWatched t o path m xs → AreWatched ((key_on path n, w) ∷ t) o path m xs
-past_row path o n m w t [] l h = tt
-past_row path o n m w t (x ∷ xs) l h = (by_key (is_key (key_on path m) (key_on path n)) refl, past_row path o n (m + 1) w t xs (omega arith) h.1)
+-- ---- in a table in order, what is found under a key is all that is there
+
+-- no later key is this one
+none_later : (k : Key) (v : Watching) (ks : Table) → AllByRecursion (λ j. key_cmp k j ≡ Less) (keys_of ks) → WatchesAt k v ks
+none_later k v [] h = tt
+none_later k v (e ∷ es) h = (λ i. absurd (let g : Less ≡ Equal = sym h.0 ∙ (ap (key_cmp k) i ∙ tied_itself key_cmp_total k) in cc), none_later k v es h.1)
+
+pub found_all : (k : Key) (w : Watcher) (t : Table) → IsStrictlySortedBy key_cmp (keys_of t) → found k t ≡ Some w → WatchesAt k w.watch t
+unfolding IsStrictlySortedBy
+found_all k w [] h e = cc
+found_all k w (x ∷ t) h e = by_key (is_key k x.0) refl e (λ g. found_all k w t h.1 g)
   where
-    by_key : (b : Bool) → is_key (key_on path m) (key_on path n) ≡ b → option_map (λ v. v.watch) (cond b (Some w) (lookup (is_key (key_on path m)) t)) ≡ Some (text_watch x o)
-    by_key true e = let same : m ≡ n = ap (λ k. k.serial.0) (key_is (key_on path m) (key_on path n) e) in absurd (omega arith)
-    by_key false e = h.0
+    by_key : (b : Bool) → is_key k x.0 ≡ b → cond b (Some x.1) (lookup (is_key k) t) ≡ Some w → (lookup (is_key k) t ≡ Some w → WatchesAt k w.watch t) → WatchesAt k w.watch (x ∷ t)
+    by_key true i e more =
+        let one : x.1 ≡ w = cc in
+        let same : x.0 ≡ k = sym (key_is k x.0 i) in
+        (λ _. ap (λ (y : Watcher). y.watch) one, subst (λ q. WatchesAt q w.watch t) same (none_later x.0 w.watch t h.0))
+    by_key false i e more = (λ same. absurd (let g : false ≡ true = sym i ∙ (ap (is_key k) same ∙ is_itself k) in cc), more e)
 
-first_row : (path : List ℕ) (o n : ℕ) (x : Site) (t : Table) → watch_kind x.kind ≡ (text_watch x o).kind → option_map (λ v. v.watch) (cond (is_key (key_on path n) (key_on path n)) (Some (record { watch = watching_site o x; kept = None })) (lookup (is_key (key_on path n)) t)) ≡ Some (text_watch x o)
-first_row path o n x t k = ap (λ b. option_map (λ (v : Watcher). v.watch) (cond b (Some (record { watch = watching_site o x; kept = None })) (lookup (is_key (key_on path n)) t))) (is_itself (key_on path n)) ∙ ap (λ y. Some (record (text_watch x o) { kind = y })) k
+-- the sites are watched
+all_watched : (t : Table) (o : ℕ) (path : List ℕ) (n : ℕ) (xs : List Site) → ((j : ℕ) (x : Site) → slice_get xs j ≡ Some x → WatchesAt (key_on path (n + j)) (watching_site o x) t) → AreTexts xs → AreWatched t o path n xs
+all_watched t o path n [] each h = tt
+all_watched t o path n (x ∷ xs) each h =
+    let here : WatchesAt (key_on path (n + 0)) (watching_site o x) t = each 0 x refl in
+    let kind : watching_site o x ≡ text_watch x o = ap (λ y. record (text_watch x o) { kind = y }) (ap watch_kind h.0) in (
+      subst (λ v. WatchesAt (key_on path n) v t) kind (subst (λ m. WatchesAt (key_on path m) (watching_site o x) t) (let same : n + 0 ≡ n = omega arith in same) here),
+      all_watched t o path (n + 1) xs (λ j y e. subst (λ m. WatchesAt (key_on path m) (watching_site o y) t) (let same : n + suc j ≡ n + 1 + j = omega arith in same) (each (suc j) y e)) h.1,
+    )
 
-rows_watched : (path : List ℕ) (o n : ℕ) (xs : List Site) → AreTexts xs → AreWatched (fresh_rows path o n xs) o path n xs
-rows_watched path o n [] h = tt
-rows_watched path o n (x ∷ xs) h = (
-  first_row path o n x (fresh_rows path o (n + 1) xs) (ap watch_kind h.0),
-  past_row path o n (n + 1) (record { watch = watching_site o x; kept = None }) (fresh_rows path o (n + 1) xs) xs (omega arith) (rows_watched path o (n + 1) xs h.1),
-)
+linked_watched : (t : Template) (s : State) → IsStrictlySortedBy key_cmp (keys_of (linked_in 0 0 t s).watchers) → AreTexts t.sites → IsWatched (linked_in 0 0 t s)
+linked_watched t s order texts = record {
+  template = refl;
+  scope = refl;
+  count = refl;
+  watched = all_watched (linked_in 0 0 t s).watchers (object_at s.core.scopes 0) (path_at s.core.scopes 0) s.core.serial t.sites
+      (λ j x e. found_all (key_on (path_at s.core.scopes 0) (s.core.serial + j)) (fresh (object_at s.core.scopes 0) x) (linked_in 0 0 t s).watchers order
+      (sites_found (path_at s.core.scopes 0) (object_at s.core.scopes 0) s.core.serial t.sites s.watchers j x e))
+      texts;
+}
 
-opened_by : (c : act.State) (t : Template) (r : Result (Unit {0}) Fault) → AreTexts t.sites → IsWatched (opening_by c t r)
-opened_by c t (Ok u) h = record { count = refl; watched = rows_watched (path_at c.scopes 0) (object_at c.scopes 0) c.serial t.sites h }
-opened_by c t (Err f) h = tt
+rest_cases : (P : State → Type 0) (b : Bool) (s t : State) → P s → P t → P (cond b s t)
+rest_cases P true s t h g = h
+rest_cases P false s t h g = g
 
-pub opened_is_watched : (c : act.State) (t : Template) → AreTexts t.sites → IsWatched (opening c t)
-opened_is_watched c t h = opened_by c t (linked 0 t.parts) h
+-- on a root that died its sites rest
+pub root_watched : (t : Template) (s : State) → IsStrictlySortedBy key_cmp (keys_of (linked_in 0 0 t s).watchers) → AreTexts t.sites → IsWatched (linked_root t s)
+root_watched t s order texts =
+    let u : State = linked_in 0 0 t s in
+    let h : IsWatched u = linked_watched t s order texts in
+    rest_cases IsWatched (live_at s.core.scopes 0) u (left_at (path_at s.core.scopes 0) u) h (watched_stays u (left_at (path_at s.core.scopes 0) u) (left_sites (path_at s.core.scopes 0) u) h)
+
+-- ---- what holds of the works
+
+row_none : (count : ℕ) (b : Bool) → RowStands count b None
+row_none count true = tt
+row_none count false = tt
+
+row_any : (count : ℕ) (b : Bool) (w : Watcher) → RowStands count false w.kept → RowStands count b w.kept
+row_any count true w h = tt
+row_any count false w h = h
+
+rows_any : (count : ℕ) (l : Option Linked) (t : Table) → RowsStand count None t → RowsStand count l t
+rows_any count l [] h = tt
+rows_any count l (e ∷ t) h = (row_any count (is_site l e.0) e.1 h.0, rows_any count l t h.1)
+
+rows_put : (count : ℕ) (k : Key) (v : Watching) (t : Table) → RowsStand count None t → RowsStand count None (insert_entry key_cmp t k (record { watch = v; kept = None }))
+rows_put count k v [] h = (tt, tt)
+rows_put count k v (e ∷ t) h = by_order (key_cmp k e.0) (rows_put count k v t h.1)
+  where
+    w : Watcher
+    w = record { watch = v; kept = None }
+
+    by_order : (o : Ordering) → RowsStand count None (insert_entry key_cmp t k w) → RowsStand count None (match_ordering o ((k, w) ∷ e ∷ t) ((e.0, w) ∷ t) (e ∷ insert_entry key_cmp t k w))
+    by_order Less more = (tt, h)
+    by_order Equal more = (tt, h.1)
+    by_order Greater more = (h.0, more)
+
+rows_linked : (count : ℕ) (path : List ℕ) (o n : ℕ) (xs : List Site) (t : Table) → RowsStand count None t → RowsStand count None (with_sites path o n xs t)
+rows_linked count path o n [] t h = h
+rows_linked count path o n (x ∷ xs) t h = rows_linked count path o (n + 1) xs (insert_entry key_cmp t (key_on path n) (record { watch = watching_site o x; kept = None })) (rows_put count (key_on path n) (watching_site o x) t h)
+
+pub whole_linked : (v w : Works) (t : Template) → state_of w ≡ linked_in 0 0 t (state_of v) → (state_of v).linked ≡ None → (IsSound v.core → IsSound w.core) → w.core.depth ≡ v.core.depth → IsStanding w → IsWhole v → IsWhole w
+whole_linked v w t e none sound depth stands h =
+    let s : State = state_of v in
+    record {
+      sound = sound h.sound;
+      idle = depth ∙ h.idle;
+      root = subst (λ (x : State). 0 < length x.core.scopes) (sym e) h.root;
+      standing = stands;
+      listeners = subst (λ (x : State). ListenersStand (length x.core.scopes) x.declared) (sym e) h.listeners;
+      kept = subst (λ (x : State). RowsStand (length x.core.objects) x.linked x.watchers) (sym e)
+          (rows_any (length s.core.objects) (linked_in 0 0 t s).linked (linked_in 0 0 t s).watchers
+          (rows_linked (length s.core.objects) (path_at s.core.scopes 0) (object_at s.core.scopes 0) s.core.serial t.sites s.watchers
+          (subst (λ l. RowsStand (length s.core.objects) l s.watchers) none h.kept)));
+    }
+
+if_both : {A : Type 0} (P : A → Type 0) (b : Bool) (x : A) (xs : List A) → (P x × AllByRecursion P xs) → AllByRecursion P (cond b (x ∷ xs) xs)
+if_both P true x xs h = h
+if_both P false x xs h = h.1
+
+all_filtered : {A : Type 0} (P : A → Type 0) (p : A → Bool) (xs : List A) → AllByRecursion P xs → AllByRecursion P (filter p xs)
+all_filtered P p [] h = tt
+all_filtered P p (x ∷ xs) h = if_both P (p x) x (filter p xs) (h.0, all_filtered P p xs h.1)
+
+pub whole_left : (v w : Works) (p : List ℕ) → state_of w ≡ left_at p (state_of v) → (IsSound v.core → IsSound w.core) → w.core.depth ≡ v.core.depth → ((ts : Stands) → Standing v ts → Standing w ts) → IsWhole v → IsWhole w
+whole_left v w p e sound depth stands h =
+    let s : State = state_of v in
+    record {
+      sound = sound h.sound;
+      idle = depth ∙ h.idle;
+      root = subst (λ (x : State). 0 < length x.core.scopes) (sym e) h.root;
+      standing = (h.standing.0, stands h.standing.0 h.standing.1);
+      listeners = subst (λ (x : State). ListenersStand (length x.core.scopes) x.declared) (sym e) (all_filtered (λ (d : Key × Listening). d.1.scope < length s.core.scopes) (λ d. not (begins p d.0.path)) s.declared h.listeners);
+      kept = subst (λ (x : State). RowsStand (length x.core.objects) x.linked x.watchers) (sym e) (all_filtered (λ (d : Key × Watcher). RowStands (length s.core.objects) (is_site s.linked d.0) d.1.kept) (λ d. not (begins p d.0.path)) s.watchers h.kept);
+    }
+
+-- ---- the page's template is the first
+
+pub template_there : (ts : List Named) (n : ℕ) → n < length ts → (t : Template) × (template_at ts n ≡ Some t)
+template_there [] n l = absurd (omega arith)
+template_there (x ∷ ts) zero l = (x.1, refl)
+template_there (x ∷ ts) (suc n) l = template_there ts n (omega arith)
+
+pub first_name : (ts : List Named) (n : ℕ) → ts ≡ [] → next_name (length ts) ≡ Ok n → n ≡ 0
+first_name ts n e g = let h : next_name (length {A = Named} []) ≡ Ok n = ap (λ x. next_name (length x)) (sym e) ∙ g in cc
+
+pub first_template : (ts us vs : List Named) (n : ℕ) (t : Template) → ts ≡ [] → us ≡ ts ++ (None, t) ∷ [] → vs ≡ us → n ≡ 0 → template_at vs n ≡ Some t
+first_template ts us vs n t e g h z = ap (λ x. template_at x n) (h ∙ (g ∙ ap (λ x. x ++ (None, t) ∷ []) e)) ∙ ap (template_at ((None, t) ∷ [])) z

@@ -1,8 +1,7 @@
 -- Where no watcher is dirty, the document that is shown is the rendering.
-use Rattle.std.proofs.Common.{◌≡◌, ℕ, zero, suc, ◌+◌, List, [], ◌∷◌, length, Option, None, Some, Result, Ok, Err, refl, ap, sym, subst, ◌∙◌, slice_get}
-use Rattle.std.specs.Prelude.{option_map, option_and_then, is_some, not, IfOk}
+use Rattle.std.proofs.Common.{◌≡◌, ℕ, zero, suc, ◌+◌, Bool, true, false, List, [], ◌∷◌, length, cond, Option, None, Some, Result, Ok, Err, refl, ap, sym, subst, ◌∙◌, slice_get}
+use Rattle.std.specs.Prelude.{is_some, not, IfOk}
 use Rattle.std.specs.Map.{lookup}
-use Rattle.std.proofs.lemmas.Map.Made.{lookup-map_values}
 use Rattle.ng_act.specs.State as act
 use Rattle.ng_base.specs.Meets.{◌>>=◌}
 use Rattle.ng_base.specs.Objects.{Object}
@@ -18,7 +17,7 @@ use Rattle.ng_drawing.specs.Template.{Site}
 use Rattle.ng_drawing.proofs.Fresh.{fresh_parts}
 use Rattle.ng_language.specs.Texts.{show_text}
 use Rattle.ng_link.specs.Shape.{key_on}
-use Rattle.ng_link.specs.State.{site_state, site_states, instance_at}
+use Rattle.ng_link.specs.State.{State, Linked, Resting, kept_in, kept_or, site_state, site_states, instance_at, shown_in, shown, rendering_in, rendering}
 use Rattle.ng_watch.specs.Keys.{is_key}
 use Rattle.ng_watch.specs.Laws.{is_two_way}
 use Rattle.ng_watch.specs.Now.{value_now, text_view, now}
@@ -27,8 +26,8 @@ use Rattle.ng_watch.specs.Table.{Table, found}
 use Rattle.ng_watch.specs.Verdicts.{clean, verdict}
 use Rattle.ng_watch.proofs.Judging.{clean_has_kept}
 use Rattle.ng_page.specs.Answered.{WhenOk}
-use Rattle.ng_page.specs.Settled.{IsSettled, watches, HasSameData, text_watch, watch_at, AreWatched, IsLinkedIn, IsWatched}
-use Rattle.ng_page.specs.State.{State, Linked, shown_in, shown, rendering_in, rendering}
+use Rattle.ng_page.specs.PageLaws.{key_is}
+use Rattle.ng_page.specs.Settled.{IsSettled, text_watch, WatchesAt, AreWatched, IsLinkedIn, IsWatched}
 
 -- what a text keeps is the text that it shows
 shows_kept : (objects : List Object) (r : Result ViewTree Fault) (s : ViewTree) → (r >>= λ v. show_text objects v >>= λ t. Ok (text_view t)) ≡ Ok s → rendered_text (r >>= show_text objects) ≡ shown_as (kept_text (Some s))
@@ -49,56 +48,46 @@ clean_shows objects x o w is e =
     let k = (clean_has_kept objects w (ap (λ (v : Watching). is_two_way v.kind) is)).0 e in
     now_shows objects x o k.0 (ap (now objects) (sym is) ∙ k.1) ∙ ap (λ v. shown_as (kept_text v)) (sym k.2)
 
-module _ (c : act.State) (t : Table) (settled : (k : Key) (w : Watcher) → found k t ≡ Some w → verdict c.objects w ≡ Ok clean) (scope : ℕ) where
-  site_shows : (x : Site) (k : Key) → watch_at k t ≡ Some (text_watch x (object_at c.scopes scope))
-      → site_now c.objects c.scopes (Some x) (Some (site_state t scope k)) ≡ shown_as (state_text (Some (site_state t scope k)))
-  site_shows x k h = by_watcher (found k t) refl h
+-- what is found under a site's key watches the site
+found_watches : (k : Key) (v : Watching) (t : Table) (w : Watcher) → WatchesAt k v t → found k t ≡ Some w → w.watch ≡ v
+found_watches k v [] w h e = cc
+found_watches k v (x ∷ t) w h e = by_key (is_key k x.0) refl e (λ g. found_watches k v t w h.1 g)
+  where
+    by_key : (b : Bool) → is_key k x.0 ≡ b → cond b (Some x.1) (lookup (is_key k) t) ≡ Some w → (lookup (is_key k) t ≡ Some w → w.watch ≡ v) → w.watch ≡ v
+    by_key true i e more = let one : x.1 ≡ w = cc in ap (λ (y : Watcher). y.watch) (sym one) ∙ h.0 (sym (key_is k x.0 i))
+    by_key false i e more = more e
+
+module _ (c : act.State) (t : Table) (r : Resting) (settled : (k : Key) (w : Watcher) → found k t ≡ Some w → verdict c.objects w ≡ Ok clean) where
+  site_shows : (scope : ℕ) (x : Site) (k : Key) → WatchesAt k (text_watch x (object_at c.scopes scope)) t
+      → site_now c.objects c.scopes (Some x) (Some (site_state t r scope k)) ≡ shown_as (state_text (Some (site_state t r scope k)))
+  site_shows scope x k h = by_watcher (found k t) refl
     where
       state : Option Watcher → SiteState
-      state o = record { key = k; scope = scope; kept = option_and_then (λ w. w.kept) o; rests = not (is_some o) }
+      state o = record { key = k; scope = scope; kept = kept_or o (lookup (is_key k) r); rests = not (is_some o) }
 
-      by_watcher : (o : Option Watcher) → found k t ≡ o → option_map (λ w. w.watch) o ≡ Some (text_watch x (object_at c.scopes scope))
-          → site_now c.objects c.scopes (Some x) (Some (state o)) ≡ shown_as (state_text (Some (state o)))
-      by_watcher None e h = cc
-      by_watcher (Some w) e h =
-          let is : w.watch ≡ text_watch x (object_at c.scopes scope) = cc in
-          clean_shows c.objects x (object_at c.scopes scope) w is (settled k w e)
+      by_watcher : (o : Option Watcher) → found k t ≡ o → site_now c.objects c.scopes (Some x) (Some (state o)) ≡ shown_as (state_text (Some (state o)))
+      by_watcher None e = refl
+      by_watcher (Some w) e = clean_shows c.objects x (object_at c.scopes scope) w (found_watches k (text_watch x (object_at c.scopes scope)) t w h e) (settled k w e)
 
-  sites_show : (path : List ℕ) (n : ℕ) (xs : List Site) (i : ℕ) → AreWatched t (object_at c.scopes scope) path n xs
-      → site_now c.objects c.scopes (slice_get xs i) (slice_get (site_states t scope path n (length xs)) i) ≡ shown_as (state_text (slice_get (site_states t scope path n (length xs)) i))
-  sites_show path n [] i h = refl
-  sites_show path n (x ∷ xs) zero h = site_shows x (key_on path n) h.0
-  sites_show path n (x ∷ xs) (suc i) h = sites_show path (n + 1) xs i h.1
+  sites_show : (scope : ℕ) (path : List ℕ) (n : ℕ) (xs : List Site) (i : ℕ) → AreWatched t (object_at c.scopes scope) path n xs
+      → site_now c.objects c.scopes (slice_get xs i) (slice_get (site_states t r scope path n (length xs)) i) ≡ shown_as (state_text (slice_get (site_states t r scope path n (length xs)) i))
+  sites_show scope path n [] i h = refl
+  sites_show scope path n (x ∷ xs) zero h = site_shows scope x (key_on path n) h.0
+  sites_show scope path n (x ∷ xs) (suc i) h = sites_show scope path (n + 1) xs i h.1
 
-settled_in : (c : act.State) (t : Table) (o : Option Linked) → ((k : Key) (w : Watcher) → found k t ≡ Some w → verdict c.objects w ≡ Ok clean) → IsLinkedIn c t o → rendering_in c t o ≡ shown_as (shown_in t o)
-settled_in c t None settled h = refl
-settled_in c t (Some l) settled h =
-    fresh_parts (λ n. state_text (slice_get (instance_at t l.page).sites n)) (λ n. site_now c.objects c.scopes (slice_get l.template.sites n) (slice_get (instance_at t l.page).sites n))
-    (λ n. subst (λ k. site_now c.objects c.scopes (slice_get l.template.sites n) (slice_get (site_states t l.page.scope l.page.path l.page.first k) n) ≡ shown_as (state_text (slice_get (site_states t l.page.scope l.page.path l.page.first k) n)))
-    (sym h.count) (sites_show c t settled l.page.scope l.page.path l.page.first l.template.sites n h.watched))
+settled_in : (c : act.State) (t : Table) (r : Resting) (o : Option Linked) → ((k : Key) (w : Watcher) → found k t ≡ Some w → verdict c.objects w ≡ Ok clean) → IsLinkedIn c t o → rendering_in c t r o ≡ shown_as (shown_in t r o)
+settled_in c t r None settled h = refl
+settled_in c t r (Some l) settled h =
+    fresh_parts (λ n. state_text (slice_get (instance_at t r l.page).sites n)) (λ n. site_now c.objects c.scopes (slice_get l.template.sites n) (slice_get (instance_at t r l.page).sites n))
+    (λ n. subst (λ k. site_now c.objects c.scopes (slice_get l.template.sites n) (slice_get (site_states t r l.page.scope l.page.path l.page.first k) n) ≡ shown_as (state_text (slice_get (site_states t r l.page.scope l.page.path l.page.first k) n)))
+    (sym h.count) (sites_show c t r settled l.page.scope l.page.path l.page.first l.template.sites n
+    (subst (λ s. AreWatched t (object_at c.scopes s) l.page.path l.page.first l.template.sites) (sym h.scope) h.watched)))
     l.template.parts
 
 pub settled_renders : (s : State) → IsSettled s → IsWatched s → rendering s ≡ shown_as (shown s)
-settled_renders s settled h = settled_in s.core s.watchers s.linked settled h
+settled_renders s settled h = settled_in s.core s.watchers s.resting s.linked settled h
 
--- the sites are watched as before
-same_watch : (k : Key) (t u : Table) → watches u ≡ watches t → watch_at k u ≡ watch_at k t
-same_watch k t u e = sym (lookup-map_values (λ (w : Watcher). w.watch) (is_key k) u) ∙ (ap (lookup (is_key k)) e ∙ lookup-map_values (λ (w : Watcher). w.watch) (is_key k) t)
-
-sites_still : (t u : Table) (o : ℕ) (path : List ℕ) (n : ℕ) (xs : List Site) → watches u ≡ watches t → AreWatched t o path n xs → AreWatched u o path n xs
-sites_still t u o path n [] e h = tt
-sites_still t u o path n (x ∷ xs) e h = (same_watch (key_on path n) t u e ∙ h.0, sites_still t u o path (n + 1) xs e h.1)
-
-still_in : (c d : act.State) (t u : Table) (o : Option Linked) → watches u ≡ watches t → c.scopes ≡ d.scopes → IsLinkedIn c t o → IsLinkedIn d u o
-still_in c d t u None e i h = tt
-still_in c d t u (Some l) e i h = record {
-  count = h.count;
-  watched = subst (λ v. AreWatched u (object_at v l.page.scope) l.page.path l.page.first l.template.sites) i (sites_still t u (object_at c.scopes l.page.scope) l.page.path l.page.first l.template.sites e h.watched);
-}
-
-pub still_watched : (s t : State) → HasSameData s t → IsWatched s → IsWatched t
-still_watched s t same h = subst (λ o. IsLinkedIn t.core t.watchers o) (sym same.linked) (still_in s.core t.core s.watchers t.watchers s.linked same.watches (sym (ap (λ v. v.scopes) same.core)) h)
-
-pub when_ok : (P Q : Type 0) (d : Result Report DigestFault) → IfOk d (λ _. P) → (P → Q) → WhenOk (Some d) Q
-when_ok P Q (Ok report) h f = f h
-when_ok P Q (Err e) h f = tt
+pub when_done : (P Q : Type 0) (o : Option (Result Report DigestFault)) → WhenOk o P → (P → Q) → WhenOk o Q
+when_done P Q None h f = tt
+when_done P Q (Some (Ok report)) h f = f h
+when_done P Q (Some (Err e)) h f = tt

@@ -1,7 +1,8 @@
 -- Between a test and its fire.
-use Rattle.std.proofs.Common.{◌≡◌, Bool, true, false, List, [], ◌∷◌, None, Some, refl, ap, sym, subst, ◌∙◌, cond, find}
+use Rattle.std.proofs.Common.{◌≡◌, Bool, true, false, List, [], ◌∷◌, None, Some, Option, Result, Ok, Err, refl, ap, sym, subst, ◌∙◌, cond, find}
 use Rattle.std.specs.Prelude.{option_map}
 use Rattle.std.specs.Map.{keys_of}
+use Rattle.std.specs.Option.{ForSome}
 use Rattle.ng_base.specs.declared.path.Key.{Key}
 use Rattle.ng_digest.specs.Machine.{Verdict, found_clean, found_dirty, found_faulted, above, verdict_at}
 use Rattle.ng_digest.specs.Place.{Answers, OnTested, stage_tested, state_tested}
@@ -11,15 +12,14 @@ use Rattle.ng_digest.specs.declared.world.Tested.TheVariants.{Clean, Dirty, Faul
 use Rattle.ng_digest.specs.declared.world.Stage.TheVariants.{AtKey, Pending}
 use Rattle.ng_watch.specs.Keys.{is_above}
 use Rattle.ng_watch.specs.Seen.{Watcher}
-use Rattle.ng_watch.specs.Table.{Table, first_key, key_after, with_kept}
-use Rattle.ng_act.specs.State as act
+use Rattle.ng_watch.specs.Table.{Table, found, first_key, key_after}
 use Rattle.ng_base.specs.Views.{ViewTree}
 use Rattle.ng_value.specs.Snaps.{snap_of}
-use Rattle.ng_link.specs.State.{core_of, table_of, templates_of, page_of}
-use Rattle.ng_link.specs.declared.works.Works.{Works}
-use Rattle.ng_page.specs.PageMachine.{page_machine, handed_on_at, keeps, fired}
-use Rattle.ng_page.specs.PlaceOf.{IsAtStage, IsAtWatcher, IsStanding, Holds, OnDirty, handed_on_from, linked_of, seen_of, state_of}
-use Rattle.ng_page.specs.State.{State}
+use Rattle.ng_base.specs.declared.fault.Fault.{Fault}
+use Rattle.ng_fire.specs.Fires.{fired as fires, fire_adds}
+use Rattle.ng_watch.specs.Verdicts.{Judged, clean, dirty, verdict}
+use Rattle.ng_page.specs.PageMachine.{State, page_machine, handed_on, handed_on_of, handed_on_at, fired_to, fired_by, fired, adds_by, adds}
+use Rattle.ng_page.specs.PlaceOf.{IsAtStage, IsAtWatcher, WorksAre, Holds, OnDirty, handed_on_from, state_of}
 use Rattle.ng_page.specs.declared.engine.Engine.{Engine}
 
 -- only a dirty test asks for a fire
@@ -49,36 +49,47 @@ after_next k t = found_key (is_above k) t
 
 pub ruleset next_steps = (first_next, after_next)
 
--- what works stand for, by its parts
-pub same_seen : (v w : Works) (told : List Key) (c : act.State) (t : Table) → core_of v ≡ c → table_of v ≡ t → templates_of v ≡ templates_of w → page_of v ≡ page_of w
-    → seen_of v told ≡ record { core = c; watchers = t; told = told; linked = linked_of (templates_of w) (page_of w) }
-same_seen v w told c t e f g h = λ i. record { core = e i; watchers = f i; told = told; linked = linked_of (g i) (h i) }
+-- a dirty test hands its snapshot on
+handed_dirty : (r : Result Judged Fault) (t : ViewTree) → handed_on r ≡ Some t → r ≡ Ok (dirty t)
+handed_dirty (Ok clean) t e = cc
+handed_dirty (Ok (dirty u)) t e = cc
+handed_dirty (Err f) t e = cc
 
--- a fire keeps what the test handed on
-pub fired_kept : (v w : Works) (told : List Key) (k : Key) (t : ViewTree) → core_of v ≡ core_of w → table_of v ≡ with_kept k (Some t) (table_of w) → templates_of v ≡ templates_of w → page_of v ≡ page_of w
-    → Some t ≡ handed_on_at (seen_of w told) k → seen_of v told ≡ fired (seen_of w told) k
-fired_kept v w told k t e f g h o = same_seen v w told (core_of w) (with_kept k (Some t) (table_of w)) e f g h ∙ ap (λ x. keeps k x (seen_of w told)) o
+dirty_found : (s : State) (o : Option Watcher) (t : ViewTree) → handed_on_of s o ≡ Some t → ForSome o (λ w. verdict s.works.core.objects w ≡ Ok (dirty t))
+dirty_found s o t e w f = handed_dirty (verdict s.works.core.objects w) t (sym (ap (handed_on_of s) f) ∙ e)
+
+pub fired_dirty : (s : State) (k : Key) (t : ViewTree) → Some t ≡ handed_on_at s k → ForSome (found k s.works.watchers) (λ w. verdict s.works.core.objects w ≡ Ok (dirty t))
+fired_dirty s k t e = dirty_found s (found k s.works.watchers) t (sym e)
+
+-- the fire of what was handed on
+pub fired_on : (s u : State) (k : Key) (t : ViewTree) → Some t ≡ handed_on_at s k → u ≡ fired_to k (fires k t s.works) s → u ≡ fired s k
+fired_on s u k t e h = h ∙ ap (λ o. fired_by k o s) e
+
+pub added_on : (s : State) (a : Bool) (k : Key) (t : ViewTree) → Some t ≡ handed_on_at s k → a ≡ fire_adds k s.works → a ≡ adds s k
+added_on s a k t e h = h ∙ ap (λ o. adds_by k o s) e
 
 pub fired_none : (s : State) (k : Key) → None ≡ handed_on_at s k → s ≡ fired s k
-fired_none s k o = ap (λ x. keeps k x s) o
+fired_none s k e = ap (λ o. fired_by k o s) e
 
-holds_at : (e : Engine) (q : Standing Key) (same : Bool) (v : Verdict) → IsStanding e.works → q ≡ test_done same v e.progress → (v ≡ found_dirty → IsAtStage Pending (record e { progress = q })) → Holds (record e { progress = q })
-holds_at e q same v (ts, s) step dirty = record {
-  stands = ts;
-  standing = s;
-  stage = subst (λ g. IsAtStage g (record e { progress = q })) (sym (ap (λ x. x.stage) step)) (stage_after same v (record e { progress = q }) dirty);
+pub added_none : (s : State) (k : Key) → None ≡ handed_on_at s k → false ≡ adds s k
+added_none s k e = ap (λ o. adds_by k o s) e
+
+holds_at : (e : Engine) (q : Standing Key) (same : Bool) (v : Verdict) → WorksAre e.works → q ≡ test_done same v e.progress → (v ≡ found_dirty → IsAtStage Pending (record e { progress = q })) → Holds (record e { progress = q })
+holds_at e q same v works step asks = record {
+  works = works;
+  stage = subst (λ g. IsAtStage g (record e { progress = q })) (sym (ap (λ x. x.stage) step)) (stage_after same v (record e { progress = q }) asks);
 }
 
 not_both : (v : Verdict) (P : Type 0) (w : Verdict) → v ≡ w → v ≡ found_dirty → (w ≡ found_dirty → P) → P
 not_both v P w e d f = f (sym e ∙ d)
 
--- after a test the document still shows what is kept, and after a dirty one its snapshot is at hand
+-- after a dirty test its snapshot is at hand
 pub holds_tested : (o e : Engine) (q : Standing Key) (same : Bool) (tested : Tested) → o.progress.stage ≡ AtKey → Holds o
     → Answers (verdict_at page_machine (state_of o) o.progress.cursor) tested
     → OnTested tested (state_of e ≡ state_tested page_machine (state_of o) o.progress.cursor (verdict_at page_machine (state_of o) o.progress.cursor))
     → e.progress ≡ o.progress
     → OnDirty tested (option_map snap_of e.pending ≡ handed_on_from (state_of o) o.progress.cursor)
-    → OnTested tested (IsStanding e.works)
+    → OnTested tested (WorksAre e.works)
     → ((v : Verdict) → Answers v tested → OnTested tested (q ≡ test_done same v e.progress))
     → OnTested tested (Holds (record e { progress = q }))
 holds_tested o e q same (Memory m) stage h answer state progress handed standing step = tt
@@ -89,11 +100,23 @@ holds_tested o e q same Faulted stage h answer state progress handed standing st
     holds_at e q same (verdict_at page_machine (state_of o) o.progress.cursor) standing (step (verdict_at page_machine (state_of o) o.progress.cursor) answer)
     (λ d. not_both (verdict_at page_machine (state_of o) o.progress.cursor) (IsAtStage Pending (record e { progress = q })) found_faulted answer d (λ x. cc))
 holds_tested o e q same Dirty stage h answer state progress handed standing step =
-    let there : IsAtWatcher o.progress.cursor (state_of o).watchers = subst (λ g. IsAtStage g o) stage h.stage in
+    let there : IsAtWatcher o.progress.cursor (state_of o).works.watchers = subst (λ g. IsAtStage g o) stage h.stage in
     let came : q.cursor ≡ o.progress.cursor = ap (λ x. x.cursor) (step (verdict_at page_machine (state_of o) o.progress.cursor) answer) ∙ ap (λ x. x.cursor) progress in
     let still : state_of e ≡ state_of o = state ∙ ap (state_tested page_machine (state_of o) o.progress.cursor) answer in
     holds_at e q same (verdict_at page_machine (state_of o) o.progress.cursor) standing (step (verdict_at page_machine (state_of o) o.progress.cursor) answer)
     (λ d. (
-      subst (λ x. IsAtWatcher x (table_of e.works)) (sym came) (subst (λ x. IsAtWatcher o.progress.cursor x.watchers) (sym still) there),
+      subst (λ x. IsAtWatcher x (state_of e).works.watchers) (sym came) (subst (λ x. IsAtWatcher o.progress.cursor x.works.watchers) (sym still) there),
       handed ∙ (ap (λ x. handed_on_from x o.progress.cursor) (sym still) ∙ ap (handed_on_from (state_of e)) (sym came)),
     ))
+
+pub on_tested : {A B : Type 0} (r : Tested) → OnTested r A → (A → B) → OnTested r B
+on_tested Clean h f = f h
+on_tested Dirty h f = f h
+on_tested Faulted h f = f h
+on_tested (Memory e) h f = tt
+
+pub on_dirty : {A B : Type 0} (r : Tested) → OnDirty r A → (A → B) → OnDirty r B
+on_dirty Clean h f = tt
+on_dirty Dirty h f = f h
+on_dirty Faulted h f = tt
+on_dirty (Memory e) h f = tt

@@ -1,7 +1,6 @@
 -- Digests of a page, as their answers tell them.
-use Rattle.std.specs.Prelude.{ℕ, ◌≡◌, Option, None, Some, Result, Ok, Err}
+use Rattle.std.specs.Prelude.{ℕ, ◌≡◌, Bool, true, false, List, [], Option, Some, None, Result, Ok, Err}
 use Rattle.ng_base.specs.declared.path.Key.{Key}
-use Rattle.ng_digest.specs.Early.{plain_answer}
 use Rattle.ng_digest.specs.Log.{zero_log}
 use Rattle.ng_digest.specs.Place.{Place}
 use Rattle.ng_digest.specs.Plain.{Plain, PlainDigests}
@@ -9,40 +8,33 @@ use Rattle.ng_digest.specs.Short.{Digests}
 use Rattle.ng_digest.specs.declared.log.Report.{Report}
 use Rattle.ng_digest.specs.declared.rounds.DigestFault.{DigestFault}
 use Rattle.ng_digest.specs.declared.world.Stage.TheVariants.{Between}
-use Rattle.ng_act.specs.State as act
-use Rattle.ng_drawing.specs.Template.{Template}
-use Rattle.ng_page.specs.Opening.{opening}
-use Rattle.ng_page.specs.PageMachine.{page_machine, readied}
-use Rattle.ng_page.specs.State.{State}
+use Rattle.ng_link.specs.State as link
+use Rattle.ng_page.specs.PageMachine.{State, page_machine, readied}
 
 -- where a digest begins: nothing was counted, remembered or handed over yet
-abbrev pub ready_place : State → Place State Key
+abbrev pub ready_place : link.State → Place State Key
 ready_place s = record { state = readied s; cursor = None; remembered = None; log = zero_log; stage = Between }
 
--- a plain digest of a page ends so, with this answer
-abbrev pub PlainlyAnswered : State → Result (ℕ × ℕ) DigestFault → State → Type 0
-PlainlyAnswered s answer t = (end : Plain State) × PlainDigests page_machine (readied s) answer end × (t ≡ end.state)
-
-abbrev pub Answered : State → Result Report DigestFault → State → Type 0
-Answered s d t = PlainlyAnswered s (plain_answer d) t
+-- a plain digest of a page ends so, with this answer and these texts of probes
+abbrev pub PlainlyDigests : link.State → Result (ℕ × ℕ) DigestFault → List (List ℕ) → link.State → Type 0
+PlainlyDigests s answer probed t = (end : Plain State) × PlainDigests page_machine (readied s) answer end × (t ≡ end.state.works) × (probed ≡ end.state.probed)
 
 -- the short digest of a page, which counts its tests, ends so, with this answer
-abbrev pub Counted : State → Result Report DigestFault → State → Type 0
-Counted s d t = (end : Place State Key) × Digests page_machine (ready_place s) d end × (t ≡ end.state)
+abbrev pub ShortlyDigests : link.State → Result Report DigestFault → link.State → Type 0
+ShortlyDigests s answer t = (end : Place State Key) × Digests page_machine (ready_place s) answer end × (t ≡ end.state.works)
 
--- the plain digest that opens a page ends so, with this answer: the rounds and fires, or why it did not succeed
-abbrev pub Opens : act.State → Template → Result (ℕ × ℕ) DigestFault → State → Type 0
-Opens c t answer s = PlainlyAnswered (opening c t) answer s
+-- a digest is done where it is due, and only there
+abbrev pub DigestsWhere : Bool → link.State → Option (Result (ℕ × ℕ) DigestFault) → List (List ℕ) → link.State → Type 0
+DigestsWhere true s (Some answer) probed t = PlainlyDigests s answer probed t
+DigestsWhere true s None probed t = ⊥
+DigestsWhere false s (Some answer) probed t = ⊥
+DigestsWhere false s None probed t = (t ≡ s) × (probed ≡ [])
 
--- the digest that opens a page
-abbrev pub Opened : act.State → Template → Option (Result Report DigestFault) → State → Type 0
-Opened c t None s = ⊥
-Opened c t (Some d) s = Answered (opening c t) d s
-
--- the same as the short digest, with its tests
-abbrev pub OpenedShort : act.State → Template → Option (Result Report DigestFault) → State → Type 0
-OpenedShort c t None s = ⊥
-OpenedShort c t (Some d) s = Counted (opening c t) d s
+abbrev pub ShortWhere : Bool → link.State → Option (Result Report DigestFault) → link.State → Type 0
+ShortWhere true s (Some answer) t = ShortlyDigests s answer t
+ShortWhere true s None t = ⊥
+ShortWhere false s (Some answer) t = ⊥
+ShortWhere false s None t = t ≡ s
 
 -- what holds where a digest was done and answered Ok
 abbrev pub WhenOk : Option (Result Report DigestFault) → Type 0 → Type 0

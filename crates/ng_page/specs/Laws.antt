@@ -1,8 +1,8 @@
 -- What is proved of pages by their definitions alone.
 use Rattle.std.specs.Prelude.{◌≡◌}
 use Rattle.ng_drawing.specs.Drawing.{shown_as}
+use Rattle.ng_link.specs.State.{State, shown, rendering}
 use Rattle.ng_page.specs.Settled.{IsSettled, IsWatched}
-use Rattle.ng_page.specs.State.{State, shown, rendering}
 
 -- where no watcher of a page is dirty, it shows what its rendering is
 abbrev pub SettledPageShowsItsRendering : Type 0

@@ -1,44 +1,39 @@
--- How a page is opened: its template is linked on the root scope.
-use Rattle.std.specs.Prelude.{◌≡◌, ◌+◌, List, [], length, Option, Some, None, Result, Ok, Err}
+-- How a page is opened: what the application installs and registers, its first program, and its template, which is linked on
+-- the root scope (guide: HTML Compiler; Scopes, "Integration with the browser event loop").
+use Rattle.std.specs.Prelude.{◌≡◌, List, Result, Ok, Err, if◌then◌else◌}
 use Rattle.std.specs.List.{AllByRecursion}
 use Rattle.ng_act.specs.State as act
+use Rattle.ng_app.specs.App.{Facts}
+use Rattle.ng_app.specs.Installing.{installed}
 use Rattle.ng_base.specs.declared.fault.Fault.{Fault}
-use Rattle.ng_behaviour.specs.Scopes.{object_at, path_at}
+use Rattle.ng_behaviour.specs.Scopes.{path_at, live_at}
 use Rattle.ng_drawing.specs.Template.{Site, Template}
 use Rattle.ng_drawing.specs.declared.kind.SiteKind.TheVariants.{Text}
-use Rattle.ng_link.specs.Rows.{fresh_rows}
+use Rattle.ng_fire.specs.Runs.{followed}
+use Rattle.ng_link.specs.Calls.{blank, with_core, linked_in, left_at}
 use Rattle.ng_link.specs.Shape.{linked}
-use Rattle.ng_link.specs.State.{Page}
-use Rattle.ng_page.specs.State.{State}
+use Rattle.ng_link.specs.State as link
+use Rattle.ng_page.specs.Commands.{program_run}
 
--- the page's own template is the first, and its scope is the root
-abbrev pub first_page : act.State → Template → Page
-first_page c t = record { template = 0; scope = 0; path = path_at c.scopes 0; first = c.serial; count = length t.sites }
+-- what is installed and registered on the root, and then the first program
+abbrev pub prepared : Facts → link.State
+prepared f = followed (program_run 0 f.run (installed f)) (blank (installed f))
 
--- registration numbers were given to the sites of a template
-abbrev pub numbered : Template → act.State → act.State
-numbered t c = record c { serial = c.serial + length t.sites }
+-- the page's own template is the first; on a root that died its sites rest
+abbrev pub linked_root : Template → link.State → link.State
+linked_root t s = if live_at s.core.scopes 0 then linked_in 0 0 t s else left_at (path_at s.core.scopes 0) (linked_in 0 0 t s)
 
-abbrev pub opening_by : act.State → Template → Result (Unit {0}) Fault → State
-opening_by c t (Ok u) = record {
-  core = numbered t c;
-  watchers = fresh_rows (path_at c.scopes 0) (object_at c.scopes 0) c.serial t.sites;
-  told = [];
-  linked = Some (record { template = t; page = first_page c t });
-}
-opening_by c t (Err f) = record { core = act.with_fault f c; watchers = []; told = []; linked = None }
+-- where the template has too many nodes, the fault is handed over, and nothing is linked
+abbrev pub linked_by : Template → Result (Unit {0}) Fault → link.State → link.State
+linked_by t (Ok u) s = linked_root t s
+linked_by t (Err f) s = with_core (act.with_fault f s.core) s
 
--- A page right after its template was linked. Where it would have too many nodes the fault is handed over, and nothing stands.
-abbrev pub opening : act.State → Template → State
-opening c t = opening_by c t (linked 0 t.parts)
+abbrev pub linked_on : Template → link.State → link.State
+linked_on t s = linked_by t (linked 0 t.parts) s
 
-abbrev pub fault_in : Result (Unit {0}) Fault → Option Fault
-fault_in (Ok u) = None
-fault_in (Err f) = Some f
-
--- the fault that linking met
-abbrev pub link_fault : Template → Option Fault
-link_fault t = fault_in (linked 0 t.parts)
+-- a page right after its template was linked
+abbrev pub opening : Facts → Template → link.State
+opening f t = linked_on t (prepared f)
 
 -- holes of texts are all that is watched
 abbrev pub IsText : Site → Type 0

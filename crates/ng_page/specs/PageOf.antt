@@ -1,18 +1,20 @@
 -- What a page of the code stands for.
+use Rattle.std.specs.Prelude.{◌≡◌, false}
 use Rattle.ng_dom.specs.Document as document
 use Rattle.ng_dom.specs.Nodes.{NamedForest}
+use Rattle.ng_fire.specs.Whole.{IsWhole}
 use Rattle.ng_link.specs.Standing as standing
+use Rattle.ng_link.specs.State as link
 use Rattle.ng_markup.specs.Forest.{Forest}
-use Rattle.ng_page.specs.PlaceOf as engine
-use Rattle.ng_page.specs.State.{State}
+use Rattle.ng_page.specs.PlaceOf.{PageIs}
 use Rattle.ng_page.specs.declared.page.Page.{Page}
 
-abbrev pub state_of : Page → State
-state_of p = engine.state_of p.engine
+abbrev pub state_of : Page → link.State
+state_of p = link.state_of p.engine.works
 
--- what stands of the page's template is known, node by node
-abbrev pub Stands : Page → Type 0
-Stands p = engine.IsStanding p.engine.works
+-- What holds of a page, unless memory ran out: what stands of its template is known, node by node, and each site is watched.
+abbrev pub IsPage : Page → Type 0
+IsPage p = p.spent ≡ false → PageIs p.engine.works
 
 -- the document that a page shows, without the names of its nodes, is this one
 abbrev pub Displays : Page → Forest → Type 0

@@ -1,5 +1,6 @@
 //! A page at work: what stands of it, and where a digest over it stands.
 
+use ng_base::lists::Words;
 use ng_base::path::Key;
 use ng_digest::progress::Progress;
 use ng_link::works::Works;
@@ -7,13 +8,16 @@ use ng_value::snapshot::Snap;
 use std::alloc::Global;
 use std::collections::BTreeSet;
 
-/// The works of a page, the watchers whose fault was handed over in this digest, and where that stands. A dirty test hands
-/// its snapshot on to the fire, so that no program is evaluated twice.
+/// The works of a page; the watchers whose test's fault was handed over in this digest, and those whose fire faulted in it;
+/// what the probes printed; and where the digest stands. A dirty test hands its snapshot on to the fire, so that no program is
+/// evaluated twice.
 #[derive(Drop)]
 pub struct Engine {
     pub(crate) alloc: Global,
     pub(crate) works: Works,
     pub(crate) told: BTreeSet<Key>,
+    pub(crate) faulted: BTreeSet<Key>,
+    pub(crate) probed: Words,
     pub(crate) pending: Option<Snap>,
     pub(crate) progress: Progress<Key>,
 }

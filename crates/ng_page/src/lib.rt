@@ -1,27 +1,29 @@
-//! The page: what a template and an application become, and what it shows.
+//! The page: what a template and an application become, what it shows, and what commands do to it.
 //!
-//! `App::read` reads the application file: its `data` becomes the properties of the root scope, in the core that the page begins
-//! with. `Page::start` opens a page: it links the template on the root scope, which leaves every watcher unset, and digests
-//! (guide: Scopes, "Integration with the browser event loop"; HTML Compiler). `Page::print` appends the document on one line,
-//! `Page::rendered` computes it afresh, and `Page::find` finds the element that a command is aimed at.
+//! `Page::start` opens a page: what the application has is installed and registered on the root scope, its program runs, the
+//! template is linked there, and a digest is made (guide: Scopes, "Integration with the browser event loop"; HTML Compiler).
+//! `Page::apply`, `queue`, `probe`, `digest`, `destroy`, `emit` and `broadcast` are commands: a program runs, its fault is handed
+//! over, and a digest follows where the root lives. `Page::print` appends the document on one line, `Page::rendered` computes it
+//! afresh, and `Page::find` finds the element that a command is aimed at.
 //!
-//! The contract that the run above uses is that of `Page::start`: the page's state is the one that the plain digest leaves over
-//! the linked template, the document shows what the watchers have kept, and after the answer Ok that is the rendering. `State`
-//! says what a page is, `Opening` what linking makes of it, `PageMachine` what a digest does to it, and `Settled` when no watcher
-//! is dirty; `laws` has what is proved of these definitions alone.
+//! The contract that the run above uses is `Commanded` (specs/Commanded): after a command the page's state is the one that the
+//! plain digest leaves, from what the program left; the document shows what the sites have kept, and after the answer Ok that
+//! is the rendering. `Commands` says what programs leave, `Opening` what opening makes of a page, `PageMachine` what a digest does
+//! to it, `Steps` puts them together, and `Settled` says when no watcher is dirty; `laws` has what is proved of these definitions
+//! alone.
 //!
-//! In reading order: `app` and `read_app`; `engine`, `testing` and `world`, which is the engine as the world of ng_digest;
-//! `digesting`; `page`.
+//! In reading order: `outcome`; `engine`, `testing` and `world`, which is the engine as the world of ng_digest; `digesting`;
+//! `running` and `opening`, which run programs before a digest; `page`.
 //!
 //! Nothing here knows of files, words or output.
 #![tactic(auto)]
 
-pub mod app;
 mod digesting;
 mod engine;
-pub mod fault;
 pub mod laws;
+mod opening;
+pub mod outcome;
 pub mod page;
-pub mod read_app;
+mod running;
 mod testing;
 mod world;

@@ -1,112 +1,73 @@
-//! The page: opened, read and printed.
-ghost use Rattle.std.specs.Prelude.{◌≡◌, ◌<◌, ◌++◌, [], Some, length, option_map, IfOk, OnOk, IfErr, encode_utf8_all};
+//! The page: opened, commanded, read and printed.
+ghost use Rattle.std.specs.Prelude.{◌≡◌, ◌<◌, ◌++◌, ◌||◌, true, false, is_some, length, option_map, IfOk, OnOk, IfErr, encode_utf8_all};
 ghost use Rattle.std.specs.Option.{IfSome};
+ghost use Rattle.serde_json.specs.Find.{as_array};
+ghost use Rattle.serde_json.specs.View.{view};
+ghost use Rattle.ng_act.specs.Frames.{state_of as core_state};
+ghost use Rattle.ng_app.specs.AppOf.{facts};
 ghost use Rattle.ng_base.specs.Faults.{is_memory};
 ghost use Rattle.ng_base.specs.Meets.{Gives};
-ghost use Rattle.ng_behaviour.specs.ScopeObjects.{AreAmong};
 ghost use Rattle.ng_dom.specs.Document.{Shows};
-ghost use Rattle.ng_dom.specs.Drawing.{none_stand};
 ghost use Rattle.ng_dom.specs.Nodes.{NamedForest};
 ghost use Rattle.ng_dom.specs.Printed.{at_place};
-ghost use Rattle.ng_drawing.specs.Template.{Template};
-ghost use Rattle.ng_html.specs.Seen.{forest_of};
-ghost use Rattle.ng_link.specs.Standing.{IsBare, Standing};
-ghost use Rattle.ng_link.specs.State.{core_of, table_of, templates_of, page_of, template_at, instance_at};
-ghost use Rattle.ng_act.specs.Frames.{state_of as core_state};
 ghost use Rattle.ng_drawing.specs.Drawing.{shown_as};
 ghost use Rattle.ng_drawing.specs.InstanceOf.{instance_of};
+ghost use Rattle.ng_html.specs.Seen.{forest_of};
+ghost use Rattle.ng_link.specs.State as link;
+ghost use Rattle.ng_link.specs.State.{shown, instance, rendering};
 ghost use Rattle.ng_markup.specs.Forest.{Forest as PlainForest, print};
+ghost use Rattle.ng_parse.specs.ProgramOf.{program};
 ghost use Rattle.ng_template.specs.TemplateOf.{template_of};
-ghost use Rattle.ng_page.specs.Answered.{Opened, OpenedShort, WhenOk};
-ghost use Rattle.ng_page.specs.AppOf.{facts};
-ghost use Rattle.ng_page.specs.Opening.{opening, AreTexts};
-ghost use Rattle.ng_page.specs.PlaceOf.{seen_of, IsStanding};
-ghost use Rattle.ng_page.specs.Rooted.{WorksAreRooted};
+ghost use Rattle.ng_view.specs.Purity.{are_pure, all_filters_known};
+ghost use Rattle.ng_page.specs.Answered.{WhenOk};
+ghost use Rattle.ng_page.specs.Commands.{applies, queues, probes, digests, destroys_scope, emits, broadcasts, is_dead};
+ghost use Rattle.ng_page.specs.Opening.{AreTexts};
+ghost use Rattle.ng_page.specs.OutcomeOf.{outcome_of};
+ghost use Rattle.ng_page.specs.PlaceOf.{PageIs};
 ghost use Rattle.ng_page.specs.Settled.{IsSettled};
-ghost use Rattle.ng_page.specs.State.{shown, instance, rendering};
+ghost use Rattle.ng_page.specs.Steps.{Opens, OpensShort};
 ghost use Rattle.ng_page.specs.Targets.{element_name};
 
-use crate::app::App;
-use crate::digesting::digested;
+use crate::digesting::conclude;
 use crate::engine::Engine;
+use crate::opening::open;
+use crate::outcome::{Outcome, PageFault};
+use crate::running;
 use ng_act::core_state::Core;
+use ng_app::App;
 use ng_base::fault::{Fault, Memory};
-use ng_base::lists::Words;
 use ng_base::name::{NodeId, ScopeId, TplId};
 use ng_base::path::{Path, Target};
-use ng_digest::log::Report;
-use ng_digest::rounds::DigestFault;
+use ng_base::txt::Txt;
 use ng_dom::dom::Dom;
 use ng_drawing::instance::Instance;
 use ng_html::forest::Forest;
 use ng_link::works::Works;
+use ng_parse::Program;
 use ng_render::render;
-use ng_template::{Templates, Tpl};
+use ng_template::Tpl;
+use serde_json::Value as Json;
 use std::alloc::Global;
 
-/// A page: its core, its templates, what stands of them, and its watchers.
+/// A page: its core, its templates, what stands of them, and its watchers. It is spent once memory ran out in a call.
 #[derive(Drop)]
 pub struct Page {
     engine: Engine,
-    ghost rooted: { WorksAreRooted engine.works },
-}
-
-/// What a call on a page did: how many faults were handed over and the first of them, the digest's answer, and
-/// the texts of the probes. `digest` is `None` where no digest was due.
-#[derive(Drop)]
-pub struct Outcome {
-    pub faults: u32,
-    pub first: Option<Fault>,
-    pub digest: Option<Result<Report, DigestFault>>,
-    pub probed: Words,
-}
-
-/// Links a page's template on the root scope, and hands the fault over that it meets.
-fn link_page(works: &mut Works, t: TplId) -> Result<(), Memory>
-    requires template { t.0 < length (templates_of works.old) }
-    requires scope { 0 < length (core_of works.old).scopes }
-    requires objects { AreAmong (length (core_of works.old).objects) (core_of works.old).scopes }
-    requires bare { IsBare works.old }
-    requires stands { Standing works.old none_stand }
-    ensures opened { OnOk result ((u : Template) → t.0 ≡ 0 → template_at (templates_of works.old) t.0 ≡ Some u → seen_of works.new [] ≡ opening (core_of works.old) u) }
-    ensures standing { OnOk result (IsStanding works.new) }
-{
-    match works.link(t, ScopeId(0), None, 0) {
-        Ok(_) => Ok(()),
-        Err(Fault::Memory(memory)) => Err(memory),
-        Err(fault) => {
-            works.hand_over(fault);
-            Ok(())
-        }
-    }
-}
-
-/// The works of a page whose template was linked.
-fn linked(alloc: Global, t: Tpl, app: App) -> Result<Works, Memory>
-    ensures state { IfOk result (λ w. seen_of w [] ≡ opening (facts app) (template_of t)) }
-    ensures standing { IfOk result IsStanding }
-{
-    let App { core, .. } = app;
-    let mut templates = Templates::new(alloc);
-    let t = templates.add(None, t)?;
-    let mut works = Works::new(alloc, core, templates);
-    link_page(&mut works, t)?;
-    Ok(works)
+    spent: bool,
 }
 
 /// The rendering of the page's instance.
 fn rendered(alloc: Global, works: &Works, i: &Instance) -> Result<Option<Forest>, Fault>
-    requires rooted { WorksAreRooted works.now }
-    requires instance { Some (instance_of i.now) ≡ option_map (instance_at (table_of works.now)) (page_of works.now) }
-    ensures { Gives is_memory (option_map forest_of) (rendering (seen_of works.now [])) result }
+    requires page { PageIs works.now }
+    requires instance { Some (instance_of i.now) ≡ instance (link.state_of works.now) }
+    ensures { Gives is_memory (option_map forest_of) (rendering (link.state_of works.now)) result }
 {
-    let core = works.core();
     render(
         alloc,
         works.templates(),
         TplId(0),
-        &core.store,
-        &core.scopes,
+        &works.core.store,
+        &works.core.scopes,
         i,
     )
 }
@@ -123,35 +84,208 @@ fn element_at(dom: &Dom, path: &Path) -> Option<NodeId>
 }
 
 impl Page {
-    ghost use Rattle.ng_page.specs.PageOf.{state_of, Displays, Names, Stands};
+    ghost use Rattle.ng_page.specs.Commanded.{Commanded, Ended, refusal};
+    ghost use Rattle.ng_page.specs.PageOf.{state_of, IsPage, Displays, Names};
     ghost use Rattle.ng_page.specs.Targets.{target_in};
 
-    /// Opens a page: links the template on the root scope, and digests (guide: Scopes, "Integration with the browser event
-    /// loop"). The outcome has the faults of linking, `NodeLimit` alone, and the digest's answer.
+    /// Opens a page: what the application has is installed and registered on the root scope, its program runs, the template is
+    /// linked there, and a digest is made (guide: Scopes, "Integration with the browser event loop"). The program and the
+    /// linking count together as one program.
     pub fn start(alloc: Global, t: Tpl, app: App) -> Result<(Page, Outcome), Memory>
+        requires texts { AreTexts (template_of t).sites }
         // The page is where the plain digest over the linked template ends, with its answer.
-        ensures state { IfOk result (λ r. Opened (facts app) (template_of t) r.1.digest (state_of r.0)) }
+        ensures step { IfOk result (λ r. Opens (facts app) (template_of t) (outcome_of r.1) (state_of r.0)) }
         // Its counts, the tests among them, are those of the digest that stops early.
-        ensures report { IfOk result (λ r. OpenedShort (facts app) (template_of t) r.1.digest (state_of r.0)) }
-        // The document is what the watchers kept.
+        ensures report { IfOk result (λ r. OpensShort (facts app) (template_of t) r.1.digest (state_of r.0)) }
+        // The document is what the sites have kept.
         ensures shown { IfOk result (λ r. Displays r.0 (shown (state_of r.0))) }
-        ensures stands { IfOk result (λ r. Stands r.0) }
         // After a digest that answered Ok no watcher is dirty, and the document is the rendering.
         ensures settled { IfOk result (λ r. WhenOk r.1.digest (IsSettled (state_of r.0))) }
-        ensures rendering { IfOk result (λ r. AreTexts (template_of t).sites → WhenOk r.1.digest (rendering (state_of r.0) ≡ shown_as (shown (state_of r.0)))) }
-        ensures faults { IfOk result (λ r. (r.1.faults ≡ (opening (facts app) (template_of t)).core.handed.count) × (r.1.first ≡ (opening (facts app) (template_of t)).core.handed.first) × (r.1.probed ≡ [])) }
+        ensures rendering { IfOk result (λ r. WhenOk r.1.digest (rendering (state_of r.0) ≡ shown_as (shown (state_of r.0)))) }
+        ensures page { IfOk result (λ r. IsPage r.0) }
+        ensures fresh { IfOk result (λ r. r.0.spent ≡ false) }
     {
-        let works = linked(alloc, t, app)?;
-        let handed = works.core().handed;
+        let works = open(alloc, t, app)?;
         let mut engine = Engine::new(alloc, works);
-        let digest = digested(&mut engine)?;
-        let outcome = Outcome {
-            faults: handed.count,
-            first: handed.first,
-            digest: Some(digest),
-            probed: Words::new(alloc),
-        };
-        Ok((Page { engine }, outcome))
+        let outcome = conclude(&mut engine)?;
+        Ok((
+            Page {
+                engine,
+                spent: false,
+            },
+            outcome,
+        ))
+    }
+
+    /// Whether a scope does not live.
+    fn is_dead(&self, scope: ScopeId) -> bool
+        requires { scope.0 < length (state_of self.now).core.scopes }
+        ensures { result ≡ is_dead (state_of self.now) scope.0 }
+    {
+        !self.engine.works.core.scopes.is_live(scope)
+    }
+
+    /// Why a command on the root is refused, if it is.
+    fn refused(&self) -> Option<PageFault>
+        requires { IsPage self.now }
+        ensures { result ≡ refusal self.now.spent (is_dead (state_of self.now) 0) }
+    {
+        if self.spent {
+            return Some(PageFault::Spent);
+        }
+        if self.is_dead(ScopeId(0)) {
+            return Some(PageFault::Idle);
+        }
+        None
+    }
+
+    /// Why a command on a scope is refused, if it is.
+    fn refused_on(&self, scope: ScopeId) -> Option<PageFault>
+        requires page { IsPage self.now }
+        requires scope { self.now.spent ≡ false → scope.0 < length (state_of self.now).core.scopes }
+        ensures { result ≡ refusal self.now.spent (is_dead (state_of self.now) 0 || is_dead (state_of self.now) scope.0) }
+    {
+        if let Some(fault) = self.refused() {
+            return Some(fault);
+        }
+        if self.is_dead(scope) {
+            return Some(PageFault::Idle);
+        }
+        None
+    }
+
+    /// Want of memory, after which nothing is said of the page any more.
+    fn wanting(&mut self, memory: Memory) -> PageFault
+        ensures answer { result ≡ PageFault.Memory memory }
+        ensures spent { self.new.spent ≡ true }
+    {
+        self.spent = true;
+        PageFault::Memory(memory)
+    }
+
+    /// Ends a command whose program has run.
+    fn ended(&mut self, ran: Result<(), Memory>) -> Result<Outcome, PageFault>
+        requires unspent { self.old.spent ≡ false }
+        requires page { OnOk ran (PageIs self.old.engine.works) }
+        ensures { Ended ran (state_of self.old) result self.new }
+    {
+        match ran {
+            Ok(()) => match conclude(&mut self.engine) {
+                Ok(outcome) => Ok(outcome),
+                Err(memory) => Err(self.wanting(memory)),
+            },
+            Err(memory) => Err(self.wanting(memory)),
+        }
+    }
+
+    /// `$apply` of a program on a scope (API: `$rootScope.Scope`, `$apply`).
+    pub fn apply(&mut self, scope: ScopeId, p: &Program) -> Result<Outcome, PageFault>
+        requires page { IsPage self.old }
+        requires scope { self.old.spent ≡ false → scope.0 < length (state_of self.old).core.scopes }
+        ensures { Commanded (applies scope.0 (program p.now)) self.old result self.new }
+    {
+        if let Some(fault) = self.refused_on(scope) {
+            return Err(fault);
+        }
+        running::begin(&mut self.engine.works);
+        let ran = running::apply(&mut self.engine.works, self.engine.alloc, scope, p);
+        self.ended(ran)
+    }
+
+    /// A task on the root, and a digest (API: `$rootScope.Scope`, `$evalAsync`).
+    pub fn queue(&mut self, p: &Program) -> Result<Outcome, PageFault>
+        requires page { IsPage self.old }
+        ensures { Commanded (queues (program p.now)) self.old result self.new }
+    {
+        if let Some(fault) = self.refused() {
+            return Err(fault);
+        }
+        running::begin(&mut self.engine.works);
+        let ran = running::queue(&mut self.engine.works, self.engine.alloc, p);
+        self.ended(ran)
+    }
+
+    /// A probe, and a digest: once that has settled, the value of the program is a text of the outcome.
+    pub fn probe(&mut self, p: &Program) -> Result<Outcome, PageFault>
+        requires page { IsPage self.old }
+        requires pure { are_pure (program p.now) ≡ true }
+        requires known { all_filters_known (program p.now) ≡ true }
+        ensures { Commanded (probes (program p.now)) self.old result self.new }
+    {
+        if let Some(fault) = self.refused() {
+            return Err(fault);
+        }
+        running::begin(&mut self.engine.works);
+        let ran = running::probe(&mut self.engine.works, self.engine.alloc, p);
+        self.ended(ran)
+    }
+
+    /// A digest from the root (API: `$rootScope.Scope`, `$digest`).
+    pub fn digest(&mut self) -> Result<Outcome, PageFault>
+        requires page { IsPage self.old }
+        ensures { Commanded (digests) self.old result self.new }
+    {
+        if let Some(fault) = self.refused() {
+            return Err(fault);
+        }
+        running::begin(&mut self.engine.works);
+        let ran = Ok(());
+        self.ended(ran)
+    }
+
+    /// `$destroy` of a scope in an `$apply` (API: `$rootScope.Scope`, `$destroy`).
+    pub fn destroy(&mut self, scope: ScopeId) -> Result<Outcome, PageFault>
+        requires page { IsPage self.old }
+        requires scope { self.old.spent ≡ false → scope.0 < length (state_of self.old).core.scopes }
+        ensures { Commanded (destroys_scope scope.0) self.old result self.new }
+    {
+        if let Some(fault) = self.refused() {
+            return Err(fault);
+        }
+        running::begin(&mut self.engine.works);
+        let ran = running::destroy_scope(&mut self.engine.works, self.engine.alloc, scope);
+        self.ended(ran)
+    }
+
+    /// `$emit` from a scope in an `$apply`, with a JSON list of arguments (API: `$rootScope.Scope`, `$emit`).
+    pub fn emit(&mut self, scope: ScopeId, name: &Txt, args: &Json) -> Result<Outcome, PageFault>
+        requires page { IsPage self.old }
+        requires scope { self.old.spent ≡ false → scope.0 < length (state_of self.old).core.scopes }
+        requires list { is_some (as_array (view args.now)) ≡ true }
+        ensures { Commanded (emits scope.0 name.now (view args.now)) self.old result self.new }
+    {
+        if let Some(fault) = self.refused_on(scope) {
+            return Err(fault);
+        }
+        running::begin(&mut self.engine.works);
+        let ran = running::emit_from(&mut self.engine.works, self.engine.alloc, scope, name, args);
+        self.ended(ran)
+    }
+
+    /// `$broadcast` from a scope in an `$apply`, with a JSON list of arguments (API: `$rootScope.Scope`, `$broadcast`).
+    pub fn broadcast(
+        &mut self,
+        scope: ScopeId,
+        name: &Txt,
+        args: &Json,
+    ) -> Result<Outcome, PageFault>
+        requires page { IsPage self.old }
+        requires scope { self.old.spent ≡ false → scope.0 < length (state_of self.old).core.scopes }
+        requires list { is_some (as_array (view args.now)) ≡ true }
+        ensures { Commanded (broadcasts scope.0 name.now (view args.now)) self.old result self.new }
+    {
+        if let Some(fault) = self.refused_on(scope) {
+            return Err(fault);
+        }
+        running::begin(&mut self.engine.works);
+        let ran = running::broadcast_from(
+            &mut self.engine.works,
+            self.engine.alloc,
+            scope,
+            name,
+            args,
+        );
+        self.ended(ran)
     }
 
     /// Appends the document on one line, without a line feed.
@@ -166,7 +300,7 @@ impl Page {
     pub fn core(&self) -> &Core
         ensures { core_state result.now ≡ (state_of self.now).core }
     {
-        self.engine.works.core()
+        &self.engine.works.core
     }
 
     /// The document, whose nodes have names.
@@ -176,7 +310,7 @@ impl Page {
 
     /// What stands of the template: for each site its key, its scope and what it has kept.
     pub fn instance(&self) -> Result<Option<Instance>, Memory>
-        ensures { Stands self.now → IfOk result (λ i. option_map instance_of i ≡ instance (state_of self.now)) }
+        ensures { IfOk result (λ i. option_map instance_of i ≡ instance (state_of self.now)) }
     {
         self.engine.works.instance()
     }
@@ -184,6 +318,8 @@ impl Page {
     /// The rendering: the document computed afresh over data and scopes, while no watcher and no node is asked (guide: Templates).
     /// Where nothing is linked it is empty.
     pub fn rendered(&self) -> Result<Option<Forest>, Fault>
+        requires page { IsPage self.now }
+        requires unspent { self.now.spent ≡ false }
         ensures { Gives is_memory (option_map forest_of) (rendering (state_of self.now)) result }
     {
         match self.engine.works.instance()? {

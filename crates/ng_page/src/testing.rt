@@ -1,24 +1,24 @@
 //! What a test and a fire of a watcher do.
-ghost use Rattle.std.specs.Prelude.{◌≡◌, List, Some, IsSome, IfSome, OnOk, IfOk, Err, length, find, option_copied, option_map};
+ghost use Rattle.std.specs.Prelude.{◌≡◌, ℕ, List, Some, IsSome, OnOk, IfOk, Err, length, find, option_copied, option_map};
 ghost use Rattle.std.specs.List.Sorted.{IsStrictlySortedBy};
 ghost use Rattle.std.specs.Map.{keys_of};
-ghost use Rattle.std.specs.Option.{ForSome};
-ghost use Rattle.ng_digest.specs.Machine.{above, fired_at};
+ghost use Rattle.std.specs.Option.{IfSome, ForSome};
+ghost use Rattle.ng_base.specs.declared.path.Key.{Key as Name};
+ghost use Rattle.ng_digest.specs.Machine.{above};
+ghost use Rattle.ng_fire.specs.Fires.{fired, fire_adds, IsDirtyWith};
 ghost use Rattle.ng_digest.specs.Place.{Answers, OnTested, state_tested};
-ghost use Rattle.ng_dom.specs.Drawing.{Stands};
-ghost use Rattle.ng_link.specs.Standing.{Standing};
-ghost use Rattle.ng_link.specs.State.{core_of, table_of};
+ghost use Rattle.ng_link.specs.State.{state_of};
 ghost use Rattle.ng_value.specs.Snaps.{snap_of};
 ghost use Rattle.ng_watch.specs.Keys.{key_cmp};
 ghost use Rattle.ng_watch.specs.Seen.{WatchStands};
 ghost use Rattle.ng_watch.specs.Table.{found, watchers_of};
-ghost use Rattle.ng_base.specs.declared.path.Key.{Key as Name};
-ghost use Rattle.ng_page.specs.PageMachine.{page_machine, verdict_at, tell, handed_on_at};
-ghost use Rattle.ng_page.specs.PlaceOf.{seen_of, IsAtWatcher, handed_on_from, OnDirty};
+ghost use Rattle.ng_page.specs.PageMachine.{page_machine, verdict_at, tell, fired_to, handed_on_at};
+ghost use Rattle.ng_page.specs.PlaceOf.{seen_of, WorksAre, OnDirty};
 
 use ng_base::fault::{Fault, Memory};
 use ng_base::path::Key;
 use ng_digest::world::Tested;
+use ng_fire::firing;
 use ng_link::works::Works;
 use ng_value::snapshot::Snap;
 use ng_watch::watch::Verdict;
@@ -68,8 +68,8 @@ fn tell(
     key: &Key,
     fault: Fault,
 ) -> Result<(), AllocError>
-    ensures state { OnOk result (seen_of works.new told.new.keys ≡ tell key.now (Err fault) (seen_of works.old told.old.keys)) }
-    ensures standing { OnOk result ((ts : Stands) → Standing works.old ts → Standing works.new ts) }
+    ensures state { OnOk result ((fs : List Name) (ps : List (List ℕ)) → seen_of works.new told.new.keys fs ps ≡ tell key.now (Err fault) (seen_of works.old told.old.keys fs ps)) }
+    ensures works { OnOk result (WorksAre works.old → WorksAre works.new) }
 {
     if told.contains(key) {
         return Ok(());
@@ -87,14 +87,14 @@ pub(crate) fn test(
     pending: &mut Option<Snap>,
     key: &Key,
 ) -> Tested
-    requires there { IsSome (found key.now (table_of works.old)) }
-    requires stands { ForSome (found key.now (table_of works.old)) (λ w. WatchStands (length (core_of works.old).objects) w.watch) }
-    ensures answer { Answers (verdict_at (seen_of works.old told.old.keys) key.now) result }
-    ensures state { OnTested result (seen_of works.new told.new.keys ≡ state_tested page_machine (seen_of works.old told.old.keys) (Some key.now) (verdict_at (seen_of works.old told.old.keys) key.now)) }
-    ensures handed_on { OnDirty result (option_map snap_of pending.new ≡ handed_on_at (seen_of works.old told.old.keys) key.now) }
-    ensures standing { OnTested result ((ts : Stands) → Standing works.old ts → Standing works.new ts) }
+    requires there { IsSome (found key.now (state_of works.old).watchers) }
+    requires stands { ForSome (found key.now (state_of works.old).watchers) (λ w. WatchStands (length (state_of works.old).core.objects) w.watch) }
+    ensures answer { (fs : List Name) (ps : List (List ℕ)) → Answers (verdict_at (seen_of works.old told.old.keys fs ps) key.now) result }
+    ensures state { OnTested result ((fs : List Name) (ps : List (List ℕ)) → seen_of works.new told.new.keys fs ps ≡ state_tested page_machine (seen_of works.old told.old.keys fs ps) (Some key.now) (verdict_at (seen_of works.old told.old.keys fs ps) key.now)) }
+    ensures handed_on { OnDirty result ((fs : List Name) (ps : List (List ℕ)) → option_map snap_of pending.new ≡ handed_on_at (seen_of works.old told.old.keys fs ps) key.now) }
+    ensures works { OnTested result (WorksAre works.old → WorksAre works.new) }
 {
-    match works.watchers().test(alloc, works.core().store(), key) {
+    match works.watchers().test(alloc, &works.core.store, key) {
         Ok(Verdict::Clean) => Tested::Clean,
         Ok(Verdict::Dirty(snapshot)) => {
             *pending = Some(snapshot);
@@ -108,21 +108,25 @@ pub(crate) fn test(
     }
 }
 
-/// Fires the watcher of a key: it keeps the snapshot that its test handed on, and the document shows it.
+/// Fires the watcher of a key: it keeps the snapshot that its test handed on, and then it fires. A fire that faulted is
+/// remembered. Answers whether it added a watcher.
 pub(crate) fn fire(
+    alloc: Global,
     works: &mut Works,
-    pending: Option<Snap>,
-    cursor: Option<&Key>,
-) -> Result<(), Memory>
-    requires at { IsAtWatcher (option_copied cursor) (table_of works.old) }
-    ensures state { OnOk result ((told : List Name) → option_map snap_of pending ≡ handed_on_from (seen_of works.old told) (option_copied cursor.entry) → seen_of works.new told ≡ fired_at page_machine (seen_of works.old told) (option_copied cursor.entry)) }
-    ensures standing { OnOk result ((ts : Stands) → Standing works.old ts → Standing works.new ts) }
+    faulted: &mut BTreeSet<Key>,
+    key: &Key,
+    snapshot: Snap,
+) -> Result<bool, Memory>
+    requires works { WorksAre works.old }
+    requires there { IsSome (found key.now (state_of works.old).watchers) }
+    requires dirty { IsDirtyWith (snap_of snapshot) (state_of works.old) key.now }
+    ensures state { OnOk result ((ts : List Name) (ps : List (List ℕ)) → seen_of works.new ts faulted.new.keys ps ≡ fired_to key.now (fired key.now (snap_of snapshot) (state_of works.old)) (seen_of works.old ts faulted.old.keys ps)) }
+    ensures added { IfOk result (λ a. a ≡ fire_adds key.now (state_of works.old)) }
+    ensures works { OnOk result (WorksAre works.new) }
 {
-    match cursor {
-        None => Ok(()),
-        Some(key) => match pending {
-            None => Ok(()),
-            Some(snapshot) => works.keep(key, snapshot),
-        },
+    let fired = firing::fire(works, alloc, key, snapshot)?;
+    if fired.faulted {
+        faulted.insert(copied(key)?)?;
     }
+    Ok(fired.added)
 }

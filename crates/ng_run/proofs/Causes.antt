@@ -1,15 +1,14 @@
 -- What a reply says of the words, the fetches and the files.
 use Rattle.std.proofs.Common.{◌≡◌, ◌≢◌, ℕ, Bool, true, false, List, refl, ap, sym, ◌∙◌, subst, Option, Some, None, arith, inl, inr}
 use Rattle.std.specs.Prelude.{◌⊎◌, ◌↔◌, Result, Ok, Err, if◌then◌else◌}
-use Rattle.ng_digest.specs.declared.rounds.DigestFault.{DigestFault}
-use Rattle.ng_page.specs.Answered.{Opens}
-use Rattle.ng_page.specs.State.{State}
+use Rattle.ng_link.specs.State.{State}
+use Rattle.ng_page.specs.Steps.{Outcome, Opens}
 use Rattle.ng_page.specs.declared.page.Page.{Page}
 use Rattle.ng_run.specs.Files.{File, Inputs, Telling, Fetched, brought, unread, overlong, Fetches, files_of, no_inputs, FetchFailed, LongFile}
 use Rattle.ng_run.specs.Refusals.{Accepted, accepted, refusal_status}
 use Rattle.ng_run.specs.ReplyOf.{Leaves}
 use Rattle.ng_run.specs.Run.{TellsAll, OpensWell, SessionCauses, Causes, HasPage}
-use Rattle.ng_run.specs.Session.{Left, Reply, is_well, link_fault, OpensPage, SessionOf, Session, FetchedReply, Replies}
+use Rattle.ng_run.specs.Session.{Left, Reply, is_well, OpensPage, SessionOf, Session, FetchedReply, Replies}
 use Rattle.ng_run.specs.Words.{Words}
 use Rattle.ng_run.specs.declared.refusal.Refusal.{Refusal}
 use Rattle.ng_run.specs.declared.refusal.Refusal.TheVariants.{Document, Application, Template}
@@ -37,17 +36,17 @@ either true = inl refl
 either false = inr refl
 
 -- a page that opens in two ways opens in one
-same_well : (a : Accepted) (answer : Result (ℕ × ℕ) DigestFault) (s : State) (b : Bool) → Opens a.facts a.template answer s → OpensWell b a → is_well (link_fault a) answer ≡ b
-same_well a answer s b o (other, u, p, e) =
-    let one = opens_one a.facts a.template answer other s u o p in
-    ap (is_well (link_fault a)) one.0 ∙ e
+same_well : (a : Accepted) (o : Outcome) (s : State) (b : Bool) → Opens a.facts a.template o s → OpensWell b a → is_well o.first o.digest ≡ b
+same_well a o s b h (p, u, k, e) =
+    let one = opens_one a.facts a.template o p s u h k in
+    ap (λ (x : Outcome). is_well x.first x.digest) one.0 ∙ e
 
 opened_well : (a : Accepted) (r : Reply) → OpensPage a r → ((status_of r ≡ 0) ↔ OpensWell true a) × ((status_of r ≡ 1) ↔ OpensWell false a) × ((status_of r ≡ 0) ⊎ (status_of r ≡ 1))
-opened_well a r (answer, s, o, e) =
-    let w = is_well (link_fault a) answer in
+opened_well a r (o, s, h, e) =
+    let w = is_well o.first o.digest in
     let is : status_of r ≡ by_well w = ap status_of e in (
-      ((λ z. (answer, s, o, well_zero w (sym is ∙ z))), (λ h. is ∙ ap by_well (same_well a answer s true o h))),
-      ((λ z. (answer, s, o, well_one w (sym is ∙ z))), (λ h. is ∙ ap by_well (same_well a answer s false o h))),
+      ((λ z. (o, s, h, well_zero w (sym is ∙ z))), (λ k. is ∙ ap by_well (same_well a o s true h k))),
+      ((λ z. (o, s, h, well_one w (sym is ∙ z))), (λ k. is ∙ ap by_well (same_well a o s false h k))),
       subst (λ n. (n ≡ 0) ⊎ (n ≡ 1)) (sym is) (either w),
     )
 
@@ -99,7 +98,7 @@ well_of_session true = ((λ e. omega (arith, e)), (λ e. omega (arith, e)), (λ 
 well_of_session false = ((λ e. omega (arith, e)), (λ e. omega (arith, e)), (λ e. omega (arith, e)), (λ e. omega (arith, e)), (λ e. omega (arith, e)))
 
 session_status : (c : Result Accepted Refusal) (r : Reply) → SessionOf c r → OfSession (status_of r)
-session_status (Ok a) r (answer, s, o, e) = subst OfSession (sym (ap status_of e)) (well_of_session (is_well (link_fault a) answer))
+session_status (Ok a) r (o, s, h, e) = subst OfSession (sym (ap status_of e)) (well_of_session (is_well o.first o.digest))
 session_status (Err f) r e = subst OfSession (sym (ap status_of e)) (refusal_of_session f)
 
 abbrev OfEnd : Fetched → ℕ → Type 0
@@ -205,7 +204,7 @@ refusal_left (Application f) = ((λ e. omega (arith, e)), (λ e. omega (arith, e
 refusal_left (Template f) = ((λ e. omega (arith, e)), (λ e. omega (arith, e)))
 
 session_left : (c : Result Accepted Refusal) (r : Reply) → SessionOf c r → LeftBy r
-session_left (Ok a) r (answer, s, o, e) = subst LeftBy (sym e) (either (is_well (link_fault a) answer))
+session_left (Ok a) r (o, s, h, e) = subst LeftBy (sym e) (either (is_well o.first o.digest))
 session_left (Err f) r e = subst LeftBy (sym e) (refusal_left f)
 
 end_left : (fs : List File) (end : Fetched) (r : Reply) → FetchedReply fs end r → LeftBy r

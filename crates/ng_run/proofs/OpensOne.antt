@@ -1,15 +1,46 @@
 -- A page opens in one way.
-use Rattle.std.proofs.Common.{◌≡◌, ℕ, ap, sym, ◌∙◌}
-use Rattle.std.specs.Prelude.{Result}
-use Rattle.ng_digest.specs.declared.rounds.DigestFault.{DigestFault}
+use Rattle.std.proofs.Common.{◌≡◌, ℕ, Bool, true, false, List, refl, ap, sym, ◌∙◌}
+use Rattle.std.specs.Prelude.{Option, None, Some, Result}
+use Rattle.ng_app.specs.App.{Facts}
+use Rattle.ng_base.specs.declared.fault.Fault.{Fault}
+use Rattle.ng_behaviour.specs.Scopes.{live_at}
 use Rattle.ng_digest.proofs.One.{digest_one}
+use Rattle.ng_digest.specs.declared.rounds.DigestFault.{DigestFault}
 use Rattle.ng_drawing.specs.Template.{Template}
-use Rattle.ng_page.specs.Answered.{Opens}
-use Rattle.ng_page.specs.App.{Facts}
+use Rattle.ng_link.specs.State.{State}
+use Rattle.ng_page.specs.Answered.{PlainlyDigests, DigestsWhere}
+use Rattle.ng_page.specs.Opening.{opening}
 use Rattle.ng_page.specs.PageMachine.{page_machine}
-use Rattle.ng_page.specs.State.{State}
+use Rattle.ng_page.specs.Steps.{Outcome, Ends, Opens}
+use Rattle.ng_run.specs.Lines.{Digest}
 
-pub opens_one : (facts : Facts) (template : Template) (answer other : Result (ℕ × ℕ) DigestFault) (s u : State) → Opens facts template answer s → Opens facts template other u → (answer ≡ other) × (s ≡ u)
-opens_one facts template answer other s u (end, d, e) (fin, f, g) =
-    let one = digest_one page_machine d f in
-    (one.0, e ∙ (ap (λ p. p.state) one.1 ∙ sym g))
+digested_one : (s : State) (a b : Result (ℕ × ℕ) DigestFault) (x y : List (List ℕ)) (t u : State) → PlainlyDigests s a x t → PlainlyDigests s b y u → (a ≡ b) × (x ≡ y) × (t ≡ u)
+digested_one s a b x y t u (end, d, e, f) (fin, g, h, i) =
+    let one = digest_one page_machine d g in
+    (one.0, f ∙ (ap (λ p. p.state.probed) one.1 ∙ sym i), e ∙ (ap (λ p. p.state.works) one.1 ∙ sym h))
+
+where_one : (due : Bool) (s : State) (d e : Digest) (x y : List (List ℕ)) (t u : State) → DigestsWhere due s d x t → DigestsWhere due s e y u → (d ≡ e) × (x ≡ y) × (t ≡ u)
+where_one true s None e x y t u h k = absurd h
+where_one true s (Some a) None x y t u h k = absurd k
+where_one true s (Some a) (Some b) x y t u h k = let one = digested_one s a b x y t u h k in (ap (λ z. Some z) one.0, one.1, one.2)
+where_one false s (Some a) e x y t u h k = absurd h
+where_one false s None (Some b) x y t u h k = absurd k
+where_one false s None None x y t u h k = (refl, h.1 ∙ sym k.1, h.0 ∙ sym k.0)
+
+abbrev made : ℕ → Option Fault → Digest → List (List ℕ) → Outcome
+made count first digest probed = record { count = count; first = first; digest = digest; probed = probed }
+
+same_outcome : (o p : Outcome) → o.count ≡ p.count → o.first ≡ p.first → o.digest ≡ p.digest → o.probed ≡ p.probed → o ≡ p
+same_outcome o p e f g h =
+    ap (λ x. made x o.first o.digest o.probed) e
+    ∙ (ap (λ x. made p.count x o.digest o.probed) f
+    ∙ (ap (λ x. made p.count p.first x o.probed) g
+    ∙ ap (λ x. made p.count p.first p.digest x) h))
+
+ends_one : (s : State) (o p : Outcome) (t u : State) → Ends s o t → Ends s p u → (o ≡ p) × (t ≡ u)
+ends_one s o p t u h k =
+    let one = where_one (live_at s.core.scopes 0) s o.digest p.digest o.probed p.probed t u h.digest k.digest in
+    (same_outcome o p (h.count ∙ sym k.count) (h.first ∙ sym k.first) one.0 one.1, one.2)
+
+pub opens_one : (f : Facts) (x : Template) (o p : Outcome) (t u : State) → Opens f x o t → Opens f x p u → (o ≡ p) × (t ≡ u)
+opens_one f x o p t u h k = ends_one (opening f x) o p t u h k

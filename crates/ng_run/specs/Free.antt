@@ -1,7 +1,7 @@
 -- The free answer: memory was refused.
 use Rattle.std.specs.Prelude.{Bool}
 use Rattle.ng_html.specs.Free.{is_free}
-use Rattle.ng_page.specs.Free.{is_app_want}
+use Rattle.ng_app.specs.Free.{is_app_want}
 use Rattle.ng_template.specs.Free.{is_tpl_want}
 use Rattle.ng_run.specs.declared.refusal.Refusal.{Refusal}
 use Rattle.ng_run.specs.declared.refusal.Refusal.TheVariants.{Document, Application, Template}

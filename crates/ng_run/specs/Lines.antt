@@ -9,10 +9,10 @@ use Rattle.ng_tags.specs.declared.fault.HtmlKind.TheVariants as html
 use Rattle.ng_digest.specs.declared.rounds.DigestFault.{DigestFault}
 use Rattle.ng_digest.specs.declared.rounds.DigestFault.TheVariants as digest
 use Rattle.ng_drawing.specs.Drawing.{Rendered}
-use Rattle.ng_page.specs.declared.fault.Member.{Member}
-use Rattle.ng_page.specs.declared.fault.Member.TheVariants as the
-use Rattle.ng_page.specs.declared.fault.AppKind.{AppKind}
-use Rattle.ng_page.specs.declared.fault.AppKind.TheVariants as app
+use Rattle.ng_app.specs.declared.fault.Member.{Member}
+use Rattle.ng_app.specs.declared.fault.Member.TheVariants as the
+use Rattle.ng_app.specs.declared.fault.AppKind.{AppKind}
+use Rattle.ng_app.specs.declared.fault.AppKind.TheVariants as app
 use Rattle.ng_template.specs.declared.fault.TplKind.{TplKind}
 use Rattle.ng_template.specs.declared.fault.TplKind.TheVariants as tpl
 
@@ -75,21 +75,33 @@ action_line count None = []
 action_line count (Some f) = codes "action: fault " ++ faults count f
 
 -- the line of a digest that did not answer Ok
-abbrev pub digest_line : Result (ℕ × ℕ) DigestFault → List ℕ
-digest_line (Ok counts) = []
-digest_line (Err digest.Infdig) = codes "digest: infdig\n"
-digest_line (Err digest.FireLimit) = codes "digest: firelimit\n"
-digest_line (Err digest.AsyncLimit) = codes "digest: asynclimit\n"
-digest_line (Err (digest.Faulted first count)) = codes "digest: fault " ++ faults count first
-digest_line (Err (digest.Memory m)) = []
+abbrev pub failed_line : DigestFault → List ℕ
+failed_line digest.Infdig = codes "digest: infdig\n"
+failed_line digest.FireLimit = codes "digest: firelimit\n"
+failed_line digest.AsyncLimit = codes "digest: asynclimit\n"
+failed_line (digest.Faulted first count) = codes "digest: fault " ++ faults count first
+failed_line (digest.Memory m) = []
+
+-- a digest of a step, if one was done: its rounds and fires, or why it did not succeed
+abbrev pub Digest : Type 0
+Digest = Option (Result (ℕ × ℕ) DigestFault)
+
+abbrev pub digest_line : Digest → List ℕ
+digest_line None = []
+digest_line (Some (Ok counts)) = []
+digest_line (Some (Err f)) = failed_line f
 
 -- a document on one line
 abbrev pub print_line : Forest → List ℕ
 print_line f = encode_utf8_all (print f) ++ codes "\n"
 
--- the document, where the digest answered Ok
-abbrev pub document_line : Result (ℕ × ℕ) DigestFault → Rendered Forest → List ℕ
-document_line (Ok counts) (Ok (Some f)) = print_line f
-document_line (Ok counts) (Ok None) = []
-document_line (Ok counts) (Err e) = []
-document_line (Err e) f = []
+abbrev pub rendered_line : Rendered Forest → List ℕ
+rendered_line (Ok (Some f)) = print_line f
+rendered_line (Ok None) = []
+rendered_line (Err e) = []
+
+-- A step ends with the document where its digest answered Ok, and with the word `idle` where no digest was done.
+abbrev pub last_line : Digest → Rendered Forest → List ℕ
+last_line None f = codes "idle\n"
+last_line (Some (Ok counts)) f = rendered_line f
+last_line (Some (Err e)) f = []

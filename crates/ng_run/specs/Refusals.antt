@@ -3,7 +3,7 @@ use Rattle.std.specs.Prelude.{ℕ, false, List, [], ◌++◌, codes, Result, Ok,
 use Rattle.std.specs.Fmt.{decimal}
 use Rattle.ng_base.specs.Meets.{◌>>=◌}
 use Rattle.ng_html.specs.Reading.{read_bytes}
-use Rattle.ng_page.specs.App.{Facts, facts_of}
+use Rattle.ng_app.specs.App.{Facts, facts_of}
 use Rattle.ng_drawing.specs.Template.{Template}
 use Rattle.ng_template.specs.Compiles.{compiled}
 use Rattle.ng_run.specs.Files.{Inputs}

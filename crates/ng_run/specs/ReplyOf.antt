@@ -1,21 +1,21 @@
 -- What the values of the code stand for.
 use Rattle.std.specs.Prelude.{◌≡◌, ℕ, IsTrue, List, [], ◌∷◌, ◌++◌, codes, Option, None, Some, option_map, Result, Ok, Err}
+use Rattle.ng_app.specs.AppOf.{facts}
 use Rattle.ng_base.specs.declared.fault.Fault.{Fault}
 use Rattle.ng_markup.specs.Forest.{Forest}
 use Rattle.ng_digest.specs.Early.{plain_answer}
 use Rattle.ng_digest.specs.declared.log.Report.{Report}
 use Rattle.ng_digest.specs.declared.rounds.DigestFault.{DigestFault}
 use Rattle.ng_drawing.specs.Drawing.{shown_as}
+use Rattle.ng_link.specs.State.{shown, rendering}
 use Rattle.ng_page.specs.PageOf.{state_of, Displays}
 use Rattle.ng_page.specs.Settled.{IsSettled}
-use Rattle.ng_page.specs.State.{shown, rendering}
-use Rattle.ng_page.specs.AppOf.{facts}
 use Rattle.ng_page.specs.declared.page.Page.{Page}
 use Rattle.ng_template.specs.TemplateOf.{template_of}
 use Rattle.ng_run.specs.Files as files
 use Rattle.ng_run.specs.Lines.{action_line, digest_line, print_line}
 use Rattle.ng_run.specs.Refusals as refusals
-use Rattle.ng_run.specs.Session.{Left, is_ok}
+use Rattle.ng_run.specs.Session.{Left}
 use Rattle.ng_run.specs.Session as session
 use Rattle.ng_run.specs.Words as words
 use Rattle.ng_run.specs.declared.files.File.{File}
@@ -54,7 +54,7 @@ fetched_of (fetched.Overlong role n) = files.overlong role n
 abbrev pub accepted_of : Accepted → refusals.Accepted
 accepted_of a = record { facts = facts a.app; template = template_of a.template }
 
--- a page shows what its watchers have kept, and where the last digest answered Ok it is settled, and shows its rendering
+-- a page shows what its sites have kept, and where the last digest answered Ok it is settled, and shows its rendering
 abbrev pub Leaves : Option Page → Option Left → Type 0
 Leaves None None = Unit {0}
 Leaves None (Some l) = ⊥
@@ -71,19 +71,15 @@ pub record IsReply (r : Reply) (q : session.Reply) : Type 0 where
 abbrev pub IsReplyTo : (session.Reply → Type 0) → Reply → Type 0
 IsReplyTo Calls r = (q : session.Reply) × Calls q × IsReply r q
 
--- the lines of the digest of a step, where one was done, and of the document that it leaves
-abbrev pub digest_lines : Option (Result Report DigestFault) → List ℕ
-digest_lines None = []
-digest_lines (Some d) = digest_line (plain_answer d)
-
-abbrev pub document_lines : Option (Result Report DigestFault) → Forest → List ℕ
-document_lines None f = []
-document_lines (Some (Ok r)) f = print_line f
-document_lines (Some (Err e)) f = []
+-- the line that a step ends with, where the page displays this document
+abbrev pub end_line : Option (Result Report DigestFault) → Forest → List ℕ
+end_line None f = codes "idle\n"
+end_line (Some (Ok r)) f = print_line f
+end_line (Some (Err e)) f = []
 
 -- the step that opens a page with these faults, this digest and this document
 abbrev pub opening_lines : ℕ → Option Fault → Option (Result Report DigestFault) → Forest → List ℕ
-opening_lines count first digest f = codes "# 0 open\n" ++ action_line count first ++ digest_lines digest ++ document_lines digest f
+opening_lines count first digest f = codes "# 0 open\n" ++ action_line count first ++ digest_line (option_map plain_answer digest) ++ end_line digest f
 
 -- its status, by the first fault that its program handed over and by its digest
 abbrev pub opening_status : Option Fault → Option (Result Report DigestFault) → ℕ

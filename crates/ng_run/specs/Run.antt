@@ -1,15 +1,14 @@
 -- What a run writes, answers and leaves.
-use Rattle.std.specs.Prelude.{ℕ, ◌≡◌, ◌≢◌, ◌⊎◌, ◌↔◌, Bool, true, false, List, Option, None, Some, Result, Ok, Err}
+use Rattle.std.specs.Prelude.{ℕ, ◌≡◌, ◌≢◌, ◌⊎◌, ◌↔◌, Bool, true, false, List, Option, None, Some, Ok, Err}
 use Rattle.std.specs.Io.KnownBytes.{Appends}
 use Rattle.ng_base.specs.Outside.{TookAll, StopsAtFailure}
-use Rattle.ng_digest.specs.declared.rounds.DigestFault.{DigestFault}
-use Rattle.ng_page.specs.Answered.{Opens}
-use Rattle.ng_page.specs.State.{State}
+use Rattle.ng_link.specs.State.{State}
+use Rattle.ng_page.specs.Steps.{Outcome, Opens}
 use Rattle.ng_page.specs.declared.page.Page.{Page}
 use Rattle.ng_run.specs.Files.{Inputs, Telling, run_files, files_of, no_inputs, Tells, FetchFailed, LongFile, HasLong}
 use Rattle.ng_run.specs.Refusals.{Accepted, accepted, refusal_status}
 use Rattle.ng_run.specs.ReplyOf.{Leaves}
-use Rattle.ng_run.specs.Session.{Reply, reply_bytes, Session, is_well, link_fault}
+use Rattle.ng_run.specs.Session.{Reply, reply_bytes, Session, is_well}
 use Rattle.ng_run.specs.Words.{Words}
 use Rattle.ng_run.specs.declared.refusal.Refusal.{Refusal}
 
@@ -28,9 +27,9 @@ TellsAll (Some w) told i = Tells told no_inputs (files_of w) i
 
 -- a page opens so: all went well in it, or not
 abbrev pub OpensWell : Bool → Accepted → Type 0
-OpensWell well a = (answer : Result (ℕ × ℕ) DigestFault) × (s : State) × Opens a.facts a.template answer s × (is_well (link_fault a) answer ≡ well)
+OpensWell well a = (o : Outcome) × (s : State) × Opens a.facts a.template o s × (is_well o.first o.digest ≡ well)
 
--- 3 and 4 come exactly where a file is refused, and 0 and 1 where the page opens: 1 exactly where linking met a fault or the digest did not answer Ok
+-- 3 and 4 come exactly where a file is refused, and 0 and 1 where the page opens: 1 exactly where the first program or linking handed a fault over, or the digest did not answer Ok
 pub record SessionCauses (i : Inputs) (status : ℕ) : Type 0 where
   pub refused : (f : Refusal) → accepted i ≡ Err f → status ≡ refusal_status f
   pub opened : (a : Accepted) → accepted i ≡ Ok a → (status ≡ 0) ⊎ (status ≡ 1)

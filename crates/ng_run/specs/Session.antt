@@ -4,13 +4,11 @@ use Rattle.std.specs.List.{concat}
 use Rattle.std.specs.Fmt.{decimal}
 use Rattle.ng_base.specs.declared.fault.Fault.{Fault}
 use Rattle.ng_markup.specs.Forest.{Forest}
-use Rattle.ng_digest.specs.declared.rounds.DigestFault.{DigestFault}
 use Rattle.ng_drawing.specs.Drawing.{Rendered}
-use Rattle.ng_page.specs.Answered.{Opens}
-use Rattle.ng_page.specs.Opening.{opening}
-use Rattle.ng_page.specs.State.{State, rendering}
+use Rattle.ng_link.specs.State.{State, rendering}
+use Rattle.ng_page.specs.Steps.{Outcome, Opens}
 use Rattle.ng_run.specs.Files.{File, Inputs, Telling, Fetched, brought, unread, overlong, Fetches, files_of, no_inputs, role_name, first_role}
-use Rattle.ng_run.specs.Lines.{action_line, digest_line, document_line}
+use Rattle.ng_run.specs.Lines.{Digest, action_line, digest_line, last_line}
 use Rattle.ng_run.specs.Refusals.{Accepted, accepted, refusal_status, refusal_text}
 use Rattle.ng_run.specs.Words.{Words}
 use Rattle.ng_run.specs.declared.files.Role.{Role}
@@ -51,35 +49,35 @@ steps_status (s ∷ ss) = if s.well then steps_status ss else 1
 abbrev pub done : List Step → Left → Reply
 done steps left = record { status = steps_status steps; pieces = map (λ (s : Step). s.lines) steps; page = Some left }
 
-abbrev pub is_ok : {A E : Type 0} → Result A E → Bool
-is_ok (Ok x) = true
-is_ok (Err e) = false
+abbrev pub is_digested : Digest → Bool
+is_digested None = false
+is_digested (Some (Ok counts)) = true
+is_digested (Some (Err f)) = false
 
--- a step has gone well where its program handed no fault over and its digest answered Ok
-abbrev pub is_well : Option Fault → Result (ℕ × ℕ) DigestFault → Bool
-is_well None answer = is_ok answer
-is_well (Some f) answer = false
+abbrev pub has_no_failure : Digest → Bool
+has_no_failure None = true
+has_no_failure (Some (Ok counts)) = true
+has_no_failure (Some (Err f)) = false
 
--- as many faults that linking handed over, and the first of them
-abbrev pub link_count : Accepted → ℕ
-link_count a = (opening a.facts a.template).core.handed.count
+-- a step has gone well where its programs handed no fault over and no digest failed
+abbrev pub is_well : Option Fault → Digest → Bool
+is_well None digest = has_no_failure digest
+is_well (Some f) digest = false
 
-abbrev pub link_fault : Accepted → Option Fault
-link_fault a = (opening a.facts a.template).core.handed.first
-
--- the step that opens the page: its header, the faults of linking, the digest, and the rendering
-abbrev pub first_step : ℕ → Option Fault → Result (ℕ × ℕ) DigestFault → Rendered Forest → Step
-first_step count fault answer document = record {
-  lines = codes "# 0 open\n" ++ action_line count fault ++ digest_line answer ++ document_line answer document;
-  well = is_well fault answer;
+-- the step that opens the page: its header, the faults of the first program and of linking, a digest that failed, and the
+-- rendering, or the word `idle` where no digest was done
+abbrev pub first_step : Outcome → Rendered Forest → Step
+first_step o document = record {
+  lines = codes "# 0 open\n" ++ action_line o.count o.first ++ digest_line o.digest ++ last_line o.digest document;
+  well = is_well o.first o.digest;
 }
 
-abbrev pub opened : ℕ → Option Fault → Result (ℕ × ℕ) DigestFault → State → Reply
-opened count fault answer s = done (first_step count fault answer (rendering s) ∷ []) (record { state = s; digested = is_ok answer })
+abbrev pub opened : Outcome → State → Reply
+opened o s = done (first_step o (rendering s) ∷ []) (record { state = s; digested = is_digested o.digest })
 
--- the page opens: its plain digest ends in the state, with the answer
+-- the page opens: its first program runs, its template is linked, and its plain digest ends in the state, with the outcome
 abbrev pub OpensPage : Accepted → Reply → Type 0
-OpensPage a r = (answer : Result (ℕ × ℕ) DigestFault) × (s : State) × Opens a.facts a.template answer s × (r ≡ opened (link_count a) (link_fault a) answer s)
+OpensPage a r = (o : Outcome) × (s : State) × Opens a.facts a.template o s × (r ≡ opened o s)
 
 abbrev pub SessionOf : Result Accepted Refusal → Reply → Type 0
 SessionOf (Ok a) r = OpensPage a r

@@ -2,7 +2,7 @@
 //!
 //! `run` does all that the program does. Its contract is the headline: what was written is the first bytes of the reply that the
 //! words and files call for, the whole of it for all statuses but 7 and 8; where no fetch failed that reply is the session of
-//! the files. The page that is handed back shows what its watchers have kept, and where its last digest answered Ok it is
+//! the files. The page that is handed back shows what its sites have kept, and where its last digest answered Ok it is
 //! settled and shows its rendering. Every status has its cause.
 //!
 //! The definitions stand in `specs/`. `Words.antt` has the form of the words; `Files.antt` the files of a run as one list, in the
@@ -10,7 +10,7 @@
 //! `Session.antt` the reply, in pieces of which each is a put; `Lines.antt` the lines; `Run.antt` what a run writes and leaves,
 //! and the causes of its statuses.
 //!
-//! Formats and limits are decided below: in `ng_html` and `ng_template` for templates, in `ng_page` for applications.
+//! Formats and limits are decided below: in `ng_html` and `ng_template` for templates, in `ng_app` for applications.
 #![tactic(auto)]
 
 mod answer;

@@ -1,16 +1,16 @@
 //! The lines of a run.
-ghost use Rattle.std.specs.Prelude.{◌≡◌, ◌++◌, codes, Err, IfOk, OnOk};
+ghost use Rattle.std.specs.Prelude.{◌≡◌, ◌++◌, codes, IfOk, OnOk, option_map};
 ghost use Rattle.std.specs.Fmt.{decimal};
-ghost use Rattle.ng_run.specs.Lines.{faults, action_line, digest_line, html_name, tpl_name, member_name, app_name};
+ghost use Rattle.ng_digest.specs.Early.{plain_answer};
+ghost use Rattle.ng_run.specs.Lines.{faults, action_line, failed_line, digest_line, html_name, tpl_name, member_name, app_name};
 ghost use Rattle.ng_run.specs.Refusals.{template_text, refusal_text};
-ghost use Rattle.ng_run.specs.ReplyOf.{digest_lines};
 
 use crate::refusal::Refusal;
+use ng_app::{AppFault, AppKind, Member};
 use ng_base::fault::Fault;
 use ng_digest::log::Report;
 use ng_digest::rounds::DigestFault;
 use ng_html::fault::HtmlKind;
-use ng_page::fault::{AppFault, AppKind, Member};
 use ng_template::fault::TplKind;
 use std::alloc::{AllocError, Global};
 
@@ -178,7 +178,7 @@ fn bytes_of(alloc: Global, text: &str) -> Result<Vec<u8>, AllocError>
 
 /// The line of a digest that did not answer Ok.
 fn failed_digest(alloc: Global, fault: &DigestFault) -> Result<Vec<u8>, AllocError>
-    ensures { IfOk result (λ v. v.items ≡ digest_line (Err fault.now)) }
+    ensures { IfOk result (λ v. v.items ≡ failed_line fault.now) }
 {
     match fault {
         DigestFault::Infdig => bytes_of(alloc, "digest: infdig\n"),
@@ -189,12 +189,12 @@ fn failed_digest(alloc: Global, fault: &DigestFault) -> Result<Vec<u8>, AllocErr
     }
 }
 
-/// The line of a step's digest.
+/// The line of a step's digest, where it failed.
 pub(crate) fn digested(
     alloc: Global,
     digest: &Option<Result<Report, DigestFault>>,
 ) -> Result<Vec<u8>, AllocError>
-    ensures { IfOk result (λ v. v.items ≡ digest_lines digest.now) }
+    ensures { IfOk result (λ v. v.items ≡ digest_line (option_map plain_answer digest.now)) }
 {
     match digest {
         None => Ok(Vec::new(alloc)),

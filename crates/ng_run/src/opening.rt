@@ -3,7 +3,7 @@ ghost use Rattle.std.specs.Prelude.{◌≡◌, IfOk};
 ghost use Rattle.ng_page.specs.Opening.{AreTexts};
 ghost use Rattle.ng_page.specs.PageOf.{Displays};
 ghost use Rattle.ng_markup.specs.Forest.{Forest as Document};
-ghost use Rattle.ng_run.specs.ReplyOf.{document_lines, opening_lines as lines_of, opening_status as status_of, accepted_of, IsReplyTo};
+ghost use Rattle.ng_run.specs.ReplyOf.{end_line, opening_lines as lines_of, opening_status as status_of, accepted_of, IsReplyTo};
 ghost use Rattle.ng_run.specs.Session.{OpensPage};
 
 use crate::lines::{action, digested};
@@ -12,7 +12,8 @@ use crate::reply::Reply;
 use ng_base::fault::{Fault, Memory};
 use ng_digest::log::Report;
 use ng_digest::rounds::DigestFault;
-use ng_page::page::{Outcome, Page};
+use ng_page::outcome::Outcome;
+use ng_page::page::Page;
 use std::alloc::Global;
 
 /// The status of a step, by the first fault that its program handed over and by its digest.
@@ -29,17 +30,20 @@ fn opening_status(first: &Option<Fault>, digest: &Option<Result<Report, DigestFa
     }
 }
 
-/// The line of the document that a step leaves.
-fn document(
+/// The line that a step ends with.
+fn last(
     alloc: Global,
     digest: &Option<Result<Report, DigestFault>>,
     page: &Page,
 ) -> Result<Vec<u8>, Memory>
-    ensures { IfOk result (λ v. (f : Document) → Displays page.now f → v.items ≡ document_lines digest.now f) }
+    ensures { IfOk result (λ v. (f : Document) → Displays page.now f → v.items ≡ end_line digest.now f) }
 {
     let mut bytes = Vec::new(alloc);
     match digest {
-        None => Ok(bytes),
+        None => {
+            bytes.extend_from_slice("idle\n".as_bytes())?;
+            Ok(bytes)
+        }
         Some(Err(_)) => Ok(bytes),
         Some(Ok(_)) => {
             page.print(&mut bytes)?;
@@ -59,8 +63,8 @@ fn opening_lines(alloc: Global, page: &Page, outcome: &Outcome) -> Result<Vec<u8
     bytes.extend_from_slice(action.as_slice())?;
     let digest = digested(alloc, &outcome.digest)?;
     bytes.extend_from_slice(digest.as_slice())?;
-    let document = document(alloc, &outcome.digest, page)?;
-    bytes.extend_from_slice(document.as_slice())?;
+    let last = last(alloc, &outcome.digest, page)?;
+    bytes.extend_from_slice(last.as_slice())?;
     Ok(bytes)
 }
 

@@ -8,11 +8,10 @@ ghost use Rattle.ng_run.specs.ReplyOf.{accepted_of, inputs_of};
 ghost use Rattle.ng_run.specs.declared.refusal.Refusal.TheVariants as refusals;
 
 use crate::files::Inputs;
+use ng_app::{App, AppFault, AppKind};
 use ng_base::fault::Memory;
 use ng_html::fault::{HtmlFault, HtmlKind};
 use ng_html::reading::read;
-use ng_page::app::App;
-use ng_page::fault::{AppFault, AppKind};
 use ng_template::compiling::compile;
 use ng_template::fault::{TplFault, TplKind};
 use ng_template::tpl::Tpl;

@@ -5,8 +5,8 @@ use Rattle.ng_act.specs.State.{adds}
 use Rattle.ng_base.specs.declared.path.Key.{Key}
 use Rattle.ng_fire.specs.Changes.{applied, key_in, kind_of, listening_in}
 use Rattle.ng_fire.proofs.Wholes.{Stays, applied_stays, stays_of, whole_with}
-use Rattle.ng_works.specs.Calls.{declared_at}
-use Rattle.ng_works.specs.State.{State, state_of}
+use Rattle.ng_link.specs.Calls.{declared_at}
+use Rattle.ng_link.specs.State.{State, state_of}
 use Rattle.ng_watch.specs.declared.watch.WatchKind.{WatchKind}
 use Rattle.ng_fire.proofs.changing.add.Goals as goal
 

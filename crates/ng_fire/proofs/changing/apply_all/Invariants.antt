@@ -3,7 +3,7 @@ use Rattle.std.specs.List.{AllByRecursion}
 use Rattle.ng_act.specs.Frames.{change_of, ChangeStands}
 use Rattle.ng_fire.specs.Changes.{applied_all}
 use Rattle.ng_fire.specs.Whole.{IsWhole}
-use Rattle.ng_works.specs.State.{state_of, templates_of}
+use Rattle.ng_link.specs.State.{state_of, templates_of}
 use Rattle.ng_fire.proofs.changing.apply_all.Given as goal
 
 abbrev pub invariant-loop-change : goal.invariant-loop-change

@@ -4,8 +4,8 @@ use Rattle.ng_act.specs.State.{removes, leaves}
 use Rattle.ng_base.specs.declared.path.Key.{Key}
 use Rattle.ng_fire.specs.Changes.{applied}
 use Rattle.ng_fire.proofs.Wholes.{Stays, applied_stays, stays_of, whole_with}
-use Rattle.ng_works.specs.Calls.{left_at, undeclared_at}
-use Rattle.ng_works.specs.State.{State, state_of}
+use Rattle.ng_link.specs.Calls.{left_at, undeclared_at}
+use Rattle.ng_link.specs.State.{State, state_of}
 use Rattle.ng_fire.proofs.changing.apply_change.Goals as goal
 
 pub returns-in_ok-key-in-Remove-clause-whole : goal.returns-in_ok-key-in-Remove-clause-whole

@@ -3,8 +3,8 @@ use Rattle.std.specs.Prelude.{option_map}
 use Rattle.ng_base.specs.ViewOf.{view_of}
 use Rattle.ng_base.specs.declared.path.Key.{Key}
 use Rattle.ng_fire.proofs.Fired.{dirty_found, watch_stands}
-use Rattle.ng_works.proofs.Watched.{stand_found}
-use Rattle.ng_works.specs.State.{state_of}
+use Rattle.ng_link.proofs.Watched.{stand_found}
+use Rattle.ng_link.specs.State.{state_of}
 use Rattle.ng_watch.specs.Seen.{Watcher, watching_of}
 use Rattle.ng_watch.specs.Table.{found, watchers_of}
 use Rattle.ng_watch.specs.declared.watched.Watched.{Watched}

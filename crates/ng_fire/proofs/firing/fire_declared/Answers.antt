@@ -3,7 +3,7 @@ use Rattle.std.specs.Prelude.{option_map}
 use Rattle.ng_act.specs.declared.core_state.Core.{Core}
 use Rattle.ng_fire.proofs.Fired.{listener_scope}
 use Rattle.ng_fire.specs.Fires.{listener_at}
-use Rattle.ng_works.specs.State.{listening_of, state_of}
+use Rattle.ng_link.specs.State.{listening_of, state_of}
 use Rattle.ng_fire.proofs.firing.fire_declared.Goals as goal
 
 pub run_declared-requires-clause-scope : goal.run_declared-requires-clause-scope

@@ -4,7 +4,7 @@ use Rattle.ng_base.specs.Views.{ViewTree}
 use Rattle.ng_fire.proofs.Rows.{if_ok, rows_found}
 use Rattle.ng_fire.proofs.Wholes.{Stays, keeping_stays, stays_of, whole_with}
 use Rattle.ng_fire.specs.Whole.{KeptStands, RowStands}
-use Rattle.ng_works.specs.State.{State, state_of}
+use Rattle.ng_link.specs.State.{State, state_of}
 use Rattle.ng_value.specs.Snaps.{snap_of}
 use Rattle.ng_fire.proofs.firing.keep_declared.Goals as goal
 

@@ -10,7 +10,7 @@ use Rattle.ng_fire.proofs.Runs.{value_run_state}
 use Rattle.ng_fire.proofs.Wholes.{whole_run}
 use Rattle.ng_fire.specs.Changes.{has_additions}
 use Rattle.ng_fire.specs.Fires.{listener_run}
-use Rattle.ng_works.specs.State.{listening_of}
+use Rattle.ng_link.specs.State.{listening_of}
 use Rattle.ng_value.specs.Snaps.{snap_of}
 use Rattle.ng_fire.proofs.firing.run_declared.Goals as goal
 

@@ -1,5 +1,5 @@
 use Rattle.std.proofs.Common.{◌∙◌, ap}
-use Rattle.ng_works.specs.State.{State}
+use Rattle.ng_link.specs.State.{State}
 use Rattle.ng_fire.proofs.settling.settle.Goals as goal
 
 pub returns-clause-linked : goal.returns-clause-linked

@@ -2,7 +2,7 @@ use Rattle.std.proofs.Common.{◌∙◌, ap, length, List, subst, sym}
 use Rattle.ng_base.specs.declared.path.Key.{Key}
 use Rattle.ng_fire.proofs.Wholes.{Stays, stays_of, unset_stays, whole_with}
 use Rattle.ng_fire.specs.Settling.{unset_all}
-use Rattle.ng_works.specs.State.{State, state_of}
+use Rattle.ng_link.specs.State.{State, state_of}
 use Rattle.ng_fire.proofs.settling.unset_all.Goals as goal
 
 pub loop-key-preserved : goal.loop-key-preserved

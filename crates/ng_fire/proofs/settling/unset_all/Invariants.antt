@@ -1,7 +1,7 @@
 use Rattle.std.proofs.Common.{◌≡◌}
 use Rattle.ng_fire.specs.Settling.{unset_all}
 use Rattle.ng_fire.specs.Whole.{IsWhole}
-use Rattle.ng_works.specs.State.{state_of, templates_of}
+use Rattle.ng_link.specs.State.{state_of, templates_of}
 use Rattle.ng_fire.proofs.settling.unset_all.Given as goal
 
 abbrev pub invariant-loop-key : goal.invariant-loop-key

@@ -1,29 +1,36 @@
-use Rattle.std.proofs.Common.{Some, ap, sym, subst, ◌∙◌}
-use Rattle.std.specs.BTreeMap.{get}
-use Rattle.std.proofs.lemmas.Result.{on_ok_weaker}
-use Rattle.ng_act.specs.Frames.{state_of, IsSound}
-use Rattle.ng_act.specs.declared.core_state.Core.{Core}
+use Rattle.std.proofs.Common.{◌≡◌, Option, Some, None, ap, sym, subst, ◌∙◌}
+use Rattle.std.specs.Prelude.{option_map, option_and_then}
+use Rattle.ng_base.specs.Views.{ViewTree}
+use Rattle.ng_dom.specs.declared.dom.Dom.{Dom}
 use Rattle.ng_value.specs.Snaps.{snap_of}
-use Rattle.ng_watch.specs.Keys.{key_cmp}
+use Rattle.ng_watch.specs.Seen.{Watcher}
 use Rattle.ng_watch.specs.Table.{Table}
 use Rattle.ng_link.specs.Firing.{WritesAt}
-use Rattle.ng_link.specs.Placing.{node_name}
-use Rattle.ng_link.specs.State.{texts_of}
+use Rattle.ng_link.specs.State.{State, state_of, texts_of, spot_in}
+use Rattle.ng_link.specs.Standing.{Standing}
+use Rattle.ng_link.specs.declared.works.Works.{Works}
 use Rattle.ng_link.proofs.Fired.{kept_stands}
 use Rattle.ng_link.proofs.works.Works.keep.Goals as goal
+
+-- what a watcher that is there had kept
+former_kept : (o : Option Watcher) (r : Option ViewTree) → option_map (λ (w : Watcher). w.kept) o ≡ Some r → r ≡ option_and_then (λ (w : Watcher). w.kept) o
+former_kept None r e = absurd (cc)
+former_kept (Some w) r e = let same : w.kept ≡ r = cc in sym same
+
+pub returns-clause-state : goal.returns-clause-state
+returns-clause-state c =
+    ap state_of c.in_ok-show_kept.ensures.fires.rest
+    ∙ ap (λ (t : Table). record (state_of c.args.self.now) { watchers = t }) c.keep-former.ensures.kept
+
+pub returns-clause-former : goal.returns-clause-former
+returns-clause-former c = former_kept _ _ c.keep-former.ensures.former
 
 pub returns-clause-stands : goal.returns-clause-stands
 returns-clause-stands c =
     let old = c.args.self.now in
     let new = c.show_kept.new.self in
     let k = c.args.key.now in
-    let W : Table → Type 0 = λ t. WritesAt (texts_of t) (node_name (get key_cmp old.texts k)) old.dom new.dom in
-    on_ok_weaker c.show_kept.result
-    (λ fires. kept_stands old new k (Some (snap_of c.args.s)) c.requires (fires.table ∙ c.keep.ensures.kept) (subst W c.keep.ensures.kept fires.dom) fires.texts (ap state_of fires.core) fires.templates fires.page)
-    c.show_kept.ensures.fires
-
-pub returns-clause-core : goal.returns-clause-core
-returns-clause-core c = on_ok_weaker c.show_kept.result (λ fires. ap state_of fires.core) c.show_kept.ensures.fires
-
-pub returns-clause-sound : goal.returns-clause-sound
-returns-clause-sound c = on_ok_weaker c.show_kept.result (λ fires. λ sound. let F : Core → Type 0 = λ core. IsSound core in subst F (sym fires.core) sound) c.show_kept.ensures.fires
+    let fires = c.in_ok-show_kept.ensures.fires in
+    let W : Table → Type 0 = λ t. WritesAt (texts_of t (state_of old).resting) (spot_in old.page k) old.dom new.dom in
+    λ ts g. let F : Works → Type 0 = λ x. Standing x ts in
+    subst F (sym fires.rest) (kept_stands old c.keep-former.new.self new.dom k (Some (snap_of c.args.s)) c.keep-former.ensures.kept (subst W c.keep-former.ensures.kept fires.dom) ts g)

@@ -1,22 +1,33 @@
-use Rattle.std.proofs.Common.{◌≡◌, ◌+◌, ℕ, List, ap, sym, subst, refl, ◌∙◌, true, Some, length}
+use Rattle.std.proofs.Common.{◌≡◌, ◌+◌, ℕ, List, Option, ap, sym, subst, refl, ◌∙◌, true, Some, length, arith}
+use Rattle.std.proofs.lemmas.Bool.Decides.{nat_tests}
 use Rattle.std.proofs.lemmas.List.{length-map}
+use Rattle.ng_behaviour.specs.Scopes.{path_at, object_at}
 use Rattle.ng_dom.specs.Document.{next_name, Shows}
-use Rattle.ng_link.specs.Sources.{sources}
-use Rattle.ng_dom.specs.Drawing.{shows}
-use Rattle.ng_drawing.specs.Template.{Template, Parts}
+use Rattle.ng_dom.specs.Drawing.{none_stand, shows}
+use Rattle.ng_drawing.specs.Template.{Site, Template, Parts}
 use Rattle.ng_template.specs.Seen.{parts_of}
 use Rattle.ng_template.specs.SiteOf.{site_of}
 use Rattle.ng_template.specs.TemplateOf.{template_of}
-use Rattle.ng_link.specs.Linked.{Links}
-use Rattle.ng_link.specs.Order.{is_regular, HaveRising}
+use Rattle.ng_watch.specs.Table.{Table, watchers_of}
 use Rattle.ng_link.specs.Building.{unset, HomedAll}
-use Rattle.ng_link.specs.Placing.{HoldsAll, AllBelow}
-use Rattle.ng_link.specs.Rows.{fresh_rows}
+use Rattle.ng_link.specs.Calls.{linked_in}
+use Rattle.ng_link.specs.Order.{is_regular, HaveRising}
+use Rattle.ng_link.specs.Rows.{with_sites}
 use Rattle.ng_link.specs.Shape.{keys_from, shape, holes}
-use Rattle.ng_link.specs.State.{core_of}
+use Rattle.ng_link.specs.Sources.{sources}
+use Rattle.ng_link.specs.Standing.{NothingStands, IsPage}
+use Rattle.ng_link.specs.State.{Linked, state_of}
+use Rattle.ng_link.specs.declared.works.Linked.{Linked as Instance}
 use Rattle.ng_link.specs.declared.works.Works.{Works}
-use Rattle.ng_link.proofs.Links.{parts_rise, regular_count, linked_stands, regular_below}
+use Rattle.ng_link.proofs.Links.{after, parts_rise, regular_count, regular_below, many_holes, linked_state, linked_stands}
 use Rattle.ng_link.proofs.works.Works.link.Goals as goal
+
+pub link_document-requires-clause-room : goal.link_document-requires-clause-room
+link_document-requires-clause-room c =
+    let F : Option Linked → Type 0 = λ o. IsPage o c.args.self.now.dom none_stand in
+    let bare : NothingStands c.args.self.now.dom none_stand = subst F c.requires.bare c.requires.stands.page in
+    let live = bare.live in
+    grind (arith, nat_tests, live)
 
 pub link_document-requires-clause-rising : goal.link_document-requires-clause-rising
 link_document-requires-clause-rising c =
@@ -25,43 +36,57 @@ link_document-requires-clause-rising c =
     let F : Parts → Type 0 = λ ps. HaveRising ps in
     subst F (sym c.parts-2.ensures.parts) (parts_rise 0 (length t.sites) t.parts (regular_count t regular))
 
-pub returns-clause-links : goal.returns-clause-links
-returns-clause-links c =
+pub returns-clause-state : goal.returns-clause-state
+returns-clause-state c =
     let old : Works = c.args.self.now in
     let t : Template = template_of c.get-tpl.result.now in
     let regular : is_regular t ≡ true = cc in
+    let path = c.in_ok-path.path in
+    let first = old.core.serial.0 in
+    let object = c.object-object.result.0 in
+    let m = next_name old.dom in
+    let spots = c.in_ok-spots.spots in
+    let core = record old.core { serial = record { 0 = c.in-Some.next } } in
+    let many : length c.sites-count.result.now ≡ length t.sites = sym (length-map c.sites-count.result.now site_of) ∙ ap length c.sites-count.ensures in
+    let next : c.in-Some.next ≡ first + length t.sites = c.in-Some.ensures.1 ∙ ap (λ n. first + n) many in
+    let parts : parts_of c.parts-2.result.now ≡ t.parts = c.parts-2.ensures.parts in
+    let is_holes : spots.items ≡ holes m t.parts = c.in_ok-spots.ensures.holes ∙ ap (holes m) parts in
+    let is_path : path ≡ path_at (state_of old).core.scopes c.args.scope.0 = c.in_ok-path.ensures ∙ c.path.ensures in
+    let is_object : object ≡ object_at (state_of old).core.scopes c.args.scope.0 = c.object-object.ensures in
+    let table : Table = watchers_of old.watchers in
+    let rows : watchers_of c.watch_all.new.watchers ≡ with_sites path object first t.sites table = c.in_ok-watch_all.ensures.rows ∙ ap (λ (xs : List Site). with_sites path object first xs table) c.sites.ensures in
     λ tpl at.
     let same : t ≡ tpl = let two : Some t ≡ Some tpl = sym c.get-tpl.ensures ∙ at in cc in
-    let new : Works = record old {
-      core = record old.core { serial = record { 0 = c.in-Some.next } };
-      watchers = c.watch_all.new.watchers;
-      dom = c.link_document.new.dom;
-      texts = c.place_all.new.texts;
-      page = Some (record { template = c.args.t; scope = c.args.scope; path = c.in_ok-path.path; first = old.core.serial.0; count = length c.sites-count.result.now });
-    } in
-    let F : Template → Type 0 = λ u. Links c.args.scope.0 c.args.t.0 u old new in
+    let p : Instance = record { template = c.args.t; scope = c.args.scope; path = path; first = first; spots = spots } in
+    let F : Template → Type 0 = λ u. state_of (after old core c.watch_all.new.watchers c.link_document.new.dom p) ≡ linked_in c.args.t.0 c.args.scope.0 u (state_of old) in
+    subst F same
+    (linked_state old core c.watch_all.new.watchers c.link_document.new.dom p t
+    (ap (λ (n : ℕ). record (state_of old).core { serial = n }) next)
+    (rows ∙ (ap (λ (q : List ℕ). with_sites q object first t.sites table) is_path ∙ ap (λ (o : ℕ). with_sites (path_at (state_of old).core.scopes c.args.scope.0) o first t.sites table) is_object))
+    c.get-tpl.ensures is_path refl (ap length is_holes ∙ many_holes t m regular))
+
+pub returns-clause-stands : goal.returns-clause-stands
+returns-clause-stands c =
+    let old : Works = c.args.self.now in
+    let t : Template = template_of c.get-tpl.result.now in
+    let regular : is_regular t ≡ true = cc in
     let path = c.in_ok-path.path in
     let first = old.core.serial.0 in
     let object = c.object-object.result.0 in
     let m = next_name old.dom in
     let keys = keys_from path first in
-    let parts : parts_of c.parts-2.result.now ≡ t.parts = c.parts-2.ensures.parts in
+    let spots = c.in_ok-spots.spots in
+    let core = record old.core { serial = record { 0 = c.in-Some.next } } in
     let many : length c.sites-count.result.now ≡ length t.sites = sym (length-map c.sites-count.result.now site_of) ∙ ap length c.sites-count.ensures in
     let next : c.in-Some.next ≡ first + length t.sites = c.in-Some.ensures.1 ∙ ap (λ n. first + n) many in
-    let S : Parts → Type 0 = λ ps. Shows new.dom (shows unset (shape keys m ps)) in
-    let H : Parts → Type 0 = λ ps. HomedAll (sources new.dom) (shape keys m ps) in
-    let A : List ℕ → Type 0 = λ xs. HoldsAll new.texts path first xs in
-    let B : List ℕ → Type 0 = λ xs. AllBelow new.texts (first + length xs) in
-    subst F same
-    (linked_stands old new t c.args.scope.0 c.args.t.0 m path object first c.in_ok-spots.spots.items
-    (c.in_ok-path.ensures ∙ c.path.ensures) c.object-object.ensures refl regular (regular_below t regular)
-    (rw c.object-object.ensures (c.requires.objects.below c.args.scope.0 c.requires.scope))
-    (ap (λ (n : ℕ). Some (record { template = c.args.t.0; scope = c.args.scope.0; path = path; first = first; count = n })) many)
-    (c.in_ok-watch_all.ensures.rows ∙ ap (fresh_rows path object first) c.sites.ensures)
-    (ap (λ (n : ℕ). record (core_of old) { serial = n }) next) refl c.get-tpl.ensures
-    (subst S parts c.in_ok-spots.ensures.shows) (subst H parts c.in_ok-spots.ensures.homed)
-    (c.in_ok-spots.ensures.holes ∙ ap (holes m) parts)
-    (subst A c.as_slice.ensures.value c.in_ok-place_all.ensures.there) (subst B c.as_slice.ensures.value c.in_ok-place_all.ensures.below))
+    let parts : parts_of c.parts-2.result.now ≡ t.parts = c.parts-2.ensures.parts in
+    let S : Parts → Type 0 = λ ps. Shows c.link_document.new.dom (shows unset (shape keys m ps)) in
+    let H : Parts → Type 0 = λ ps. HomedAll (sources c.link_document.new.dom) (shape keys m ps) in
+    linked_stands old core c.watch_all.new.watchers c.link_document.new.dom (record { template = c.args.t; scope = c.args.scope; path = path; first = first; spots = spots }) t object m
+    regular (rw c.object-object.ensures (c.requires.objects.below c.args.scope.0 c.requires.scope)) refl
+    (c.in_ok-spots.ensures.holes ∙ ap (holes m) parts) next refl
+    (c.in_ok-watch_all.ensures.rows ∙ ap (λ (xs : List Site). with_sites path object first xs (watchers_of old.watchers)) c.sites.ensures)
+    (regular_below t regular) c.get-tpl.ensures (subst S parts c.in_ok-spots.ensures.shows) (subst H parts c.in_ok-spots.ensures.homed) c.requires.stands.watched
 
 pub returns-clause-sound : goal.returns-clause-sound
 returns-clause-sound c = λ h. record {

@@ -1,0 +1,48 @@
+-- What holds of a page after a digest, and the end of a step.
+use Rattle.std.proofs.Common.{◌≡◌, ℕ, Bool, true, false, List, [], Option, Some, None, Result, Ok, Err, refl, ap, sym, subst, ◌∙◌}
+use Rattle.ng_base.specs.declared.path.Key.{Key}
+use Rattle.ng_digest.specs.Causes.{Unless}
+use Rattle.ng_digest.specs.Early.{plain_of, plain_answer}
+use Rattle.ng_digest.specs.Place.{Place}
+use Rattle.ng_digest.specs.Plain.{Plain, PlainDigests}
+use Rattle.ng_digest.specs.declared.log.Report.{Report}
+use Rattle.ng_digest.specs.declared.rounds.DigestFault.{DigestFault}
+use Rattle.ng_digest.specs.declared.rounds.DigestFault.TheVariants as fault
+use Rattle.ng_link.specs.Calls.{with_core}
+use Rattle.ng_link.specs.State as link
+use Rattle.ng_link.specs.Untroubled.{untroubled}
+use Rattle.ng_link.specs.declared.works.Works.{Works}
+use Rattle.ng_page.specs.Answered.{DigestsWhere, ShortWhere, PlainlyDigests, ShortlyDigests}
+use Rattle.ng_page.specs.PageMachine.{page_machine, readied}
+use Rattle.ng_page.specs.PlaceOf.{state_of, place_of, WorksAre, PageIs}
+use Rattle.ng_page.specs.Settled.{IsWatched}
+use Rattle.ng_page.specs.declared.engine.Engine.{Engine}
+use Rattle.ng_page.proofs.DigestsStay.{digest_sites}
+use Rattle.ng_page.proofs.Watched.{watched_core, watched_stays}
+
+page_from : (s : link.State) (e : Engine) (a : Result (ℕ × ℕ) DigestFault) → IsWatched s → PlainDigests page_machine (readied s) a (plain_of (place_of e)) → WorksAre e.works → PageIs e.works
+page_from s e a h d works = record {
+  works = works;
+  watched = watched_stays (with_core (untroubled s.core) s) (link.state_of e.works) (digest_sites s a (plain_of (place_of e)) d) (watched_core s (untroubled s.core) refl h);
+}
+
+pub page_after : (s : link.State) (e : Engine) (r : Result Report DigestFault) → IsWatched s → Unless r (PlainDigests page_machine (readied s) (plain_answer r) (plain_of (place_of e))) → Unless r (WorksAre e.works) → Unless r (PageIs e.works)
+page_after s e (Ok report) h d works = page_from s e (Ok (report.rounds, report.fires)) h d works
+page_after s e (Err fault.Infdig) h d works = page_from s e (Err fault.Infdig) h d works
+page_after s e (Err fault.FireLimit) h d works = page_from s e (Err fault.FireLimit) h d works
+page_after s e (Err fault.AsyncLimit) h d works = page_from s e (Err fault.AsyncLimit) h d works
+page_after s e (Err (fault.Faulted first count)) h d works = page_from s e (Err (fault.Faulted first count)) h d works
+page_after s e (Err (fault.Memory m)) h d works = tt
+
+-- a digest is made exactly where the root lives
+pub digest_where : (b : Bool) (s t : link.State) (a : Result (ℕ × ℕ) DigestFault) (probed : List (List ℕ)) → b ≡ true → PlainlyDigests s a probed t → DigestsWhere b s (Some a) probed t
+digest_where b s t a probed e h = subst (λ x. DigestsWhere x s (Some a) probed t) (sym e) h
+
+pub none_where : (b : Bool) (s : link.State) → b ≡ false → DigestsWhere b s None [] s
+none_where b s e = subst (λ x. DigestsWhere x s None [] s) (sym e) (refl, refl)
+
+pub short_where : (b : Bool) (s t : link.State) (a : Result Report DigestFault) → b ≡ true → ShortlyDigests s a t → ShortWhere b s (Some a) t
+short_where b s t a e h = subst (λ x. ShortWhere x s (Some a) t) (sym e) h
+
+pub short_none : (b : Bool) (s : link.State) → b ≡ false → ShortWhere b s None s
+short_none b s e = subst (λ x. ShortWhere x s None s) (sym e) refl

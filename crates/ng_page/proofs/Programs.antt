@@ -1,0 +1,57 @@
+-- The calls of a core, as commands make them.
+use Rattle.std.proofs.Common.{◌≡◌, ◌≤◌, ◌-◌, ℕ, List, [], map, Result, Ok, Err, refl, ap, sym, subst, ◌∙◌, false}
+use Rattle.serde_json.specs.Data.{Data}
+use Rattle.ng_act.specs.Actions.{Asked, does, an_emit, a_broadcast, destroys}
+use Rattle.ng_act.specs.Frames.{Acts}
+use Rattle.ng_act.specs.Running.{act_run, as_value_run, same}
+use Rattle.ng_act.specs.State as act
+use Rattle.ng_act.specs.State.{State, Run, ◌>>=◌, with_locals}
+use Rattle.ng_base.specs.Faults.{is_memory}
+use Rattle.ng_base.specs.Views.{ViewTree, prim}
+use Rattle.ng_base.specs.declared.fault.Fault.{Fault}
+use Rattle.ng_base.specs.declared.value.Value.{Value}
+use Rattle.ng_fire.specs.Runs.{asked_first}
+use Rattle.ng_language.specs.Trees.{Trees}
+use Rattle.ng_view.specs.Evaluation.{Local}
+use Rattle.ng_page.specs.Commands.{back, program_run, destroyed, json_run, items_in, emit_run, broadcast_run}
+
+same_locals : (n c : State) → n.locals ≡ c.locals → with_locals c.locals n ≡ n
+same_locals n c e = ap (λ ls. with_locals ls n) (sym e)
+
+back_of : (r : Result Value Fault) (n c : State) (ls : List Local) (run : Run Value) → n.locals ≡ c.locals → Acts same r (with_locals ls n) run → Acts same r n (back c run)
+back_of (Ok v) n c ls run e h = ap (back c) h ∙ ap (λ s. (s, Ok v)) (same_locals n c e)
+back_of (Err f) n c ls run e h = λ m. ap (back c) (h m) ∙ ap (λ s. (s, Err f)) (same_locals n c e)
+
+-- a program that is run with no locals gives the core's back
+pub program_acts : (r : Result Value Fault) (n c : State) (ls : List Local) (depth scope : ℕ) (p : Trees) → depth ≡ 0 → n.locals ≡ c.locals → Acts same r (with_locals ls n) (act_run (64 - depth) scope [] p c) → Acts same r n (program_run scope p c)
+unfolding program_run
+program_acts r n c ls depth scope p z e h = back_of r n c ls (act_run 64 scope [] p c) e (subst (λ d. Acts same r (with_locals ls n) (act_run (64 - d) scope [] p c)) z h)
+
+pub destroyed_acts : (n c : State) (depth scope : ℕ) → depth ≡ 0 → n ≡ destroys (does (64 - depth)) scope c → n ≡ destroyed scope c
+unfolding destroyed
+destroyed_acts n c depth scope z h = subst (λ d. n ≡ destroys (does (64 - d)) scope c) z h
+
+first_of : (r : Result Value Fault) (n c : State) (depth : ℕ) (a : Asked) → depth ≡ 0 → Acts same r n (as_value_run (does (64 - depth) a c)) → Acts same r n (as_value_run (asked_first a c))
+unfolding asked_first
+first_of r n c depth a z h = subst (λ d. Acts same r n (as_value_run (does (64 - d) a c))) z h
+
+bound_ok : (run : Run Value) (m : State) (v : Value) (f : Value → State → Run Value) → run ≡ (m, Ok v) → (run >>= f) ≡ f v m
+bound_ok run m v f e = ap (λ (x : Run Value). x >>= f) e
+
+bound_err : (run : Run Value) (m : State) (g : Fault) (f : Value → State → Run Value) → run ≡ (m, Err g) → (run >>= f) ≡ (m, Err g)
+bound_err run m g f e = ap (λ (x : Run Value). x >>= f) e
+
+module _ (event : List ViewTree → Asked) where
+  abbrev pub goes : Value → State → Run Value
+  goes v e = as_value_run (asked_first (event (map prim (items_in e.objects v))) e)
+
+  -- the arguments were read, and the event went its way
+  pub event_acts : (r : Result Value Fault) (n m c : State) (d : Data) (v : Value) (args : List Value) (depth : ℕ) → depth ≡ 0 → json_run d c ≡ (m, Ok v) → args ≡ items_in m.objects v
+      → Acts same r n (as_value_run (does (64 - depth) (event (map prim args)) m)) → Acts same r n (json_run d c >>= goes)
+  event_acts r n m c d v args depth z read is h =
+      subst (Acts same r n) (sym (bound_ok (json_run d c) m v goes read))
+      (subst (λ vs. Acts same r n (as_value_run (asked_first (event (map prim vs)) m))) is (first_of r n m depth (event (map prim args)) z h))
+
+  -- or they were not read
+  pub event_refused : (m c : State) (d : Data) (f : Fault) → Acts same (Err f) m (json_run d c) → Acts same (Err f) m (json_run d c >>= goes)
+  event_refused m c d f h = λ n. bound_err (json_run d c) m f goes (h n)

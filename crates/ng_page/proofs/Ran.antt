@@ -1,0 +1,37 @@
+-- What holds of a page after a program ran on its core.
+use Rattle.std.proofs.Common.{◌≡◌, ◌≤◌, ◌<◌, ℕ, List, length, Result, Ok, Err, refl, ap, sym, subst, ◌∙◌}
+use Rattle.ng_act.specs.Frames as cores
+use Rattle.ng_act.specs.Frames.{IsSound, Acts}
+use Rattle.ng_act.specs.Running.{same}
+use Rattle.ng_act.specs.State.{State, Run}
+use Rattle.ng_act.specs.declared.core_state.Core.{Core}
+use Rattle.ng_base.specs.declared.fault.Fault.{Fault}
+use Rattle.ng_base.specs.declared.value.Value.{Value}
+use Rattle.ng_fire.specs.Whole.{IsWhole, Unless}
+use Rattle.ng_fire.proofs.Wholes.{whole_after}
+use Rattle.ng_link.specs.State.{state_of, templates_of}
+use Rattle.ng_link.specs.declared.works.Works.{Works}
+use Rattle.ng_page.specs.Commands.{Asked, asked_run}
+use Rattle.ng_page.specs.PlaceOf.{PageIs}
+use Rattle.ng_page.proofs.EventsStay.{part, Stays}
+use Rattle.ng_page.proofs.Sites.{SitesStay}
+use Rattle.ng_page.proofs.StepsStay.{asked_sites}
+use Rattle.ng_page.proofs.Watched.{watched_stays}
+
+pub whole_stays : (w : Works) (d : Core) (s : State) → s ≡ cores.state_of d → Stays (part (cores.state_of w.core)) (part s) → IsSound d → d.depth ≡ 0 → length d.scopes ≡ length w.core.scopes → length w.core.store ≤ length d.store
+    → IsWhole w → IsWhole (record w { core = d })
+whole_stays w d s e stay sound idle scopes store h =
+    let there : Stays (part (cores.state_of w.core)) (part (cores.state_of d)) = subst (λ x. Stays (part (cores.state_of w.core)) (part x)) e stay in
+    whole_after w d h sound idle scopes store there.serial
+
+pub whole_ran : (w : Works) (d : Core) (r : Result Value Fault) (run : Run Value) → Acts same r (cores.state_of d) run → Stays (part (cores.state_of w.core)) (part run.0) → IsSound d → d.depth ≡ 0 → length d.scopes ≡ length w.core.scopes → length w.core.store ≤ length d.store
+    → IsWhole w → Unless r (IsWhole (record w { core = d }))
+whole_ran w d (Ok v) run a stay sound idle scopes store h = whole_stays w d run.0 (ap (λ (x : Run Value). x.0) a) stay sound idle scopes store h
+whole_ran w d (Err f) run a stay sound idle scopes store h = λ e. whole_stays w d run.0 (ap (λ (x : Run Value). x.0) (a e)) stay sound idle scopes store h
+
+-- what a command's program leaves is a page
+pub page_asked : (a : Asked) (v w : Works) → state_of w ≡ asked_run a (state_of v) → IsWhole w → templates_of w ≡ templates_of v → PageIs v → PageIs w
+page_asked a v w e whole ts h = record {
+  works = record { whole = whole; templates = subst (λ t. 0 < length t) (sym ts) h.works.templates };
+  watched = watched_stays (state_of v) (state_of w) (subst (SitesStay (state_of v)) (sym e) (asked_sites a (state_of v))) h.watched;
+}

@@ -1,0 +1,161 @@
+-- What programs, fires, tasks and the end of a digest leave of sites.
+use Rattle.std.proofs.Common.{◌≡◌, ℕ, Bool, true, false, List, [], ◌∷◌, map, Option, Some, None, Result, Ok, Err, refl}
+use Rattle.std.specs.Prelude.{is_some, is_err}
+use Rattle.serde_json.specs.Data.{Data}
+use Rattle.ng_act.specs.Actions.{Asked, a_body, an_emit, a_broadcast, does, programmed, stores, nothing}
+use Rattle.ng_act.specs.Running.{as_value_run}
+use Rattle.ng_act.specs.State as act
+use Rattle.ng_act.specs.State.{Change, adds, removes, leaves, Run, Task, ◌>>=◌, handed, with_fault, with_locals, with_objects}
+use Rattle.ng_base.specs.Views.{ViewTree, prim}
+use Rattle.ng_base.specs.declared.fault.Fault.{Fault}
+use Rattle.ng_base.specs.declared.path.Key.{Key}
+use Rattle.ng_base.specs.declared.value.Value.{Value}
+use Rattle.ng_behaviour.specs.Scopes.{path_at}
+use Rattle.ng_fire.specs.Changes.{key_in, watching_in, listening_in, applied, applied_all, changed, without_changes}
+use Rattle.ng_fire.specs.Fires.{former_value, listener_locals, listener_run, run_with, fire_run, fired_by, fired as fires, listener_at, value_at}
+use Rattle.ng_fire.specs.Runs.{asked_first, followed, task_run, ran_of, ran, without_task}
+use Rattle.ng_fire.specs.Settling.{unset_all, without_probes, settled, given_up}
+use Rattle.ng_language.specs.Trees.{Trees}
+use Rattle.ng_link.specs.Calls.{with_core, keeping_at, ended_at, unset_at}
+use Rattle.ng_link.specs.State.{State, Listening}
+use Rattle.ng_store.specs.Json.{json_value, with_json}
+use Rattle.ng_store.specs.declared.json.JsonFault.{JsonFault}
+use Rattle.ng_view.specs.Evaluation.{Local}
+use Rattle.ng_watch.specs.Table.{kept_at}
+use Rattle.ng_write.specs.Making.{value_in}
+use Rattle.ng_page.specs.Commands as commands
+use Rattle.ng_page.specs.Commands.{program_run, destroyed, json_read, json_run, items_in, emit_run, broadcast_run, asked_run, applies, queues, probes, digests, destroys_scope, emits, broadcasts}
+use Rattle.ng_page.proofs.EventsStay.{Part, part, Stays, stays_refl, stays_trans, fault_stays, destroys_stay, some_first}
+use Rattle.ng_page.proofs.ProgramsStay.{bind_stay, stores_stay, statements_stay, does_stay}
+use Rattle.ng_page.proofs.Sites.{SitesStay, sites_refl, sites_trans, core_sites, keeping_sites, unset_sites, declared_sites, undeclared_sites, left_sites, ended_sites}
+
+-- a run, whatever it gives
+noted : {A : Type 0} (s : act.State) (o : Result A Fault) → Stays (part s) (part (handed (s, o)))
+noted s (Ok v) = stays_refl (part s)
+noted s (Err f) = fault_stays f (part s)
+
+pub handed_run : {A : Type 0} (c : act.State) (r : Run A) → Stays (part c) (part r.0) → Stays (part c) (part (handed r))
+handed_run c r h = stays_trans (part c) (part r.0) (part (handed r)) h (noted r.0 r.1)
+
+value_run : (c : act.State) (r : Run ViewTree) → Stays (part c) (part r.0) → Stays (part c) (part (as_value_run r).0)
+value_run c r h = bind_stay (part c) r.0 r.1 (λ v s. (s, Ok (value_in v))) h (λ v s. stays_refl (part s))
+
+pub first_stays : (a : Asked) (c : act.State) → Stays (part c) (part (asked_first a c).0)
+unfolding asked_first
+first_stays a c = does_stay 64 a c
+
+-- what programs left for the watchers is done
+one_applied : (c : Change) (s : State) → SitesStay s (applied c s)
+one_applied (adds w) s = declared_sites (key_in s w.scope w.serial) (watching_in s w) (listening_in w) s
+one_applied (removes scope serial) s = undeclared_sites (key_in s scope serial) s
+one_applied (leaves scope) s = left_sites (path_at s.core.scopes scope) s
+
+all_applied : (cs : List Change) (s : State) → SitesStay s (applied_all cs s)
+all_applied [] s = sites_refl s
+all_applied (c ∷ cs) s = sites_trans s (applied c s) (applied_all cs (applied c s)) (one_applied c s) (all_applied cs (applied c s))
+
+pub changed_sites : (s : State) → SitesStay s (changed s)
+changed_sites s = sites_trans s (without_changes s) (changed s) (core_sites s (record s.core { changes = [] }) (stays_refl (part s.core))) (all_applied s.core.changes (without_changes s))
+
+pub followed_sites : {A : Type 0} (r : Run A) (s : State) → Stays (part s.core) (part r.0) → SitesStay s (followed r s)
+followed_sites r s h = sites_trans s (with_core (handed r) s) (followed r s) (core_sites s (handed r) (handed_run s.core r h)) (changed_sites (with_core (handed r) s))
+
+-- a fault of a run is handed over
+pub faulted_some : {A : Type 0} (r : Run A) (s : State) → is_err r.1 ≡ true → is_some (followed r s).core.handed.first ≡ true
+faulted_some r s e = (changed_sites (with_core (handed r) s)).core.some (by_end r.0 r.1 e)
+  where
+    by_end : {A : Type 0} (t : act.State) (o : Result A Fault) → is_err o ≡ true → is_some (handed (t, o)).handed.first ≡ true
+    by_end t (Ok v) e = cc
+    by_end t (Err f) e = some_first t.handed.first f
+
+-- the program of a declared watch
+former_stays : (o : Option ViewTree) (v : ViewTree) (c : act.State) → Stays (part c) (part (former_value o v c).0)
+former_stays None v c = stays_refl (part c)
+former_stays (Some f) v c = stores_stay f c
+
+listener_stays : (l : Listening) (former : Option ViewTree) (v : ViewTree) (c : act.State) → Stays (part c) (part (listener_run l former v c).0)
+listener_stays l former v c =
+    bind_stay (part c) (stores v c).0 (stores v c).1 (λ w d. former_value former w d >>= λ o e. asked_first (a_body l.scope (listener_locals w o) l.body) e) (stores_stay v c)
+    (λ w d. bind_stay (part d) (former_value former w d).0 (former_value former w d).1 (λ o e. asked_first (a_body l.scope (listener_locals w o) l.body) e) (former_stays former w d)
+    (λ o e. first_stays (a_body l.scope (listener_locals w o) l.body) e))
+
+abbrev RunStays : act.State → Option (Run ViewTree) → Type 0
+RunStays c None = Unit {0}
+RunStays c (Some r) = Stays (part c) (part r.0)
+
+run_stays : (l : Option Listening) (former value : Option ViewTree) (c : act.State) → RunStays c (run_with l former value c)
+run_stays None former value c = tt
+run_stays (Some l) former None c = tt
+run_stays (Some l) former (Some v) c = listener_stays l former v c
+
+fired_sites : (o : Option (Run ViewTree)) (s : State) → RunStays s.core o → SitesStay s (fired_by o s).0
+fired_sites None s h = sites_refl s
+fired_sites (Some r) s h = followed_sites r s h
+
+pub fires_sites : (k : Key) (t : ViewTree) (s : State) → SitesStay s (fires k t s).0
+fires_sites k t s =
+    let u : State = keeping_at k t s in
+    sites_trans s u (fires k t s).0 (keeping_sites k t s) (fired_sites (fire_run k s) u (run_stays (listener_at s k) (kept_at k s.watchers) (value_at s k) s.core))
+
+fired_some : (o : Option (Run ViewTree)) (s : State) → (fired_by o s).1 ≡ true → is_some (fired_by o s).0.core.handed.first ≡ true
+fired_some None s e = cc
+fired_some (Some r) s e = faulted_some r s e
+
+pub fires_some : (k : Key) (t : ViewTree) (s : State) → (fires k t s).1 ≡ true → is_some (fires k t s).0.core.handed.first ≡ true
+fires_some k t s e = fired_some (fire_run k s) (keeping_at k t s) e
+
+-- a task
+by_tasks : (ts : List Task) (s : State) → SitesStay s (ran_of ts s)
+by_tasks [] s = sites_refl s
+by_tasks (t ∷ ts) s = followed_sites (task_run t (without_task ts s.core)) s (first_stays (a_body t.scope [] t.body) (without_task ts s.core))
+
+pub ran_sites : (s : State) → SitesStay s (ran s)
+ran_sites s = by_tasks s.core.tasks s
+
+-- the end of the rounds
+pub unset_all_sites : (ks : List Key) (s : State) → SitesStay s (unset_all ks s)
+unset_all_sites [] s = sites_refl s
+unset_all_sites (k ∷ ks) s = sites_trans s (unset_at k s) (unset_all ks (unset_at k s)) (unset_sites k s) (unset_all_sites ks (unset_at k s))
+
+pub settled_sites : (ks : List Key) (s : State) → SitesStay s (settled ks s).0
+settled_sites ks s =
+    let t : State = unset_all ks s in
+    sites_trans s t (without_probes (ended_at t)) (unset_all_sites ks s)
+    (sites_trans t (ended_at t) (without_probes (ended_at t)) (ended_sites t) (core_sites (ended_at t) (record (ended_at t).core { probes = [] }) (stays_refl (part t.core))))
+
+-- what commands do
+back_stays : {A : Type 0} (c : act.State) (r : Run A) → Stays (part c) (part r.0) → Stays (part c) (part (commands.back c r).0)
+back_stays c r h = h
+
+pub program_stays : (scope : ℕ) (p : Trees) (c : act.State) → Stays (part c) (part (program_run scope p c).0)
+unfolding program_run
+program_stays scope p c =
+    let d : act.State = with_locals [] c in
+    value_run c (programmed (does 64) scope p d) (statements_stay (does 64) (does_stay 64) scope nothing p d)
+
+pub destroyed_stays : (scope : ℕ) (c : act.State) → Stays (part c) (part (destroyed scope c))
+unfolding destroyed
+destroyed_stays scope c = destroys_stay (does 64) (does_stay 64) scope c
+
+read_stays : (r : Result Value JsonFault) (d : Data) (c : act.State) → Stays (part c) (part (json_read r d c).0)
+read_stays (Ok v) d c = stays_refl (part c)
+read_stays (Err f) d c = stays_refl (part c)
+
+pub emit_stays : (scope : ℕ) (name : List ℕ) (d : Data) (c : act.State) → Stays (part c) (part (emit_run scope name d c).0)
+emit_stays scope name d c =
+    bind_stay (part c) (json_run d c).0 (json_run d c).1 (λ v e. as_value_run (asked_first (an_emit scope name (map prim (items_in e.objects v))) e)) (read_stays (json_value c.objects d) d c)
+    (λ v e. value_run e (asked_first (an_emit scope name (map prim (items_in e.objects v))) e) (first_stays (an_emit scope name (map prim (items_in e.objects v))) e))
+
+pub broadcast_stays : (scope : ℕ) (name : List ℕ) (d : Data) (c : act.State) → Stays (part c) (part (broadcast_run scope name d c).0)
+broadcast_stays scope name d c =
+    bind_stay (part c) (json_run d c).0 (json_run d c).1 (λ v e. as_value_run (asked_first (a_broadcast scope name (map prim (items_in e.objects v))) e)) (read_stays (json_value c.objects d) d c)
+    (λ v e. value_run e (asked_first (a_broadcast scope name (map prim (items_in e.objects v))) e) (first_stays (a_broadcast scope name (map prim (items_in e.objects v))) e))
+
+pub asked_sites : (a : commands.Asked) (s : State) → SitesStay s (asked_run a s)
+asked_sites (applies scope p) s = followed_sites (program_run scope p s.core) s (program_stays scope p s.core)
+asked_sites (queues p) s = core_sites s (act.with_task (record { scope = 0; body = p }) s.core) (stays_refl (part s.core))
+asked_sites (probes p) s = core_sites s (commands.with_probe p s.core) (stays_refl (part s.core))
+asked_sites digests s = sites_refl s
+asked_sites (destroys_scope scope) s = sites_trans s (with_core (destroyed scope s.core) s) (changed (with_core (destroyed scope s.core) s)) (core_sites s (destroyed scope s.core) (destroyed_stays scope s.core)) (changed_sites (with_core (destroyed scope s.core) s))
+asked_sites (emits scope name d) s = followed_sites (emit_run scope name d s.core) s (emit_stays scope name d s.core)
+asked_sites (broadcasts scope name d) s = followed_sites (broadcast_run scope name d s.core) s (broadcast_stays scope name d s.core)

@@ -1,0 +1,77 @@
+-- What holds of works stays where no program ran: where faults are handed over or forgotten, and where a task or a probe is added.
+use Rattle.std.proofs.Common.{◌≡◌, ◌<◌, ◌≤◌, ℕ, List, [], ◌∷◌, ◌++◌, map, length, refl, ap, sym, subst, ◌∙◌, arith}
+use Rattle.std.specs.List.{AllByRecursion}
+use Rattle.ng_act.specs.Frames as cores
+use Rattle.ng_act.specs.Frames.{IsSound, TaskStands, task_of}
+use Rattle.ng_act.specs.declared.core_state.Core.{Core}
+use Rattle.ng_act.specs.declared.core_state.Handed.{Handed}
+use Rattle.ng_act.specs.declared.pending.Task.{Task}
+use Rattle.ng_act.specs.State as act
+use Rattle.ng_base.specs.Objects.{Object}
+use Rattle.ng_behaviour.specs.Scopes.{Scope, object_at}
+use Rattle.ng_dom.specs.Drawing.{Stands}
+use Rattle.ng_fire.specs.Whole.{IsWhole, ListenersStand, RowsStand}
+use Rattle.ng_fire.proofs.Wholes.{whole_after}
+use Rattle.ng_link.specs.Calls.{with_core}
+use Rattle.ng_link.specs.Standing.{Standing, Displays}
+use Rattle.ng_link.specs.State.{State, state_of, templates_of, shown}
+use Rattle.ng_link.specs.declared.works.Works.{Works}
+use Rattle.ng_link.proofs.Displayed.{page_displays}
+use Rattle.ng_page.specs.PlaceOf.{WorksAre, PageIs}
+use Rattle.ng_page.proofs.Watched.{watched_core}
+
+-- the core has the scopes and objects that it had
+pub whole_alike : (v w : Works) (c : act.State) → state_of w ≡ with_core c (state_of v) → c.scopes ≡ (state_of v).core.scopes → c.objects ≡ (state_of v).core.objects
+    → (IsSound v.core → IsSound w.core) → w.core.depth ≡ v.core.depth → ((ts : Stands) → Standing v ts → Standing w ts) → IsWhole v → IsWhole w
+whole_alike v w c e scopes objects sound depth stands h =
+    let s : (state_of w).core.scopes ≡ (state_of v).core.scopes = ap (λ (x : State). x.core.scopes) e ∙ scopes in
+    let o : (state_of w).core.objects ≡ (state_of v).core.objects = ap (λ (x : State). x.core.objects) e ∙ objects in
+    record {
+      sound = sound h.sound;
+      idle = depth ∙ h.idle;
+      root = subst (λ (t : List Scope). 0 < length t) (sym s) h.root;
+      standing = (h.standing.0, stands h.standing.0 h.standing.1);
+      listeners = subst (λ (x : State). ListenersStand (length x.core.scopes) x.declared) (sym e) (subst (λ (t : List Scope). ListenersStand (length t) (state_of v).declared) (sym scopes) h.listeners);
+      kept = subst (λ (x : State). RowsStand (length x.core.objects) x.linked x.watchers) (sym e) (subst (λ (t : List Object). RowsStand (length t) (state_of v).linked (state_of v).watchers) (sym objects) h.kept);
+    }
+
+pub works_alike : (v w : Works) (c : act.State) → state_of w ≡ with_core c (state_of v) → c.scopes ≡ (state_of v).core.scopes → c.objects ≡ (state_of v).core.objects
+    → (IsSound v.core → IsSound w.core) → w.core.depth ≡ v.core.depth → ((ts : Stands) → Standing v ts → Standing w ts) → templates_of w ≡ templates_of v → WorksAre v → WorksAre w
+works_alike v w c e scopes objects sound depth stands templates h = record {
+  whole = whole_alike v w c e scopes objects sound depth stands h.whole;
+  templates = subst (λ ts. 0 < length ts) (sym templates) h.templates;
+}
+
+-- what stands is displayed
+pub works_display : (w : Works) → WorksAre w → Displays w (shown (state_of w))
+works_display w h = page_displays w h.whole.standing.0 h.whole.standing.1
+
+-- ---- the core of a page is another one
+
+-- a command begins: what it counts is no matter to what holds
+begun_sound : (c : Core) (h : Handed) → IsSound c → IsSound (record c { bodies = 0; handed = h })
+begun_sound c h s = record {
+  objects = s.objects;
+  parents = s.parents;
+  locals = s.locals;
+  funs = s.funs;
+  tasks = s.tasks;
+  changes = s.changes;
+  depth = s.depth;
+  room = s.room;
+}
+
+-- as many scopes, no fewer objects, and no lower number of registration
+pub page_with : (w : Works) (d : Core) → IsSound d → d.depth ≡ 0 → length d.scopes ≡ length w.core.scopes → length w.core.store ≤ length d.store → w.core.serial.0 ≤ d.serial.0
+    → object_at d.scopes 0 ≡ object_at w.core.scopes 0 → PageIs w → PageIs (record w { core = d })
+page_with w d sound idle scopes store serial object h = record {
+  works = record { whole = whole_after w d h.works.whole sound idle scopes store serial; templates = h.works.templates };
+  watched = watched_core (state_of w) (cores.state_of d) object h.watched;
+}
+
+pub begun_page : (w : Works) (h : Handed) → PageIs w → PageIs (record w { core = record w.core { bodies = 0; handed = h } })
+begun_page w h p = page_with w (record w.core { bodies = 0; handed = h }) (begun_sound w.core h p.works.whole.sound) p.works.whole.idle refl (omega arith) (omega arith) refl p
+
+pub all_pushed : (n : ℕ) (xs : List Task) (x : Task) → AllByRecursion (TaskStands n) (map task_of xs) → x.scope.0 < n → AllByRecursion (TaskStands n) (map task_of (xs ++ x ∷ []))
+all_pushed n [] x h l = (l, tt)
+all_pushed n (y ∷ xs) x h l = (h.0, all_pushed n xs x h.1 l)

@@ -1,0 +1,18 @@
+use Rattle.std.proofs.Common.{◌≡◌, ◌∙◌, ap}
+use Rattle.ng_page.specs.Commands.{Asked, destroys_scope, is_idle, asked_run}
+use Rattle.ng_link.specs.State as link
+use Rattle.ng_page.specs.Commanded.{refusal}
+use Rattle.ng_page.specs.PageOf.{state_of}
+use Rattle.ng_page.proofs.Commanding.{commanded_refused, commanded_ended, not_refused, where_ran}
+use Rattle.ng_page.proofs.page.Page.destroy.Goals as goal
+
+pub returns-in-Some : goal.returns-in-Some
+returns-in-Some c = commanded_refused (destroys_scope c.args.scope.0) c.args.self.now c.in-Some.fault c.in-Some.ensures c.requires.page
+
+pub returns : goal.returns
+returns c =
+    let old = c.args.self.now in
+    let a : Asked = destroys_scope c.args.scope.0 in
+    let s = link.state_of c.destroy_scope-ran.new.works in
+    commanded_ended a old c.ended.new.self s c.destroy_scope-ran.result c.ended.result (not_refused c.refused.result (refusal old.spent (is_idle a (state_of old))) c.refused.ensures c.in_default.not-Some)
+    (λ i. where_ran (s ≡ asked_run a (link.state_of c.begin.new.works)) c.destroy_scope-ran.result c.destroy_scope-ran.ensures.state i ∙ ap (asked_run a) c.begin.ensures.state) c.ended.ensures

@@ -1,0 +1,85 @@
+//! How a page is opened, up to its first digest.
+ghost use Rattle.std.specs.Prelude.{◌≡◌, ◌<◌, length, IfOk, OnOk, Some, None, if◌then◌else◌};
+ghost use Rattle.ng_app.specs.AppOf.{facts};
+ghost use Rattle.ng_behaviour.specs.Scopes.{path_at, live_at};
+ghost use Rattle.ng_drawing.specs.Template.{Template};
+ghost use Rattle.ng_link.specs.Calls.{left_at};
+ghost use Rattle.ng_link.specs.State.{state_of, templates_of, template_at};
+ghost use Rattle.ng_template.specs.Kept.{templates_of as kept_templates};
+ghost use Rattle.ng_template.specs.TemplateOf.{template_of};
+ghost use Rattle.ng_page.specs.Opening.{prepared, linked_on, opening, AreTexts};
+ghost use Rattle.ng_page.specs.PlaceOf.{WorksAre, PageIs};
+ghost use Rattle.ng_page.specs.Settled.{IsWatched};
+
+use crate::running::run_program;
+use ng_app::App;
+use ng_base::fault::{Fault, Memory};
+use ng_base::name::{ScopeId, TplId};
+use ng_fire::following::follow;
+use ng_link::works::Works;
+use ng_template::{Templates, Tpl};
+use std::alloc::Global;
+
+/// What the application installs and registers on the root, and its first program.
+fn prepare(alloc: Global, app: App, templates: Templates) -> Result<Works, Memory>
+    requires { 0 < length (kept_templates templates) }
+    ensures state { IfOk result (λ w. state_of w ≡ prepared (facts app)) }
+    ensures works { IfOk result WorksAre }
+    ensures bare { IfOk result (λ w. (state_of w).linked ≡ None) }
+    ensures templates { IfOk result (λ w. templates_of w ≡ kept_templates templates) }
+{
+    let (core, run) = app.begin()?;
+    let mut works = Works::new(alloc, core, templates);
+    let end = run_program(&mut works.core, alloc, ScopeId(0), &run);
+    follow(&mut works, alloc, end)?;
+    Ok(works)
+}
+
+/// The sites of a page whose root does not live rest.
+fn rest_on_dead_root(works: &mut Works) -> Result<(), Memory>
+    requires { WorksAre works.old }
+    ensures state { OnOk result (state_of works.new ≡ (if live_at (state_of works.old).core.scopes 0 then state_of works.old else left_at (path_at (state_of works.old).core.scopes 0) (state_of works.old))) }
+    ensures works { OnOk result (WorksAre works.new) }
+{
+    let root = ScopeId(0);
+    if works.core.scopes.is_live(root) {
+        return Ok(());
+    }
+    let path = works.core.scopes.path(root).copied()?;
+    works.leave(&path)
+}
+
+/// Links a page's template on the root scope, and hands the fault over that it meets.
+fn link_page(works: &mut Works, t: TplId) -> Result<(), Memory>
+    requires works { WorksAre works.old }
+    requires first { t.0 ≡ 0 }
+    requires bare { (state_of works.old).linked ≡ None }
+    ensures state { OnOk result ((u : Template) → template_at (templates_of works.old) t.0 ≡ Some u → state_of works.new ≡ linked_on u (state_of works.old)) }
+    ensures works { OnOk result (WorksAre works.new) }
+    ensures watched { OnOk result ((u : Template) → template_at (templates_of works.old) t.0 ≡ Some u → AreTexts u.sites → IsWatched (state_of works.new)) }
+{
+    match works.link(t, ScopeId(0), None, 0) {
+        Ok(_) => {
+            let _in_order = works.watchers().count();
+            rest_on_dead_root(works)
+        }
+        Err(Fault::Memory(memory)) => Err(memory),
+        Err(fault) => {
+            works.hand_over(fault);
+            Ok(())
+        }
+    }
+}
+
+/// The works of a page whose template was linked.
+pub(crate) fn open(alloc: Global, t: Tpl, app: App) -> Result<Works, Memory>
+    requires texts { AreTexts (template_of t).sites }
+    ensures state { IfOk result (λ w. state_of w ≡ opening (facts app) (template_of t)) }
+    ensures page { IfOk result PageIs }
+{
+    let mut templates = Templates::new(alloc);
+    let t = templates.add(None, t)?;
+    let mut works = prepare(alloc, app, templates)?;
+    link_page(&mut works, t)?;
+    Ok(works)
+}

@@ -1,7 +1,0 @@
--- The core before a digest.
-use Rattle.std.specs.Prelude.{None}
-use Rattle.ng_act.specs.State.{State}
-
--- no fault was handed over yet
-abbrev pub untroubled : State → State
-untroubled c = record c { handed = record { count = 0; first = None } }
