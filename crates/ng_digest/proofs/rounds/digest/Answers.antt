@@ -17,5 +17,5 @@ returns g c =
       faulted = why_faulted m.machine run c.requires.log;
       settled = why_settled m.machine run c.requires.log;
       report = why_report m.machine run;
-      holds = c.run.ensures.holds;
+      rests = c.run.ensures.rests;
     }
