@@ -57,9 +57,10 @@ pub(crate) fn do_all<K: Sink>(
     ensures did { (left : Left) → LeavesPage page.old left → DidAll K.taken K.faults sink.old sink.new flags.trace (entries_of commands.now) left page.new result }
     ensures faults { FaultsBy (K.faults sink.old) (K.faults sink.new) result }
 {
+    let list = commands.as_slice();
     let mut number = 0;
     let mut well = true;
-    for command in commands.as_slice() {
+    for command in list {
         number += 1;
         let one = do_one(alloc, sink, page, flags, number, command)?;
         well = well && one;
