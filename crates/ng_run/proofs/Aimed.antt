@@ -1,6 +1,7 @@
 -- What a command is aimed at stands in the document with names where it stands in the document without.
 use Rattle.std.proofs.Common.{◌≡◌, ℕ, Bool, true, false, List, [], ◌∷◌, refl, ap, sym, ◌∙◌, subst}
 use Rattle.std.specs.Prelude.{◌||◌, Option, None, Some, option_map, is_some, if◌then◌else◌}
+use Rattle.ng_base.specs.declared.name.NodeId.{NodeId}
 use Rattle.ng_base.specs.declared.path.Target.{Target}
 use Rattle.ng_base.specs.declared.path.Target.TheVariants as target
 use Rattle.ng_dom.specs.Asked.{has_id, node_with_id, first_with_id, group_with_id, first_of_two}
@@ -14,6 +15,7 @@ use Rattle.ng_page.specs.Targets.{element_name, target_in}
 use Rattle.ng_page.specs.declared.page.Page.{Page}
 use Rattle.ng_script.specs.declared.commands.ScopeOf.TheVariants as scope
 use Rattle.ng_run.specs.Aims.{node_has, has_element, is_element, stands_at, scope_in}
+use Rattle.ng_run.specs.ReplyOf.{IsReady}
 
 or_assoc : (a b c : Bool) → ((a || b) || c) ≡ (a || (b || c))
 or_assoc true b c = refl
@@ -65,3 +67,23 @@ element_named (Some (named_anchor n gs)) = refl
 pub target_stands : (t : Target) (f : NamedForest) → is_some (target_in t f) ≡ stands_at t (plain f)
 target_stands (target.Id id) f = forest_id id f
 target_stands (target.Path p) f = element_named (at_place p f) ∙ ap is_element (sym (places_are_printed p f))
+
+module _ (p : Page) (ready : IsReady p) (t : Target) where
+  abbrev IsFound : Option NodeId → Type 0
+  IsFound o = (f : NamedForest) → Names p f → option_map (λ (n : NodeId). n.made.0) o ≡ target_in t f
+
+  some_name : (o : Option NodeId) → is_some o ≡ is_some (option_map (λ (n : NodeId). n.made.0) o)
+  some_name None = refl
+  some_name (Some n) = refl
+
+  found_stands : (o : Option NodeId) → IsFound o → is_some o ≡ stands_at t (shown (state_of p))
+  found_stands o h =
+      let d = ready.shown in
+      some_name o ∙ (ap is_some (h d.forest d.shown) ∙ (target_stands t d.forest ∙ ap (stands_at t) d.plain))
+
+  -- the scope of an element is the root, and there is none where no element stands
+  pub scope_nowhere : IsFound None → None ≡ scope_in (scope.Node t) (state_of p)
+  scope_nowhere h = ap (λ (b : Bool). if b then Some 0 else None) (found_stands None h)
+
+  pub scope_found : (n : NodeId) → IsFound (Some n) → Some 0 ≡ scope_in (scope.Node t) (state_of p)
+  scope_found n h = ap (λ (b : Bool). if b then Some 0 else None) (found_stands (Some n) h)

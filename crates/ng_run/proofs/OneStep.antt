@@ -1,6 +1,6 @@
 -- A step of a session is one: what it prints, and how it leaves the page.
 use Rattle.std.proofs.Common.{◌≡◌, ℕ, Bool, true, false, List, refl, ap, sym, ◌∙◌, subst}
-use Rattle.std.specs.Prelude.{Option, None, Some, Result, Ok, Err}
+use Rattle.std.specs.Prelude.{codes, Option, None, Some, Result, Ok, Err}
 use Rattle.ng_base.specs.declared.fault.Fault.{Fault}
 use Rattle.ng_behaviour.specs.Scopes.{live_at}
 use Rattle.ng_digest.proofs.One.{digest_one}
@@ -98,5 +98,5 @@ does_one trace k e s x y l m h j = asked_one trace (header k e.shown) (asked_of 
 
 pub opened_one : (trace : Bool) (a : Accepted) (c d : List Entry) (x y : Step) (l m : Left) → OpensPage trace (record a { commands = c }) x l → OpensPage trace (record a { commands = d }) y m → (x ≡ y) × (l ≡ m)
 opened_one trace a c d x y l m h k =
-    let one = printed_one trace _ (opening a.facts a.template) h.outcome k.outcome h.state k.state h.told k.told h.opens k.opens h.took k.took in
+    let one = printed_one trace (codes "# 0 open\n") (opening a.facts a.template) h.outcome k.outcome h.state k.state h.told k.told h.opens k.opens h.took k.took in
     (h.prints ∙ (one.0 ∙ sym k.prints), h.leaves ∙ (one.1 ∙ sym k.leaves))

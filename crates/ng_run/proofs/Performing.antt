@@ -1,5 +1,5 @@
 -- What the call of a page comes to, and the step of a command.
-use Rattle.std.proofs.Common.{◌≡◌, ◌↔◌, ℕ, Bool, true, false, IsTrue, List, refl, ap, sym, ◌∙◌, subst, true≢false}
+use Rattle.std.proofs.Common.{◌≡◌, ◌↔◌, ◌<◌, ℕ, Bool, true, false, IsTrue, List, length, refl, ap, sym, ◌∙◌, subst, true≢false}
 use Rattle.std.specs.Prelude.{Option, None, Some, Result, Ok, Err, option_map}
 use Rattle.ng_base.specs.declared.fault.Memory.{Memory}
 use Rattle.ng_digest.specs.Early.{plain_answer}
@@ -18,7 +18,8 @@ use Rattle.ng_page.specs.declared.outcome.PageFault.{PageFault}
 use Rattle.ng_page.specs.declared.outcome.PageFault.TheVariants as fault
 use Rattle.ng_page.specs.declared.page.Page.{Page}
 use Rattle.ng_script.specs.Acts.{Entry}
-use Rattle.ng_run.specs.Aims.{asked_of}
+use Rattle.ng_script.specs.declared.commands.ScopeOf.{ScopeOf}
+use Rattle.ng_run.specs.Aims.{asked_of, scope_in}
 use Rattle.ng_run.specs.Lines.{header}
 use Rattle.ng_run.specs.Performed.{Answers, IsDone, Performed, IsStepOf}
 use Rattle.ng_run.specs.ReplyOf.{IsReady, LeavesPage, step_seen, told_lines}
@@ -54,6 +55,19 @@ performed a old new (Err fault.Idle) d ready h e = subst (λ x. Performed (Some 
 performed a old new (Err fault.Spent) (Ok d) ready h e = absurd e
 performed a old new (Err fault.Spent) (Err m) ready h e = tt
 performed a old new (Err (fault.Memory n)) d ready h e = subst (λ x. Performed (Some a) old x new) (sym e) tt
+
+-- a call on the scope that a command is aimed at
+module _ (o : ScopeOf) (old : Page) (f : ℕ → Asked) where
+  pub nowhere : None ≡ scope_in o (state_of old) → Performed (option_map f (scope_in o (state_of old))) old (Ok done.Aimless) old
+  nowhere at = subst (λ x. Performed (option_map f x) old (Ok done.Aimless) old) at (refl, refl)
+
+  pub performed_on : (n : ℕ) (new : Page) (r : Result Outcome PageFault) (d : Result Done Memory) → Some n ≡ scope_in o (state_of old) → IsReady old → Commanded (f n) old r new → Answers r d
+      → Performed (option_map f (scope_in o (state_of old))) old d new
+  performed_on n new r d at ready h k = subst (λ x. Performed (option_map f x) old d new) at (performed (f n) old new r d ready h k)
+
+-- the root is among the scopes of a page
+pub root_there : (p : Page) → IsReady p → (n : ℕ) → n ≡ 0 → n < length (state_of p).core.scopes
+root_there p ready n e = subst (λ k. k < length (state_of p).core.scopes) (sym e) (ready.page ready.unspent).works.whole.root
 
 -- ---- what is said of a digest that answered Ok
 

@@ -64,16 +64,16 @@ fn write_page<K: Sink>(alloc: Global, sink: &mut K, opened: Opened) -> Ran
         commands,
         flags,
     } = opened;
-    if put_all(sink, step.piece.as_slice()).is_err() {
-        return ended(7);
-    }
-    match do_all(alloc, sink, &mut page, flags, &commands) {
-        Ok(well) => Ran {
-            status: if step.well && well { 0 } else { 1 },
-            page: Some(page),
+    match put_all(sink, step.piece.as_slice()) {
+        Err(_) => ended(7),
+        Ok(()) => match do_all(alloc, sink, &mut page, flags, &commands) {
+            Ok(well) => Ran {
+                status: if step.well && well { 0 } else { 1 },
+                page: Some(page),
+            },
+            Err(Halt::Put) => ended(7),
+            Err(Halt::Memory) => ended(8),
         },
-        Err(Halt::Put) => ended(7),
-        Err(Halt::Memory) => ended(8),
     }
 }
 
