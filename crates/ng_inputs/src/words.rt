@@ -68,7 +68,8 @@ impl<'a> Partly<'a> {
                 ..self
             }),
             Partly {
-                application: None, ..
+                application: None,
+                ..
             } => Some(Partly {
                 application: Some(name),
                 ..self
