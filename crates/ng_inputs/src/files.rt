@@ -34,7 +34,7 @@ pub struct Inputs {
 
 /// What a fetch brought.
 #[derive(Drop)]
-pub enum Got {
+pub(crate) enum Got {
     Failed,
     TooLong(u64),
     Bytes(Vec<u8>),

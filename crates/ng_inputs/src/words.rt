@@ -1,6 +1,6 @@
 //! The words of a run.
 ghost use Rattle.std.specs.Prelude.{◌≡◌, ◌∷◌, [], option_and_then, option_map};
-ghost use Rattle.ng_inputs.specs.Words.{is_file_name, no_words, with_name as with_name_of, with_flag as with_flag_of, with_word as with_word_of, as_words, words_of};
+ghost use Rattle.ng_inputs.specs.Words.{is_file_name, no_words, with_name as with_name_of, with_flag as with_flag_of, with_word as with_word_of, words_after as words_after_of, as_words, words_of};
 ghost use Rattle.ng_inputs.specs.InputsOf.{partly_seen, words_seen};
 
 use ng_base::reader::Plain;
@@ -60,7 +60,7 @@ impl<'a> Partly<'a> {
 
     /// With one name more: they are those of the template, the application and the script, in this order.
     fn with_name(self, name: &'a Txt) -> Option<Partly<'a>>
-        ensures { option_map partly_seen result ≡ with_name_of name.now (partly_seen self) }
+        ensures { option_map partly_seen result ≡ with_name_of name.now (partly_seen self.entry) }
     {
         match self {
             Partly { template: None, .. } => Some(Partly {
@@ -68,7 +68,8 @@ impl<'a> Partly<'a> {
                 ..self
             }),
             Partly {
-                application: None, ..
+                application: None,
+                ..
             } => Some(Partly {
                 application: Some(name),
                 ..self
@@ -83,7 +84,7 @@ impl<'a> Partly<'a> {
 
     /// With one flag more. Each stands once.
     fn with_flag(self, word: &Txt) -> Option<Partly<'a>>
-        ensures { option_map partly_seen result ≡ with_flag_of word.now (partly_seen self) }
+        ensures { option_map partly_seen result ≡ with_flag_of word.now (partly_seen self.entry) }
     {
         let Flags { trace, is_static } = self.flags;
         let flags = if word.is_word("--trace") && !trace {
@@ -104,7 +105,7 @@ impl<'a> Partly<'a> {
 
     /// With one word more.
     fn with_word(self, word: &'a Txt) -> Option<Partly<'a>>
-        ensures { option_map partly_seen result ≡ with_word_of word.now (partly_seen self) }
+        ensures { option_map partly_seen result ≡ with_word_of word.now (partly_seen self.entry) }
     {
         if names_file(word) {
             self.with_name(word)
@@ -115,7 +116,7 @@ impl<'a> Partly<'a> {
 
     /// All that a run needs, where a template and an application are named.
     fn complete(self) -> Option<Words<'a>>
-        ensures { option_map words_seen result ≡ as_words (partly_seen self) }
+        ensures { option_map words_seen result ≡ as_words (partly_seen self.entry) }
     {
         Some(Words {
             flags: self.flags,
@@ -126,13 +127,20 @@ impl<'a> Partly<'a> {
     }
 }
 
+/// What words from the left ask for, after what those before them ask for.
+fn words_after<'a>(before: Partly<'a>, words: &'a [Txt]) -> Option<Partly<'a>>
+    ensures { option_map partly_seen result ≡ words_after_of (partly_seen before.entry) words.now }
+{
+    let mut partly = before;
+    for word in words {
+        partly = partly.with_word(word)?;
+    }
+    Some(partly)
+}
+
 /// The words of a run, where they are of the form.
 pub fn read_words(words: &[Txt]) -> Option<Words<'_>>
     ensures { option_map words_seen result ≡ words_of words.now }
 {
-    let mut partly = Partly::new();
-    for word in words {
-        partly = partly.with_word(word)?;
-    }
-    partly.complete()
+    words_after(Partly::new(), words)?.complete()
 }
