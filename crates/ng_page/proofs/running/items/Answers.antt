@@ -5,7 +5,6 @@ use Rattle.ng_language.specs.Objects.{items_at}
 use Rattle.ng_page.proofs.Taken.{taken_more, all_more}
 use Rattle.ng_page.proofs.running.items.Goals as goal
 
--- src/lib.rt:23:5
 pub loop-i-preserved : goal.loop-i-preserved
 loop-i-preserved c =
     let there : StandsAmong (length c.args.store.now) c.item.result.now = c.item.ensures.stands in
