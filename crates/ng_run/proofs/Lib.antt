@@ -5,8 +5,8 @@ pub mod Sessions
 pub mod Aimed
 pub mod Performing
 pub mod OpenedPages
-pub mod AllTexts
 pub mod Putting
 pub mod Listing
 pub mod Causes
 pub mod Writing
+pub mod Answering

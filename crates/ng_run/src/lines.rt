@@ -159,7 +159,8 @@ pub(crate) fn probes(alloc: Global, texts: &Words) -> Result<Vec<u8>, Memory>
     ensures { IfOk result (λ v. v.items ≡ probe_lines texts.now) }
 {
     let mut bytes = Vec::new(alloc);
-    for text in texts.as_slice() {
+    let list = texts.as_slice();
+    for text in list {
         push_probe(alloc, &mut bytes, text)?;
     }
     Ok(bytes)
