@@ -1,12 +1,11 @@
 -- What holds of files that are accepted.
 use Rattle.std.proofs.Common.{◌≡◌, ℕ, List, [], false, refl, subst}
-use Rattle.std.specs.Prelude.{Bool, Result, Ok, Err, IfOk}
+use Rattle.std.specs.Prelude.{Result, Ok, Err, IfOk}
 use Rattle.ng_base.specs.Meets.{◌>>=◌}
 use Rattle.ng_app.specs.App.{Facts, facts_of}
 use Rattle.ng_drawing.specs.Template.{Template}
 use Rattle.ng_html.specs.Reading.{read_bytes}
 use Rattle.ng_markup.specs.Forest.{Forest}
-use Rattle.ng_script.specs.Acts.{Entry}
 use Rattle.ng_template.specs.Compiles.{compiled}
 use Rattle.ng_template.specs.declared.fault.TplFault.{TplFault}
 use Rattle.ng_inputs.specs.Acts.{AreSound}

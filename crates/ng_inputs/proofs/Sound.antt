@@ -1,11 +1,10 @@
 -- The commands of a script that was read are sound.
-use Rattle.std.proofs.Common.{◌≡◌, ◌+◌, ℕ, Bool, true, false, List, [], ◌∷◌, ◌++◌, length, refl, Option, Some, None, codes}
+use Rattle.std.proofs.Common.{◌≡◌, ◌+◌, ℕ, true, List, [], ◌∷◌, ◌++◌, length, refl, subst, Option, Some, None}
 use Rattle.std.specs.Prelude.{Result, Ok, Err, IfOk, if◌then◌else◌, is_some, nat_le}
 use Rattle.std.specs.Str.{chars, is_utf8}
 use Rattle.serde_json.specs.Data.{Data}
 use Rattle.serde_json.specs.Find.{as_array}
 use Rattle.ng_base.specs.Meets.{◌>>=◌}
-use Rattle.ng_base.specs.declared.path.Target.{Target}
 use Rattle.ng_language.specs.Trees.{Trees}
 use Rattle.ng_store.proofs.Sound.{all_append}
 use Rattle.ng_view.specs.Purity.{are_pure, all_filters_known}
@@ -158,3 +157,6 @@ unless es (Some f) h = tt
 
 pub commands_sound : (bytes : List ℕ) → IfOk (commands_of bytes) AreSound
 commands_sound bytes = after (script_of bytes) (λ es. unless_later es (first_later es)) AreSound AreSound (script bytes) (λ es h. unless es (first_later es) h)
+
+pub read_sound : (bytes : List ℕ) (es : List Entry) → commands_of bytes ≡ Ok es → AreSound es
+read_sound bytes es e = subst (λ (r : Result (List Entry) ScriptFault). IfOk r AreSound) e (commands_sound bytes)

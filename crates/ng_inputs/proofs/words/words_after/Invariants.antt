@@ -1,4 +1,4 @@
-use Rattle.std.proofs.Common.{◌≡◌, drop, map}
+use Rattle.std.proofs.Common.{◌≡◌, drop}
 use Rattle.ng_inputs.specs.Words.{words_after}
 use Rattle.ng_inputs.specs.InputsOf.{partly_seen}
 use Rattle.ng_inputs.proofs.words.words_after.Given as goal
