@@ -10,3 +10,4 @@ pub mod Listing
 pub mod Causes
 pub mod Writing
 pub mod Answering
+pub mod Printing

@@ -10,9 +10,12 @@ use Rattle.ng_page.specs.PageOf.{state_of}
 use Rattle.ng_page.specs.declared.page.Page.{Page}
 use Rattle.ng_script.specs.Acts.{Entry}
 use Rattle.ng_run.specs.Doing.{steps_bytes, DidOne, HasDone, HasStopped, HasWanted}
+use Rattle.ng_run.specs.Performed.{IsStepOf}
+use Rattle.ng_run.specs.ReplyOf.{step_seen}
 use Rattle.ng_run.specs.Session.{all_well}
 use Rattle.ng_run.specs.Steps.{Left, Does}
 use Rattle.ng_run.specs.declared.doing.Halt.TheVariants as halt
+use Rattle.ng_run.specs.declared.reply.Lines.{Lines}
 use Rattle.ng_run.proofs.Continuing.{continues_more, bytes_more, well_more}
 
 -- a whole was taken, and then a first part
@@ -30,6 +33,14 @@ module _ {K : Type 0} (taken : K → Option (List ℕ)) (faults : K → ℕ) whe
   stops_after old mid new b c h same (at, n, l, k, e, keeps, rose) =
       let all = length-append b c in
       (at, length b + n, omega arith, subst (λ x. Appends (taken old) (taken at) x) (sym (take-append-add b c n)) (Appends-trans (taken old) (taken mid) (taken at) b (take n c) h k), e ∙ same, keeps, rose)
+
+  -- one command
+  module _ (old new : K) (trace : Bool) (k : ℕ) (e : Entry) (before after : Page) (l : Lines) (did : IsStepOf trace k e before l after) where
+    pub one_put : Appends (taken old) (taken new) l.piece.items → DidOne taken faults old new trace k e before after (Ok l.well)
+    one_put put = (step_seen l, did.0, did.1, put, refl, did.2)
+
+    pub one_stopped : TookAll (taken old) (taken new) l.piece.items → StopsAtFailure taken faults old new l.piece.items → DidOne taken faults old new trace k e before after (Err halt.Put)
+    one_stopped part stops = (step_seen l, did.0, did.1, part, stops)
 
   module _ (trace : Bool) (old mid new : K) (es : List Entry) (e : Entry) (left : Left) (page after : Page) (well : Bool) (n : ℕ) (num : n ≡ 1 + length es) (h : HasDone taken old mid trace es left page well) where
     pub did_more : (w : Bool) → DidOne taken faults mid new trace n e page after (Ok w) → HasDone taken old new trace (es ++ e ∷ []) left after (well && w)
