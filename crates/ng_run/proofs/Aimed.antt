@@ -1,16 +1,16 @@
 -- What a command is aimed at stands in the document with names where it stands in the document without.
-use Rattle.std.proofs.Common.{◌≡◌, ℕ, Bool, true, false, List, [], ◌∷◌, refl, ap, sym, ◌∙◌, subst}
+use Rattle.std.proofs.Common.{◌≡◌, ℕ, Bool, true, false, List, refl, ap, sym, ◌∙◌}
 use Rattle.std.specs.Prelude.{◌||◌, Option, None, Some, option_map, is_some, if◌then◌else◌}
 use Rattle.ng_base.specs.declared.name.NodeId.{NodeId}
 use Rattle.ng_base.specs.declared.path.Target.{Target}
 use Rattle.ng_base.specs.declared.path.Target.TheVariants as target
 use Rattle.ng_dom.specs.Asked.{has_id, node_with_id, first_with_id, group_with_id, first_of_two}
 use Rattle.ng_dom.specs.Nodes.{NamedNode, NamedForest, NamedGroups, named_text, named_comment, named_element, named_anchor, nothing_named, named_then, no_groups, group_then, followed_by, plain_node, plain, plain_groups}
-use Rattle.ng_dom.specs.Printed.{at_place, plain_node_of, plain_at}
+use Rattle.ng_dom.specs.Printed.{at_place, plain_node_of}
 use Rattle.ng_dom.proofs.Standing.{places_are_printed}
 use Rattle.ng_link.specs.State.{shown}
 use Rattle.ng_markup.specs.Forest.{Forest, no_nodes, node}
-use Rattle.ng_page.specs.PageOf.{state_of, Displays, Names}
+use Rattle.ng_page.specs.PageOf.{state_of, Names}
 use Rattle.ng_page.specs.Targets.{element_name, target_in}
 use Rattle.ng_page.specs.declared.page.Page.{Page}
 use Rattle.ng_script.specs.declared.commands.ScopeOf.TheVariants as scope

@@ -1,9 +1,8 @@
 -- Replies of the code, as what is called for.
-use Rattle.std.proofs.Common.{◌≡◌, refl, ap, sym, ◌∙◌, subst}
-use Rattle.std.specs.Prelude.{ℕ, Bool, List, Result, Ok, Err}
-use Rattle.ng_inputs.specs.Files.{File, Inputs, Telling, Fetched, Fetches, files_of, no_inputs}
+use Rattle.std.proofs.Common.{◌≡◌, refl, sym, subst}
+use Rattle.std.specs.Prelude.{Bool, Ok, Err}
+use Rattle.ng_inputs.specs.Files.{Inputs}
 use Rattle.ng_inputs.specs.Refusals.{Accepted, accepted}
-use Rattle.ng_inputs.specs.Words.{Words, words_of}
 use Rattle.ng_inputs.specs.declared.refusal.Refusal.{Refusal}
 use Rattle.ng_run.specs.ReplyOf.{IsLine, IsPageTo, IsReplyTo}
 use Rattle.ng_run.specs.Session.{Extent, Runs, SessionOf, SessionWithin}

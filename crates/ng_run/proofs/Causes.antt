@@ -1,15 +1,13 @@
 -- What a reply says of the words, the fetches and the files.
 use Rattle.std.proofs.Common.{◌≡◌, ◌≢◌, ℕ, Bool, true, false, List, refl, ap, sym, ◌∙◌, subst, Option, Some, None, arith, inl, inr}
 use Rattle.std.specs.Prelude.{◌⊎◌, ◌↔◌, Result, Ok, Err, if◌then◌else◌}
-use Rattle.ng_page.specs.declared.page.Page.{Page}
 use Rattle.ng_inputs.specs.Files.{File, Inputs, Telling, Fetched, brought, unread, overlong, Fetches, files_of, no_inputs, FetchFailed, LongFile}
 use Rattle.ng_inputs.specs.Refusals.{Accepted, accepted, refusal_status}
 use Rattle.ng_inputs.specs.Words.{Words}
 use Rattle.ng_inputs.specs.declared.refusal.Refusal.{Refusal}
 use Rattle.ng_inputs.specs.declared.refusal.Refusal.TheVariants.{Document, Application, Template, Script}
 use Rattle.ng_inputs.proofs.Fetching.{tells_brought, unread_failed, IsUnread, failed_unread, overlong_long, IsOverlong, long_overlong}
-use Rattle.ng_run.specs.ReplyOf.{Leaves}
-use Rattle.ng_run.specs.Run.{is_traced, TellsAll, StepsEnd, SessionCauses, Causes, HasPage}
+use Rattle.ng_run.specs.Run.{is_traced, TellsAll, StepsEnd, SessionCauses, Causes}
 use Rattle.ng_run.specs.Session.{Reply, all_well, Extent, whole, Runs, SessionOf, SessionWithin, Session, FetchedReply, Replies}
 use Rattle.ng_run.specs.Steps.{Left, Step, RunsSteps}
 use Rattle.ng_run.proofs.Sessions.{steps_one}

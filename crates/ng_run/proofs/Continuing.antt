@@ -1,7 +1,6 @@
 -- Steps of commands that are done one after another.
 use Rattle.std.proofs.Common.{◌≡◌, ◌+◌, ℕ, zero, suc, Bool, List, [], ◌∷◌, ◌++◌, length, take, refl, ap, sym, ◌∙◌, subst, arith, append-nil, append_assoc}
 use Rattle.std.specs.Prelude.{◌&&◌, true, false}
-use Rattle.std.specs.List.{concat}
 use Rattle.ng_script.specs.Acts.{Entry}
 use Rattle.ng_run.specs.Doing.{steps_bytes}
 use Rattle.ng_run.specs.Session.{Extent, whole, first, within, all_well}

@@ -1,10 +1,10 @@
 -- The commands of a script, one after another.
-use Rattle.std.proofs.Common.{◌≡◌, ◌+◌, ◌<◌, ◌≤◌, ℕ, zero, suc, Bool, List, [], ◌∷◌, ◌++◌, map, length, take, get_or, refl, ap, sym, ◌∙◌, subst, arith, length-map}
+use Rattle.std.proofs.Common.{◌≡◌, ◌+◌, ◌<◌, ◌≤◌, ℕ, zero, suc, Bool, List, [], ◌∷◌, ◌++◌, map, length, take, get_or, ap, sym, ◌∙◌, subst, arith}
 use Rattle.std.specs.Prelude.{◌&&◌, Option, Ok, Err}
-use Rattle.std.proofs.lemmas.List.{take_more, get_or-map, take_all, length-take-le}
+use Rattle.std.proofs.lemmas.List.{take_more, get_or-map, take_all, length-take-le, length-map}
 use Rattle.ng_inputs.specs.Acts.{IsSound, AreSound}
 use Rattle.ng_page.specs.declared.page.Page.{Page}
-use Rattle.ng_script.specs.Acts.{Entry, act_of, entry_of}
+use Rattle.ng_script.specs.Acts.{act_of, entry_of}
 use Rattle.ng_script.specs.declared.commands.Command.{Command}
 use Rattle.ng_run.specs.Doing.{FaultsBy, DidOne, HasDone, HasStopped, DidAll}
 use Rattle.ng_run.specs.Steps.{Left}

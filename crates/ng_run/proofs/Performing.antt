@@ -1,11 +1,11 @@
 -- What the call of a page comes to, and the step of a command.
-use Rattle.std.proofs.Common.{◌≡◌, ◌↔◌, ◌<◌, ℕ, Bool, true, false, IsTrue, List, length, refl, ap, sym, ◌∙◌, subst, true≢false}
+use Rattle.std.proofs.Common.{◌≡◌, ◌<◌, ℕ, Bool, true, false, IsTrue, List, length, refl, ap, sym, subst, true≢false}
 use Rattle.std.specs.Prelude.{Option, None, Some, Result, Ok, Err, option_map}
 use Rattle.ng_base.specs.declared.fault.Memory.{Memory}
 use Rattle.ng_digest.specs.Early.{plain_answer}
 use Rattle.ng_digest.specs.declared.log.Report.{Report}
 use Rattle.ng_digest.specs.declared.rounds.DigestFault.{DigestFault}
-use Rattle.ng_link.specs.State.{State, rendering}
+use Rattle.ng_link.specs.State.{rendering}
 use Rattle.ng_page.specs.Answered.{WhenOk}
 use Rattle.ng_page.specs.Commands.{Asked, is_idle}
 use Rattle.ng_page.specs.Commanded.{Commanded}
@@ -21,9 +21,9 @@ use Rattle.ng_script.specs.Acts.{Entry}
 use Rattle.ng_script.specs.declared.commands.ScopeOf.{ScopeOf}
 use Rattle.ng_run.specs.Aims.{asked_of, scope_in}
 use Rattle.ng_run.specs.Lines.{header}
-use Rattle.ng_run.specs.Performed.{Answers, IsDone, Performed, IsStepOf}
+use Rattle.ng_run.specs.Performed.{Answers, Performed, IsStepOf}
 use Rattle.ng_run.specs.ReplyOf.{IsReady, LeavesPage, step_seen, told_lines}
-use Rattle.ng_run.specs.Steps.{Left, is_digested, step_of, left_by, idle_step, aimless_step, same_page, IsTrace, DoesUnlessIdle, DoesAsked}
+use Rattle.ng_run.specs.Steps.{is_digested, step_of, left_by, idle_step, aimless_step, same_page, IsTrace, DoesUnlessIdle, DoesAsked}
 use Rattle.ng_run.specs.declared.commands.Done.{Done}
 use Rattle.ng_run.specs.declared.commands.Done.TheVariants as done
 use Rattle.ng_run.specs.declared.reply.Lines.{Lines}

@@ -6,7 +6,7 @@ use Rattle.ng_base.specs.Meets.{Gives}
 use Rattle.ng_base.specs.declared.fault.Fault.{Fault}
 use Rattle.ng_base.specs.declared.fault.Memory.{Memory}
 use Rattle.ng_base.specs.declared.fault.Fault.TheVariants as faults
-use Rattle.ng_drawing.specs.Drawing.{Rendered, shown_as}
+use Rattle.ng_drawing.specs.Drawing.{Rendered}
 use Rattle.ng_html.specs.Seen.{forest_of}
 use Rattle.ng_html.specs.declared.forest.Forest as code
 use Rattle.ng_link.specs.State.{shown, rendering}

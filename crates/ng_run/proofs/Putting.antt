@@ -1,18 +1,16 @@
 -- Steps that are put one after another.
-use Rattle.std.proofs.Common.{◌≡◌, ◌+◌, ◌≤◌, ℕ, Bool, List, [], ◌∷◌, ◌++◌, length, take, refl, ap, sym, ◌∙◌, subst, arith, append-nil, length-append}
+use Rattle.std.proofs.Common.{◌≡◌, ◌+◌, ℕ, Bool, List, [], ◌∷◌, ◌++◌, length, take, refl, ap, sym, ◌∙◌, subst, arith, append-nil, length-append}
 use Rattle.std.specs.Prelude.{◌&&◌, Option, Ok, Err}
 use Rattle.std.specs.Io.KnownBytes.{Appends}
 use Rattle.std.proofs.KnownBytes.{Appends-trans}
 use Rattle.std.proofs.Math.Seq.{take-append-add}
 use Rattle.std.proofs.lemmas.List.{take_all}
 use Rattle.ng_base.specs.Outside.{TookAll, StopsAtFailure}
-use Rattle.ng_page.specs.PageOf.{state_of}
 use Rattle.ng_page.specs.declared.page.Page.{Page}
 use Rattle.ng_script.specs.Acts.{Entry}
 use Rattle.ng_run.specs.Doing.{steps_bytes, DidOne, HasDone, HasStopped, HasWanted}
 use Rattle.ng_run.specs.Performed.{IsStepOf}
 use Rattle.ng_run.specs.ReplyOf.{step_seen}
-use Rattle.ng_run.specs.Session.{all_well}
 use Rattle.ng_run.specs.Steps.{Left, Does}
 use Rattle.ng_run.specs.declared.doing.Halt.TheVariants as halt
 use Rattle.ng_run.specs.declared.reply.Lines.{Lines}

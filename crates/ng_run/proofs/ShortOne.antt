@@ -1,7 +1,7 @@
 -- The digest that stops early has one report.
 use Rattle.std.proofs.Common.{◌≡◌, ◌≢◌, Bool, true, false, refl, sym, ap, ◌∙◌, subst, arith, Ok, true≢false}
 use Rattle.ng_digest.specs.Log.{report_of}
-use Rattle.ng_digest.specs.Machine.{Machine, found_dirty}
+use Rattle.ng_digest.specs.Machine.{Machine}
 use Rattle.ng_digest.specs.Place.{Place, after_fire, closed, is_dirty}
 use Rattle.ng_digest.specs.Short.{Drains, drained, too_many, ran_one, Skips, none_above, at_remembered, at_dirty, passed_by, Walks, walked_through, walk_stopped, walk_limited, fired_one, IsWhole, came_to_end, cut_short, Round, many_tasks, many_fires, closed_clean, closed_dirty, Rounds, last_is_clean, over_fires, over_tasks, eleventh_is_dirty, one_more, Digests, gives_report}
 use Rattle.ng_digest.specs.declared.log.Report.{Report}

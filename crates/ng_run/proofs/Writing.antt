@@ -1,18 +1,18 @@
 -- What was put of a reply.
-use Rattle.std.proofs.Common.{◌≡◌, ◌≢◌, ℕ, Bool, true, false, List, [], ◌∷◌, ◌++◌, refl, ap, sym, ◌∙◌, subst, Option, Some, None, arith, append-nil}
+use Rattle.std.proofs.Common.{◌≡◌, ◌≢◌, ℕ, Bool, true, false, List, [], ◌∷◌, ◌++◌, refl, ap, sym, subst, Option, Some, None, arith, append-nil}
 use Rattle.std.specs.Prelude.{◌&&◌, if◌then◌else◌}
 use Rattle.std.specs.Io.KnownBytes.{Appends}
 use Rattle.std.proofs.KnownBytes.{Appends-trans, Appends-nil}
 use Rattle.ng_base.specs.Outside.{TookAll, StopsAtFailure}
 use Rattle.ng_page.specs.declared.page.Page.{Page}
 use Rattle.ng_script.specs.Acts.{entries_of}
-use Rattle.ng_inputs.specs.Files.{Inputs, Telling}
+use Rattle.ng_inputs.specs.Files.{Telling}
 use Rattle.ng_inputs.specs.Words.{Words}
 use Rattle.ng_run.specs.Doing.{steps_bytes, HasDone, HasStopped, HasWanted, WritesPage}
-use Rattle.ng_run.specs.ReplyOf.{LeavesPage, Leaves, step_seen}
-use Rattle.ng_run.specs.Run.{Puts, Writes, IsSession, RunsSession, is_traced, TellsAll}
-use Rattle.ng_run.specs.Session.{Reply, reply_bytes, steps_status, done, Extent, whole, first, within, SessionWithin, Session, Replies}
-use Rattle.ng_run.specs.Steps.{Left, Step, Continues}
+use Rattle.ng_run.specs.ReplyOf.{step_seen}
+use Rattle.ng_run.specs.Run.{Puts, Writes, RunsSession, is_traced}
+use Rattle.ng_run.specs.Session.{Reply, reply_bytes, done, Extent, whole, first, within, SessionWithin, Replies}
+use Rattle.ng_run.specs.Steps.{Left}
 use Rattle.ng_run.specs.declared.reply.Opened.{Opened}
 use Rattle.ng_run.proofs.Causes.{reply_session}
 use Rattle.ng_run.proofs.Putting.{took_after, took_whole, stops_after}
@@ -66,11 +66,14 @@ module _ {K : Type 0} (taken : K → Option (List ℕ)) (faults : K → ℕ) whe
     )
 
     module _ (put : Appends (taken old) (taken mid) o.step.piece.items) where
-      not_seven : (b : Bool) → (if b then 0 else 1) ≡ 7 → ⊥
+      abbrev by_well : Bool → ℕ
+      by_well b = if b then 0 else 1
+
+      not_seven : (b : Bool) → by_well b ≡ 7 → ⊥
       not_seven true e = omega (arith, e)
       not_seven false e = omega (arith, e)
 
-      pub all_put : (well : Bool) (page : Page) → HasDone taken mid new o.flags.trace (entries_of o.commands) left page well → WritesPage taken faults old new (if o.step.well && well then 0 else 1) (Some page) o left
+      pub all_put : (well : Bool) (page : Page) → HasDone taken mid new o.flags.trace (entries_of o.commands) left page well → WritesPage taken faults old new (by_well (o.step.well && well)) (Some page) o left
       all_put well page h =
           let bytes : Appends (taken old) (taken new) (o.step.piece.items ++ steps_bytes h.steps) = Appends-trans (taken old) (taken mid) (taken new) o.step.piece.items (steps_bytes h.steps) put h.put in (
             whole,
@@ -82,7 +85,7 @@ module _ {K : Type 0} (taken : K → Option (List ℕ)) (faults : K → ℕ) whe
               bytes = λ _. bytes;
               stopped = λ e. absurd (not_seven (o.step.well && well) e);
               extent = λ _ _. refl;
-              answer = λ _ _. ap (λ b. if o.step.well && b then 0 else 1) (sym h.good);
+              answer = λ _ _. ap (λ b. by_well (o.step.well && b)) (sym h.good);
               left = λ _ _. h.leaves;
             },
           )

@@ -1,7 +1,6 @@
 -- What the code makes of one command.
 use Rattle.std.specs.Prelude.{◌≡◌, ℕ, Bool, true, false, Option, None, Some, Result, Ok, Err}
 use Rattle.ng_base.specs.declared.fault.Memory.{Memory}
-use Rattle.ng_link.specs.State.{State, shown}
 use Rattle.ng_page.specs.Answered.{WhenOk}
 use Rattle.ng_page.specs.Commands.{Asked, is_idle}
 use Rattle.ng_page.specs.OutcomeOf.{outcome_of}

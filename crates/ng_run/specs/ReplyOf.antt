@@ -1,8 +1,5 @@
 -- What the values of the code stand for.
-use Rattle.std.specs.Prelude.{◌≡◌, ℕ, IsTrue, Bool, true, false, List, [], ◌∷◌, Option, None, Some, option_map, Result, Ok, Err}
-use Rattle.std.specs.declared.vec.Vec.{Vec}
-use Rattle.ng_app.specs.AppOf.{facts}
-use Rattle.ng_base.specs.declared.txt.Txt.{Txt}
+use Rattle.std.specs.Prelude.{◌≡◌, ℕ, IsTrue, Bool, true, false, List, [], ◌∷◌, Option, None, Some, Result, Ok, Err}
 use Rattle.ng_digest.specs.declared.log.Report.{Report}
 use Rattle.ng_digest.specs.declared.rounds.DigestFault.{DigestFault}
 use Rattle.ng_drawing.specs.Drawing.{shown_as}
@@ -11,29 +8,15 @@ use Rattle.ng_page.specs.PageOf.{state_of, IsPage, Displays}
 use Rattle.ng_page.specs.Settled.{IsSettled}
 use Rattle.ng_page.specs.declared.page.Page.{Page}
 use Rattle.ng_script.specs.Acts.{entries_of}
-use Rattle.ng_template.specs.TemplateOf.{template_of}
 use Rattle.ng_inputs.specs.Acts.{AreSound}
-use Rattle.ng_inputs.specs.Files as files
 use Rattle.ng_run.specs.Lines.{trace_line}
-use Rattle.ng_inputs.specs.Refusals as refusals
 use Rattle.ng_run.specs.Session.{Extent, within, done}
 use Rattle.ng_run.specs.Session as session
 use Rattle.ng_run.specs.Steps.{Left, Step, Continues}
-use Rattle.ng_inputs.specs.Words as words
-use Rattle.ng_inputs.specs.declared.files.File.{File}
-use Rattle.ng_inputs.specs.declared.files.Inputs.{Inputs}
-use Rattle.ng_inputs.specs.declared.files.Got.{Got}
-use Rattle.ng_inputs.specs.declared.files.Got.TheVariants as got
-use Rattle.ng_inputs.specs.declared.files.Fetched.{Fetched}
-use Rattle.ng_inputs.specs.declared.files.Fetched.TheVariants as fetched
-use Rattle.ng_inputs.specs.declared.refusal.Accepted.{Accepted}
 use Rattle.ng_run.specs.declared.reply.Lines.{Lines}
 use Rattle.ng_run.specs.declared.reply.Opened.{Opened}
 use Rattle.ng_run.specs.declared.reply.Reply.{Reply}
 use Rattle.ng_run.specs.declared.reply.Reply.TheVariants as reply
-use Rattle.ng_inputs.specs.declared.words.Flags.{Flags}
-use Rattle.ng_inputs.specs.declared.words.Partly.{Partly}
-use Rattle.ng_inputs.specs.declared.words.Words.{Words}
 
 abbrev pub step_seen : Lines → Step
 step_seen l = record { lines = l.piece.items; well = l.well }

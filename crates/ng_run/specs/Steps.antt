@@ -1,5 +1,5 @@
 -- The steps of a session: what each prints, and how it leaves the page.
-use Rattle.std.specs.Prelude.{ℕ, ◌≡◌, ◌+◌, Bool, true, false, List, [], ◌∷◌, ◌++◌, codes, Option, None, Some, Result, Ok, Err}
+use Rattle.std.specs.Prelude.{ℕ, ◌≡◌, ◌+◌, Bool, true, false, List, [], ◌∷◌, ◌++◌, codes, Option, None, Some, Ok, Err}
 use Rattle.ng_base.specs.declared.fault.Fault.{Fault}
 use Rattle.ng_digest.specs.declared.log.Report.{Report}
 use Rattle.ng_drawing.specs.Drawing.{Rendered}
