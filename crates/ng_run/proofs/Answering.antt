@@ -1,11 +1,12 @@
 -- Replies of the code, as what is called for.
 use Rattle.std.proofs.Common.{◌≡◌, refl, sym, subst}
-use Rattle.std.specs.Prelude.{Bool, Ok, Err}
-use Rattle.ng_inputs.specs.Files.{Inputs}
+use Rattle.std.specs.Prelude.{ℕ, Bool, List, Option, Some, Result, Ok, Err, IfOk}
+use Rattle.ng_inputs.specs.Files.{File, Inputs, Telling, files_of}
 use Rattle.ng_inputs.specs.Refusals.{Accepted, accepted}
+use Rattle.ng_inputs.specs.Words.{Words}
 use Rattle.ng_inputs.specs.declared.refusal.Refusal.{Refusal}
 use Rattle.ng_run.specs.ReplyOf.{IsLine, IsPageTo, IsReplyTo}
-use Rattle.ng_run.specs.Session.{Extent, Runs, SessionOf, SessionWithin}
+use Rattle.ng_run.specs.Session.{Extent, Runs, SessionOf, SessionWithin, FilesReply, Replies}
 use Rattle.ng_run.specs.Session as session
 use Rattle.ng_run.specs.declared.reply.Opened.{Opened}
 use Rattle.ng_run.specs.declared.reply.Reply.{Reply}
@@ -31,3 +32,11 @@ page_session trace i a o is h = page_to (λ e q. Runs e trace a q) (λ e q. Sess
 -- and the line of a refusal is that of the files
 pub refused_session : (trace : Bool) (i : Inputs) (f : Refusal) (r : Reply) → accepted i ≡ Err f → IsLine r (session.refused f) → IsReplyTo (λ e q. SessionWithin e trace i q) r
 refused_session trace i f r is line = line_to (λ e q. SessionWithin e trace i q) r (session.refused f) line (λ e. subst (λ c. SessionOf e trace c (session.refused f)) (sym is) refl)
+
+-- what the files of words call for the words call for
+pub words_reply : (ws : Option Words) (w : Words) (fs : List File) (told : Telling) (before now : List (List ℕ)) → Some w ≡ ws → fs ≡ files_of w → (e : Extent) (q : session.Reply) → FilesReply e w.flags.trace fs told before now q → Replies e ws told before now q
+words_reply ws w fs told before now is same e q h = subst (λ o. Replies e o told before now q) is (subst (λ f. FilesReply e w.flags.trace f told before now q) same h)
+
+pub if_ok : {A E : Type 0} (P Q : A → Type 0) (r : Result A E) → ((x : A) → P x → Q x) → IfOk r P → IfOk r Q
+if_ok P Q (Ok x) f h = f x h
+if_ok P Q (Err e) f h = tt

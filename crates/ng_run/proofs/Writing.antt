@@ -1,5 +1,5 @@
 -- What was put of a reply.
-use Rattle.std.proofs.Common.{◌≡◌, ◌≢◌, ℕ, Bool, true, false, List, [], ◌∷◌, ◌++◌, refl, ap, sym, subst, Option, Some, None, arith, append-nil}
+use Rattle.std.proofs.Common.{◌≡◌, ◌≢◌, ℕ, Bool, true, false, List, [], ◌∷◌, ◌++◌, refl, ap, sym, ◌∙◌, subst, Option, Some, None, Err, arith, append-nil}
 use Rattle.std.specs.Prelude.{◌&&◌, if◌then◌else◌}
 use Rattle.std.specs.Io.KnownBytes.{Appends}
 use Rattle.std.proofs.KnownBytes.{Appends-trans, Appends-nil}
@@ -8,13 +8,15 @@ use Rattle.ng_page.specs.declared.page.Page.{Page}
 use Rattle.ng_script.specs.Acts.{entries_of}
 use Rattle.ng_inputs.specs.Files.{Telling}
 use Rattle.ng_inputs.specs.Words.{Words}
-use Rattle.ng_run.specs.Doing.{steps_bytes, HasDone, HasStopped, HasWanted, WritesPage}
+use Rattle.ng_run.specs.Doing.{steps_bytes, HasDone, HasStopped, HasWanted, DidAll, WritesPage}
 use Rattle.ng_run.specs.ReplyOf.{step_seen}
-use Rattle.ng_run.specs.Run.{Puts, Writes, RunsSession, is_traced}
+use Rattle.ng_run.specs.Run.{Puts, Writes, RunsSession, is_traced, Causes, HasPage}
 use Rattle.ng_run.specs.Session.{Reply, reply_bytes, done, Extent, whole, first, within, SessionWithin, Replies}
 use Rattle.ng_run.specs.Steps.{Left}
+use Rattle.ng_run.specs.declared.doing.Halt.{Halt}
+use Rattle.ng_run.specs.declared.doing.Halt.TheVariants as halt
 use Rattle.ng_run.specs.declared.reply.Opened.{Opened}
-use Rattle.ng_run.proofs.Causes.{reply_session}
+use Rattle.ng_run.proofs.Causes.{reply_session, reply_causes, reply_left}
 use Rattle.ng_run.proofs.Putting.{took_after, took_whole, stops_after}
 use Rattle.ng_run.proofs.Sessions.{session_took}
 
@@ -117,6 +119,17 @@ module _ {K : Type 0} (taken : K → Option (List ℕ)) (faults : K → ℕ) whe
             },
           )
 
+      -- a put failed, or memory was refused, at some command
+      pub stopped_at : (h : Halt) (page : Page) → h ≡ halt.Put → DidAll taken faults mid new o.flags.trace (entries_of o.commands) left page (Err h) → faults mid ≡ faults old → WritesPage taken faults old new 7 None o left
+      stopped_at h page is d same = let at = subst (λ k. DidAll taken faults mid new o.flags.trace (entries_of o.commands) left page (Err k)) is d in some_stopped (first at.0) at.1 same
+
+      pub wanted_at : (h : Halt) (page : Page) → h ≡ halt.Memory → DidAll taken faults mid new o.flags.trace (entries_of o.commands) left page (Err h) → WritesPage taken faults old new 8 None o left
+      wanted_at h page is d = let at = subst (λ k. DidAll taken faults mid new o.flags.trace (entries_of o.commands) left page (Err k)) is d in some_wanted (first at.0) at.1
+
+  -- a run that ended so
+  pub ended_so : (old new : K) (o : Opened) (left : Left) (status n : ℕ) (page : Option Page) → status ≡ n → page ≡ None → WritesPage taken faults old new n None o left → WritesPage taken faults old new status page o left
+  ended_so old new o left status n page e f h = subst (λ s. WritesPage taken faults old new s page o left) (sym e) (subst (λ p. WritesPage taken faults old new n p o left) (sym f) h)
+
   -- ---- the session
 
   module _ (old new : K) (status : ℕ) (page : Option Page) (words : Option Words) (told : Telling) (before now : List (List ℕ)) where
@@ -127,6 +140,18 @@ module _ {K : Type 0} (taken : K → Option (List ℕ)) (faults : K → ℕ) whe
           part = λ q h. session_took e (is_traced words) i r q (taken old) (taken new) is h puts.part;
           whole = λ n m. (r, subst (λ x. SessionWithin x (is_traced words) i r) (puts.extent n m) is, puts.bytes n, puts.answer n m, puts.left n m);
         }
+
+    pub writes_causes : Writes taken faults old new status page (λ e r. Replies e words told before now r) → status ≢ 7 → status ≢ 8 → Causes words told before now status
+    writes_causes (e, r, calls, puts) n m = subst (λ k. Causes words told before now k) (sym (puts.answer n m)) (reply_causes e words told before now r (puts.extent n m) calls)
+
+    -- a line leaves no page
+    pub line_page : (s : ℕ) (piece : List ℕ) → Replies whole words told before now (line_reply s piece) → Puts taken faults old new status page whole (line_reply s piece) → page ≡ None → HasPage status page
+    line_page s piece calls puts none =
+        let left = reply_left whole words told before now (line_reply s piece) calls in
+        subst (λ p. HasPage status p) (sym none) (
+          (λ e. left.0 (sym (puts.answer (λ k. omega (arith, e, k)) (λ k. omega (arith, e, k))) ∙ e)),
+          (λ e. left.1 (sym (puts.answer (λ k. omega (arith, e, k)) (λ k. omega (arith, e, k))) ∙ e)),
+        )
 
     -- memory was refused before anything was written
     pub none_session : status ≡ 8 → taken new ≡ taken old → RunsSession taken old new status page words told before now

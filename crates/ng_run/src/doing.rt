@@ -1,5 +1,5 @@
 //! The commands of a script, done over a sink.
-ghost use Rattle.std.specs.Prelude.{◌≡◌, IfOk};
+ghost use Rattle.std.specs.Prelude.{◌≡◌, ◌&&◌};
 ghost use Rattle.ng_inputs.specs.Acts.{AreSound, IsSound};
 ghost use Rattle.ng_script.specs.Acts.{act_of, entry_of, entries_of};
 ghost use Rattle.ng_run.specs.Doing.{DidOne, DidAll, FaultsBy};
@@ -44,6 +44,13 @@ fn do_one<K: Sink>(
     }
 }
 
+/// Whether both went well.
+fn both(first: bool, second: bool) -> bool
+    ensures { result ≡ (first && second) }
+{
+    first && second
+}
+
 /// Does the commands of a script one after another, and puts the step of each. Tells whether all went well in them.
 pub(crate) fn do_all<K: Sink>(
     alloc: Global,
@@ -62,8 +69,10 @@ pub(crate) fn do_all<K: Sink>(
     let mut well = true;
     for command in list {
         number += 1;
-        let one = do_one(alloc, sink, page, flags, number, command)?;
-        well = well && one;
+        match do_one(alloc, sink, page, flags, number, command) {
+            Ok(one) => well = both(well, one),
+            Err(halt) => return Err(halt),
+        }
     }
     Ok(well)
 }

@@ -1,14 +1,13 @@
 //! The top call.
-ghost use Rattle.std.specs.Prelude.{◌≡◌, ◌≢◌, None};
-ghost use Rattle.std.specs.Io.KnownBytes.{Appends};
-ghost use Rattle.ng_base.specs.Outside.{Rose, TookAll, StopsAtFailure};
+ghost use Rattle.std.specs.Prelude.{◌≡◌, ◌≢◌, ◌&&◌, ◌∷◌, [], None, if◌then◌else◌};
+ghost use Rattle.ng_base.specs.Outside.{Rose};
 ghost use Rattle.ng_inputs.specs.Acts.{AreSound};
 ghost use Rattle.ng_inputs.specs.Words.{words_of};
 ghost use Rattle.ng_script.specs.Acts.{entries_of};
 ghost use Rattle.ng_run.specs.Doing.{WritesPage};
 ghost use Rattle.ng_run.specs.ReplyOf.{IsReady, LeavesPage};
-ghost use Rattle.ng_run.specs.Run.{Writes, WritesSteps, RunsSession, Causes, HasPage};
-ghost use Rattle.ng_run.specs.Session.{Replies};
+ghost use Rattle.ng_run.specs.Run.{Puts, Writes, WritesSteps, RunsSession, Causes, HasPage};
+ghost use Rattle.ng_run.specs.Session.{Replies, whole};
 ghost use Rattle.ng_run.specs.Steps.{Left};
 
 use crate::answer::answer;
@@ -37,8 +36,7 @@ fn ended(status: u8) -> Ran
 /// Writes a reply of one line.
 fn write_line<K: Sink>(sink: &mut K, status: u8, piece: &[u8]) -> Ran
     requires { status ≢ 7 }
-    ensures put { result.status ≢ 7 → (result.status ≡ status) × Appends (K.taken sink.old) (K.taken sink.new) piece.now }
-    ensures part { result.status ≡ 7 → TookAll (K.taken sink.old) (K.taken sink.new) piece.now × StopsAtFailure K.taken K.faults sink.old sink.new piece.now }
+    ensures put { Puts K.taken K.faults sink.old sink.new result.status result.page whole (record { status = status; pieces = piece.now ∷ []; page = None }) }
     ensures put_failed { result.status ≡ 7 → Rose (K.faults sink.old) (K.faults sink.new) }
     ensures no_fault { result.status ≢ 7 → K.faults sink.new ≡ K.faults sink.old }
     ensures page { result.page ≡ None }
@@ -47,6 +45,13 @@ fn write_line<K: Sink>(sink: &mut K, status: u8, piece: &[u8]) -> Ran
         Ok(()) => ended(status),
         Err(_) => ended(7),
     }
+}
+
+/// The status of steps, by whether all went well in the first and in the others.
+fn steps_status(first: bool, others: bool) -> u8
+    ensures { result ≡ (if first && others then 0 else 1) }
+{
+    if first && others { 0 } else { 1 }
 }
 
 /// Writes the steps of a page, and does its commands.
@@ -68,7 +73,7 @@ fn write_page<K: Sink>(alloc: Global, sink: &mut K, opened: Opened) -> Ran
         Err(_) => ended(7),
         Ok(()) => match do_all(alloc, sink, &mut page, flags, &commands) {
             Ok(well) => Ran {
-                status: if step.well && well { 0 } else { 1 },
+                status: steps_status(step.well, well),
                 page: Some(page),
             },
             Err(Halt::Put) => ended(7),
