@@ -9,7 +9,7 @@ use Rattle.ng_script.specs.Acts.{entries_of}
 use Rattle.ng_inputs.specs.Files.{Telling}
 use Rattle.ng_inputs.specs.Words.{Words}
 use Rattle.ng_run.specs.Doing.{steps_bytes, HasDone, HasStopped, HasWanted, DidAll, WritesPage}
-use Rattle.ng_run.specs.ReplyOf.{step_seen}
+use Rattle.ng_run.specs.ReplyOf.{step_seen, IsPageTo}
 use Rattle.ng_run.specs.Run.{Puts, Writes, RunsSession, is_traced, Causes, HasPage}
 use Rattle.ng_run.specs.Session.{Reply, reply_bytes, done, Extent, whole, first, within, SessionWithin, Replies}
 use Rattle.ng_run.specs.Steps.{Left}
@@ -20,11 +20,11 @@ use Rattle.ng_run.proofs.Causes.{reply_session, reply_causes, reply_left}
 use Rattle.ng_run.proofs.Putting.{took_after, took_whole, stops_after}
 use Rattle.ng_run.proofs.Sessions.{session_took}
 
+abbrev pub line_reply : ℕ → List ℕ → Reply
+line_reply status piece = record { status = status; pieces = piece ∷ []; page = None }
+
 module _ {K : Type 0} (taken : K → Option (List ℕ)) (faults : K → ℕ) where
   -- ---- a reply of one line
-
-  abbrev line_reply : ℕ → List ℕ → Reply
-  line_reply status piece = record { status = status; pieces = piece ∷ []; page = None }
 
   pub line_put : (old new : K) (status : ℕ) (piece : List ℕ) → status ≢ 7 → Appends (taken old) (taken new) piece → Puts taken faults old new status None whole (line_reply status piece)
   line_put old new status piece n h =
@@ -129,6 +129,9 @@ module _ {K : Type 0} (taken : K → Option (List ℕ)) (faults : K → ℕ) whe
   -- a run that ended so
   pub ended_so : (old new : K) (o : Opened) (left : Left) (status n : ℕ) (page : Option Page) → status ≡ n → page ≡ None → WritesPage taken faults old new n None o left → WritesPage taken faults old new status page o left
   ended_so old new o left status n page e f h = subst (λ s. WritesPage taken faults old new s page o left) (sym e) (subst (λ p. WritesPage taken faults old new n p o left) (sym f) h)
+
+  pub page_writes : (old new : K) (status : ℕ) (page : Option Page) (Calls : Extent → Reply → Type 0) (o : Opened) (to : IsPageTo Calls o) → WritesPage taken faults old new status page o to.left → Writes taken faults old new status page Calls
+  page_writes old new status page Calls o to (e, rest, end, more, puts) = (e, done (step_seen o.step ∷ rest) end, to.calls e rest end more, puts)
 
   -- ---- the session
 
