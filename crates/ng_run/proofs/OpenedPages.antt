@@ -24,22 +24,27 @@ opened_page trace a x o flag same sound opens short ready settled renders prints
   left = left;
   page = record { ready = ready; state = refl; settled = when_ok (IsSettled (state_of x.page)) o.digest settled; rendering = when_ok (Renders x.page) o.digest renders };
   sound = subst AreSound (sym same) sound;
-  calls = λ e rest end more. (step_seen x.step ∷ rest, end, (
-    step_seen x.step,
-    left,
-    rest,
-    record {
-      outcome = outcome_of o;
-      state = state_of x.page;
-      told = told_lines trace o.digest;
-      opens = opens;
-      took = told_is trace o.digest (λ d. OpensShort a.facts a.template d (state_of x.page)) short;
-      prints = prints;
-      leaves = refl;
-    },
-    subst (λ es. Continues trace 1 (within e es) left rest end) same (subst (λ t. Continues t 1 (within e (entries_of x.commands)) left rest end) flag more),
+  calls = λ e rest end more. (
+    step_seen x.step ∷ rest,
+    end,
+    (
+      step_seen x.step,
+      left,
+      rest,
+      record {
+        outcome = outcome_of o;
+        state = state_of x.page;
+        told = told_lines trace o.digest;
+        opens = opens;
+        took = told_is trace o.digest (λ d. OpensShort a.facts a.template d (state_of x.page)) short;
+        prints = prints;
+        leaves = refl;
+      },
+      subst (λ es. Continues trace 1 (within e es) left rest end) same (subst (λ t. Continues t 1 (within e (entries_of x.commands)) left rest end) flag more),
+      refl,
+    ),
     refl,
-  ), refl);
+  );
 }
   where
     left : Left

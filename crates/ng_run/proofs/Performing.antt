@@ -108,7 +108,7 @@ module _ (trace : Bool) (k : ℕ) (e : Entry) (old new : Page) (l : Lines) (read
   idle_does (a, asked, idle, same) is = (
     same_page (state_of old),
     subst (λ o. DoesAsked trace head o (state_of old) (step_seen l) (same_page (state_of old))) (sym asked)
-    (subst (λ b. DoesUnlessIdle b trace head a (state_of old) (step_seen l) (same_page (state_of old))) (sym idle) (is, refl)),
+        (subst (λ b. DoesUnlessIdle b trace head a (state_of old) (step_seen l) (same_page (state_of old))) (sym idle) (is, refl)),
     left_same old new ready same,
   )
 
@@ -116,15 +116,15 @@ module _ (trace : Bool) (k : ℕ) (e : Entry) (old new : Page) (l : Lines) (read
   outcome_does o (a, asked, busy, did) is = (
     left_by (outcome_of o) (state_of new),
     subst (λ x. DoesAsked trace head x (state_of old) (step_seen l) (left_by (outcome_of o) (state_of new))) (sym asked)
-    (subst (λ b. DoesUnlessIdle b trace head a (state_of old) (step_seen l) (left_by (outcome_of o) (state_of new))) (sym busy) (record {
-      outcome = outcome_of o;
-      state = state_of new;
-      told = told_lines trace o.digest;
-      steps = did.steps;
-      took = told_is trace o.digest (λ d. StepsShort a (state_of old) d (state_of new)) did.report;
-      prints = is;
-      leaves = refl;
-    })),
+        (subst (λ b. DoesUnlessIdle b trace head a (state_of old) (step_seen l) (left_by (outcome_of o) (state_of new))) (sym busy) (record {
+          outcome = outcome_of o;
+          state = state_of new;
+          told = told_lines trace o.digest;
+          steps = did.steps;
+          took = told_is trace o.digest (λ d. StepsShort a (state_of old) d (state_of new)) did.report;
+          prints = is;
+          leaves = refl;
+        })),
     record {
       ready = did.ready;
       state = refl;

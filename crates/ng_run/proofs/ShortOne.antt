@@ -1,5 +1,5 @@
 -- The digest that stops early has one report.
-use Rattle.std.proofs.Common.{◌≡◌, ◌≢◌, Bool, true, false, refl, sym, ap, ◌∙◌, subst, arith, Ok, true≢false}
+use Rattle.std.proofs.Common.{◌≡◌, Bool, true, false, refl, sym, ap, ◌∙◌, subst, arith, Ok, true≢false}
 use Rattle.ng_digest.specs.Log.{report_of}
 use Rattle.ng_digest.specs.Machine.{Machine}
 use Rattle.ng_digest.specs.Place.{Place, after_fire, closed, is_dirty}

@@ -64,7 +64,7 @@ module _ {K : Type 0} (taken : K → Option (List ℕ)) (faults : K → ℕ) whe
       left,
       (refl, refl),
       stopped_put old new (first 0) (done (step_seen o.step ∷ []) left) (subst (λ b. TookAll (taken old) (taken new) b) (sym (append-nil o.step.piece.items)) part)
-      (subst (λ b. StopsAtFailure taken faults old new b) (sym (append-nil o.step.piece.items)) stops),
+          (subst (λ b. StopsAtFailure taken faults old new b) (sym (append-nil o.step.piece.items)) stops),
     )
 
     module _ (put : Appends (taken old) (taken mid) o.step.piece.items) where
@@ -99,7 +99,7 @@ module _ {K : Type 0} (taken : K → Option (List ℕ)) (faults : K → ℕ) whe
         h.end,
         h.continues,
         stopped_put old new n (done (step_seen o.step ∷ h.steps) h.end) (took_after (taken old) (taken mid) (taken new) o.step.piece.items (steps_bytes h.steps) put h.part)
-        (stops_after taken faults old mid new o.step.piece.items (steps_bytes h.steps) put same h.stops),
+            (stops_after taken faults old mid new o.step.piece.items (steps_bytes h.steps) put same h.stops),
       )
 
       pub some_wanted : (n : Extent) → HasWanted taken mid new o.flags.trace (within n (entries_of o.commands)) left → WritesPage taken faults old new 8 None o left

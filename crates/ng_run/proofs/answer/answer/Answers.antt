@@ -1,5 +1,4 @@
-use Rattle.std.proofs.Common.{◌≡◌, ap, ◌∙◌, map}
-use Rattle.ng_inputs.specs.Files.{Telling}
+use Rattle.std.proofs.Common.{ap, ◌∙◌, map}
 use Rattle.ng_inputs.specs.InputsOf.{file_of, words_seen}
 use Rattle.ng_inputs.specs.Words.{words_of}
 use Rattle.ng_run.specs.ReplyOf.{IsReplyTo}

@@ -5,7 +5,7 @@ use Rattle.ng_page.specs.PageOf.{state_of}
 use Rattle.ng_script.specs.Acts.{act_of, entry_of}
 use Rattle.ng_run.specs.Aims.{asked_of}
 use Rattle.ng_run.specs.Performed.{Performed, IsStepOf}
-use Rattle.ng_run.specs.ReplyOf.{step_seen, told_lines}
+use Rattle.ng_run.specs.ReplyOf.{told_lines}
 use Rattle.ng_run.specs.Steps.{idle_step, aimless_step, step_of}
 use Rattle.ng_run.proofs.Answering.{if_ok}
 use Rattle.ng_run.proofs.Performing.{aimless_does, idle_does, outcome_does}

@@ -1,6 +1,6 @@
 use Rattle.std.proofs.Common.{◌+◌, ap, sym, ◌∙◌, subst, map, take, Err}
 use Rattle.ng_inputs.specs.Acts.{AreSound}
-use Rattle.ng_script.specs.Acts.{entry_of, entries_of}
+use Rattle.ng_script.specs.Acts.{entry_of}
 use Rattle.ng_run.specs.Doing.{DidAll, HasDone}
 use Rattle.ng_run.proofs.Listing.{sound_at, done_more, halted}
 use Rattle.ng_run.proofs.doing.do_all.Goals as goal
