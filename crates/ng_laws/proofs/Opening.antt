@@ -113,14 +113,19 @@ runs_some trace a =
     let left : Left = left_by e.outcome e.state in
     let more = continues_some trace 1 a.commands left e.ordered in (
       done (first ∷ more.0) more.1,
-      (first ∷ more.0, more.1, (
-        first,
-        left,
-        more.0,
-        record { outcome = e.outcome; state = e.state; told = told.0; opens = e.ends; took = told.1; prints = refl; leaves = refl },
-        more.2,
+      (
+        first ∷ more.0,
+        more.1,
+        (
+          first,
+          left,
+          more.0,
+          record { outcome = e.outcome; state = e.state; told = told.0; opens = e.ends; took = told.1; prints = refl; leaves = refl },
+          more.2,
+          refl,
+        ),
         refl,
-      ), refl),
+      ),
     )
 
 session_of_some : (trace : Bool) (c : Result Accepted Refusal) → (r : Reply) × SessionOf whole trace c r
