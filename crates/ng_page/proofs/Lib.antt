@@ -11,6 +11,7 @@ pub mod Rendering
 pub mod Rendered
 pub mod Opened
 pub mod Stages
+pub mod Taken
 pub mod Wholes
 pub mod Ran
 pub mod Prepared
