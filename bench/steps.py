@@ -2,9 +2,10 @@
 """Times the steps of scripts on pages of several sizes, and checks what they print.
 
 usage: bench/steps.py [--cmd PROGRAM] [--only TEXT] [--times N]
-A workload is a page and a hundred commands, each of which changes one value. The time of a step is that of the whole run, less that of
-a run without the script, over a hundred: seconds of processor time, the least of N runs (default 3). The tests of a step are those that
-the trace tells, the mean of all steps. Prints a table, with the time of the opening beside; 'WRONG' where the bytes are not those wanted.
+A workload is a page and a hundred commands (a thousand where the page is small), each of which changes one value. The time of a step is
+that of the whole run, less that of a run without the script, over their number: processor time, the least of N runs (default 3). The
+tests of a step are those that the trace tells, the mean of all steps. Prints a table, with the time of the opening beside; 'WRONG' where
+the bytes are not those wanted.
 A page 'without its print' is timed with one more hole, which faults, so that its steps digest and print no document."""
 import argparse
 import hashlib
@@ -15,13 +16,12 @@ import resource
 import subprocess
 import tempfile
 
-STEPS = 100
 SIZES = (1_000, 10_000, 99_999)
 
 
 def spread(count):
     """Which entry each step changes: all parts of the page have their turn."""
-    return [(k * 7919) % count for k in range(1, STEPS + 1)]
+    return [(k * 7919) % count for k in range(1, 1001 if count <= 1_000 else 101)]
 
 
 def holes(count):
@@ -41,7 +41,7 @@ def watches(kind, value, change):
 
     def make(count):
         app = {'data': {f'x{i}': value(i) for i in range(count)}, 'watch': [{'expr': f'x{i}', 'kind': kind, 'do': ''} for i in range(count)]}
-        return '', app, [f'eval {change(i, count + k)}' for k, i in enumerate(spread(count))], [''] * (STEPS + 1)
+        return '', app, [f'eval {change(i, count + k)}' for k, i in enumerate(spread(count))], [''] * (len(spread(count)) + 1)
 
     return make
 
@@ -104,23 +104,17 @@ def bytes_wanted(commands, pages, printed):
     return found.hexdigest()
 
 
-def bytes_printed(words):
-    found = hashlib.sha256()
-    with subprocess.Popen(words, stdin=subprocess.DEVNULL, stdout=subprocess.PIPE) as run:
-        while piece := run.stdout.read(1 << 20):
-            found.update(piece)
-    return found.hexdigest()
-
-
-def tests_of(words):
-    """The tests of a step, by the trace: the mean of all steps but the opening."""
-    found = []
+def printed_by(words):
+    """The checksum of what a run prints without its trace, and the tests of a step by that: the mean of all steps but the opening."""
+    found, tests = hashlib.sha256(), []
     with subprocess.Popen(words, stdin=subprocess.DEVNULL, stdout=subprocess.PIPE) as run:
         for line in run.stdout:
-            told = re.match(rb'~ rounds \d+ fires \d+ tests (\d+)\n', line)
-            if told:
-                found.append(int(told[1]))
-    return sum(found[1:]) / STEPS
+            trace = re.fullmatch(rb'~ rounds \d+ fires \d+ tests (\d+)\n', line)
+            if trace:
+                tests.append(int(trace[1]))
+            else:
+                found.update(line)
+    return found.hexdigest(), sum(tests[1:]) / max(1, len(tests) - 1)
 
 
 def told(amount):
@@ -137,13 +131,14 @@ def measured(cmd, made, printed, times):
         for name, content in zip(names, (template, json.dumps(app), '\n'.join(commands))):
             with open(name, 'w', encoding='utf-8') as file:
                 file.write(content)
-        tests = tests_of([cmd, '--trace'] + names)
+        found, tests = printed_by([cmd, '--trace'] + names)
         if not printed:
             with open(names[0], 'a', encoding='utf-8') as file:
                 file.write('{{1 / 0}}')
+            found, _ = printed_by([cmd] + names)
+        right = found == bytes_wanted(commands, pages, printed)
         opening = seconds([cmd] + names[:2], times)
         step = (seconds([cmd] + names, times) - opening) / len(commands)
-        right = bytes_printed([cmd] + names) == bytes_wanted(commands, pages, printed)
     return step, tests, opening, right
 
 
