@@ -61,6 +61,12 @@ def wide(count):
     return template, {'data': {f'n{i}': i for i in range(count)}}, commands, None
 
 
+def clean(count):
+    """So many elements with a hole each, and steps that change nothing: each is a digest whose tests are all clean."""
+    template, app, commands, _ = holes(count)
+    return template, app, ['digest'] * len(commands), None
+
+
 def three(i):
     return [i, i + 1, i + 2]
 
@@ -77,6 +83,7 @@ def changed(kind):
 # what is measured, whether its pages are printed, what makes it, and its sizes
 WORKLOADS = [(f'{n:,} elements with a hole each', True, holes, (n,)) for n in SIZES]
 WORKLOADS += [(f'{n:,} elements with a hole each, without its print', False, holes, (n,)) for n in SIZES]
+WORKLOADS += [(f'{n:,} elements with a hole each, all clean, without their print', False, clean, (n,)) for n in SIZES]
 WORKLOADS += [(f'{n:,} watches by reference, of numbers', True, changed('reference'), (n,)) for n in SIZES]
 WORKLOADS += [(f'{n:,} watches of collections, of three numbers each', True, changed('collection'), (n,)) for n in SIZES]
 WORKLOADS += [(f'{n:,} watches by value, of an object with a list of three numbers each', True, changed('value'), (n,)) for n in SIZES]
@@ -120,8 +127,8 @@ def printed_by(words):
 def told(amount):
     for unit, size in (('s', 1), ('ms', 1e-3), ('µs', 1e-6)):
         if amount >= size:
-            return f'{amount / size:.3g} {unit}'
-    return 'below 1 µs'
+            return f'{float(format(amount / size, ".2g")):g} {unit}'
+    return f'{float(format(max(0, amount) / 1e-9, ".2g")):g} ns'
 
 
 def measured(cmd, made, printed, times):
@@ -159,13 +166,14 @@ def main():
     words.add_argument('--only', default='')
     words.add_argument('--times', type=int, default=3)
     given = words.parse_args()
-    print('| page | a step | tests of a step | opening | |\n|---|---|---|---|---|')
+    print('| page | a step | its tests | for each test | opening | |\n|---|---|---|---|---|---|')
     for name, printed, make, size in WORKLOADS:
         if given.only in name:
             step, tests, opening, right = measured(given.cmd, make(*size), printed, given.times)
-            print(f"| {name} | {told(step)} | {tests:,.0f} | {told(opening)} | {'right' if right else 'WRONG'} |", flush=True)
+            each = told(step / tests) if tests else ''
+            print(f"| {name} | {told(step)} | {tests:,.0f} | {each} | {told(opening)} | {'right' if right else 'WRONG'} |", flush=True)
     if given.only in 'the smallest page':
-        print(f'| the smallest page, a whole run | | | {told(started(given.cmd, given.times))} | |')
+        print(f'| the smallest page, a whole run | | | | {told(started(given.cmd, given.times))} | |')
 
 
 if __name__ == '__main__':
