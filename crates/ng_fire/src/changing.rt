@@ -15,8 +15,8 @@ use ng_base::fault::Memory;
 use ng_base::name::{ScopeId, Serial};
 use ng_base::path::Key;
 use ng_language::snapshots::SnapKind;
-use ng_watch::watch::{Watch, WatchKind};
 use ng_link::works::{Listener, Works};
+use ng_watch::watch::{Watch, WatchKind};
 use std::alloc::Global;
 use std::mem::replace;
 

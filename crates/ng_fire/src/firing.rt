@@ -20,11 +20,11 @@ use ng_base::fault::{Fault, Memory};
 use ng_base::locals::Locals;
 use ng_base::path::Key;
 use ng_base::view::View;
+use ng_link::works::{Listener, Works};
 use ng_store::store::Store;
 use ng_value::snapshot::Snap;
 use ng_view::view;
 use ng_watch::watch::Watch;
-use ng_link::works::{Listener, Works};
 use std::alloc::Global;
 
 /// The value of a watch's program over its scope.

@@ -20,9 +20,9 @@ use ng_base::locals::Locals;
 use ng_base::txt::Txt;
 use ng_base::value::Value;
 use ng_base::view::View;
+use ng_link::works::Listener;
 use ng_value::copies::copied;
 use ng_value::snapshot::Snap;
-use ng_link::works::Listener;
 use std::alloc::{AllocError, Global};
 
 /// The value of a snapshot, or of the value of now where nothing was kept.

@@ -20,11 +20,11 @@ use ng_base::locals::Locals;
 use ng_base::name::{Oid, ScopeId};
 use ng_base::path::Key;
 use ng_base::txt::Txt;
+use ng_link::works::Works;
 use ng_parse::Program;
 use ng_store::store::Store;
 use ng_value::texts::show_text;
 use ng_view::{filters_known, is_pure, view};
-use ng_link::works::Works;
 use std::alloc::{AllocError, Global};
 use std::collections::BTreeSet;
 

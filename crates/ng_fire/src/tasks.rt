@@ -19,8 +19,8 @@ use ng_base::fault::{Fault, Memory};
 use ng_base::locals::Locals;
 use ng_base::name::ScopeId;
 use ng_base::value::Value;
-use ng_parse::Program;
 use ng_link::works::Works;
+use ng_parse::Program;
 use std::alloc::Global;
 
 /// Runs a program as a body while none is open.

@@ -1,14 +1,12 @@
 -- What a command comes to, by its parts.
-use Rattle.std.proofs.Common.{◌≡◌, Bool, true, false, Option, Some, None, Result, Ok, Err, IsOk, IfOk, OnOk, refl, ap, sym, subst, ◌∙◌, ◌↔◌}
+use Rattle.std.proofs.Common.{◌≡◌, Bool, true, false, Option, Some, None, Result, Ok, Err, IsOk, IfOk, OnOk, refl, sym, subst, ◌∙◌}
 use Rattle.ng_base.specs.declared.fault.Memory.{Memory as Wanted}
-use Rattle.ng_drawing.specs.Drawing.{shown_as}
 use Rattle.ng_link.specs.State as link
 use Rattle.ng_link.specs.State.{shown, rendering}
-use Rattle.ng_page.specs.Answered.{WhenOk}
 use Rattle.ng_page.specs.Commands.{Asked, is_idle, begun, asked_run}
 use Rattle.ng_page.specs.Commanded.{Commanded, Ended, IsLeft, LeavesBehind, refusal}
 use Rattle.ng_page.specs.OutcomeOf.{outcome_of}
-use Rattle.ng_page.specs.PageOf.{state_of, IsPage, Displays}
+use Rattle.ng_page.specs.PageOf.{state_of, IsPage}
 use Rattle.ng_page.specs.Steps.{Ends, EndsShort}
 use Rattle.ng_page.specs.declared.outcome.Outcome.{Outcome}
 use Rattle.ng_page.specs.declared.outcome.PageFault.{PageFault}

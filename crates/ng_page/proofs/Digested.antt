@@ -1,20 +1,17 @@
 -- What holds of a page after a digest, and the end of a step.
-use Rattle.std.proofs.Common.{◌≡◌, ℕ, Bool, true, false, List, [], Option, Some, None, Result, Ok, Err, refl, ap, sym, subst, ◌∙◌}
-use Rattle.ng_base.specs.declared.path.Key.{Key}
+use Rattle.std.proofs.Common.{◌≡◌, ℕ, Bool, true, false, List, [], Some, None, Result, Ok, Err, refl, sym, subst}
 use Rattle.ng_digest.specs.Causes.{Unless}
 use Rattle.ng_digest.specs.Early.{plain_of, plain_answer}
-use Rattle.ng_digest.specs.Place.{Place}
-use Rattle.ng_digest.specs.Plain.{Plain, PlainDigests}
+use Rattle.ng_digest.specs.Plain.{PlainDigests}
 use Rattle.ng_digest.specs.declared.log.Report.{Report}
 use Rattle.ng_digest.specs.declared.rounds.DigestFault.{DigestFault}
 use Rattle.ng_digest.specs.declared.rounds.DigestFault.TheVariants as fault
 use Rattle.ng_link.specs.Calls.{with_core}
 use Rattle.ng_link.specs.State as link
 use Rattle.ng_link.specs.Untroubled.{untroubled}
-use Rattle.ng_link.specs.declared.works.Works.{Works}
 use Rattle.ng_page.specs.Answered.{DigestsWhere, ShortWhere, PlainlyDigests, ShortlyDigests}
 use Rattle.ng_page.specs.PageMachine.{page_machine, readied}
-use Rattle.ng_page.specs.PlaceOf.{state_of, place_of, WorksAre, PageIs}
+use Rattle.ng_page.specs.PlaceOf.{place_of, WorksAre, PageIs}
 use Rattle.ng_page.specs.Settled.{IsWatched}
 use Rattle.ng_page.specs.declared.engine.Engine.{Engine}
 use Rattle.ng_page.proofs.DigestsStay.{digest_sites}

@@ -1,10 +1,8 @@
 -- What digests leave of sites, and of what was handed over.
-use Rattle.std.proofs.Common.{◌≡◌, ℕ, Bool, true, false, List, [], ◌∷◌, cond, Option, Some, None, Result, Ok, Err, refl, ap, sym, subst, ◌∙◌}
-use Rattle.std.specs.BTreeSet.{insert_key}
+use Rattle.std.proofs.Common.{◌≡◌, ℕ, Bool, true, false, List, [], ◌∷◌, Option, Some, None, Result, refl, ap, sym, ◌∙◌}
 use Rattle.std.specs.Prelude.{is_some}
 use Rattle.ng_act.specs.State as act
 use Rattle.ng_base.specs.Views.{ViewTree}
-use Rattle.ng_base.specs.declared.fault.Fault.{Fault}
 use Rattle.ng_base.specs.declared.path.Key.{Key}
 use Rattle.ng_digest.specs.declared.rounds.DigestFault.{DigestFault}
 use Rattle.ng_digest.specs.Plain.{Plain, PlainDigests}
@@ -16,7 +14,7 @@ use Rattle.ng_link.specs.State as link
 use Rattle.ng_link.specs.Untroubled.{untroubled}
 use Rattle.ng_page.specs.PageLaws.{by_test}
 use Rattle.ng_page.specs.PageMachine.{State, is_told, told_at, handed_on_at, with_faulted, fired_to, fired_by, fired, settled, failed, page_machine, readied}
-use Rattle.ng_page.proofs.EventsStay.{part, Stays, stays_refl, fault_stays, some_first}
+use Rattle.ng_page.proofs.EventsStay.{part, Stays, fault_stays, some_first}
 use Rattle.ng_page.proofs.Keeps.{KeepsEach, digest_keeps}
 use Rattle.ng_page.proofs.Sites.{SitesStay, sites_refl, sites_trans, core_sites}
 use Rattle.ng_page.proofs.StepsStay.{fires_sites, fires_some, ran_sites, settled_sites, unset_all_sites}

@@ -12,7 +12,6 @@ use Rattle.ng_page.specs.PlaceOf.{PageIs}
 use Rattle.ng_page.specs.Settled.{IsSettled}
 use Rattle.ng_page.specs.Steps.{Ends, EndsShort}
 use Rattle.ng_page.specs.declared.outcome.Outcome.{Outcome}
-use Rattle.ng_page.specs.declared.outcome.PageFault.{PageFault}
 use Rattle.ng_page.specs.declared.outcome.PageFault.TheVariants.{Memory}
 use Rattle.ng_page.specs.declared.page.Page.{Page}
 use Rattle.ng_page.proofs.Rendering.{settled_renders, when_done}

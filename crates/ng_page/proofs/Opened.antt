@@ -1,5 +1,5 @@
 -- A page right after its template was linked: what holds of its works, and that its sites are watched.
-use Rattle.std.proofs.Common.{◌≡◌, ℕ, zero, suc, ◌+◌, ◌<◌, Bool, true, false, List, [], ◌∷◌, ◌++◌, length, cond, not, Option, None, Some, Result, Ok, Err, refl, ap, sym, subst, ◌∙◌, slice_get, arith}
+use Rattle.std.proofs.Common.{◌≡◌, ℕ, zero, suc, ◌+◌, ◌<◌, Bool, true, false, List, [], ◌∷◌, ◌++◌, length, cond, not, Option, None, Some, Ok, refl, ap, sym, subst, ◌∙◌, slice_get, arith}
 use Rattle.std.specs.BTreeMap.{insert_entry}
 use Rattle.std.proofs.lemmas.Cmp.{tied_itself}
 use Rattle.std.specs.List.{filter, AllByRecursion}
@@ -14,11 +14,11 @@ use Rattle.ng_behaviour.specs.Scopes.{object_at, path_at, live_at}
 use Rattle.ng_dom.specs.Drawing.{Stands}
 use Rattle.ng_drawing.specs.Template.{Site, Template}
 use Rattle.ng_fire.specs.Whole.{IsWhole, ListenersStand, RowStands, RowsStand}
-use Rattle.ng_link.specs.Calls.{linked_in, left_at, page_on}
+use Rattle.ng_link.specs.Calls.{linked_in, left_at}
 use Rattle.ng_link.specs.Rows.{watch_kind, watching_site, with_sites}
 use Rattle.ng_link.specs.Shape.{key_on}
 use Rattle.ng_link.specs.Standing.{Standing, IsStanding}
-use Rattle.ng_link.specs.State.{State, Linked, Declared, Listening, is_site, state_of, templates_of}
+use Rattle.ng_link.specs.State.{State, Linked, Listening, is_site, state_of}
 use Rattle.ng_link.specs.declared.works.Works.{Works}
 use Rattle.ng_link.proofs.Rows.{fresh, sites_found}
 use Rattle.ng_template.specs.Kept.{Named}
@@ -29,7 +29,7 @@ use Rattle.ng_watch.specs.Seen.{Watching, Watcher}
 use Rattle.ng_watch.specs.Table.{Table, found}
 use Rattle.ng_page.specs.Opening.{AreTexts, linked_root}
 use Rattle.ng_page.specs.PageLaws.{is_itself, key_is}
-use Rattle.ng_page.specs.Settled.{text_watch, WatchesAt, AreWatched, IsLinked, IsLinkedIn, IsWatched}
+use Rattle.ng_page.specs.Settled.{text_watch, WatchesAt, AreWatched, IsWatched}
 use Rattle.ng_page.proofs.Sites.{left_sites}
 use Rattle.ng_page.proofs.Watched.{watched_stays}
 

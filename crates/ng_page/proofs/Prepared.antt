@@ -1,5 +1,5 @@
 -- How a page is opened, step by step.
-use Rattle.std.proofs.Common.{◌≡◌, ◌<◌, ℕ, OnOk, List, [], length, Option, Some, None, Result, Ok, Err, refl, ap, sym, subst, ◌∙◌, if◌then◌else◌}
+use Rattle.std.proofs.Common.{◌≡◌, ◌<◌, ℕ, OnOk, List, length, Option, Some, None, Result, Ok, Err, ap, sym, subst, ◌∙◌, if◌then◌else◌}
 use Rattle.std.specs.List.Sorted.{IsStrictlySortedBy}
 use Rattle.std.specs.Map.{keys_of}
 use Rattle.ng_act.specs.Frames.{IsSound}

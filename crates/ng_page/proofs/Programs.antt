@@ -1,19 +1,17 @@
 -- The calls of a core, as commands make them.
-use Rattle.std.proofs.Common.{◌≡◌, ◌≤◌, ◌-◌, ℕ, List, [], map, Result, Ok, Err, refl, ap, sym, subst, ◌∙◌, false}
+use Rattle.std.proofs.Common.{◌≡◌, ◌-◌, ℕ, List, [], map, Result, Ok, Err, ap, sym, subst, ◌∙◌}
 use Rattle.serde_json.specs.Data.{Data}
-use Rattle.ng_act.specs.Actions.{Asked, does, an_emit, a_broadcast, destroys}
+use Rattle.ng_act.specs.Actions.{Asked, does, destroys}
 use Rattle.ng_act.specs.Frames.{Acts}
 use Rattle.ng_act.specs.Running.{act_run, as_value_run, same}
-use Rattle.ng_act.specs.State as act
 use Rattle.ng_act.specs.State.{State, Run, ◌>>=◌, with_locals}
-use Rattle.ng_base.specs.Faults.{is_memory}
 use Rattle.ng_base.specs.Views.{ViewTree, prim}
 use Rattle.ng_base.specs.declared.fault.Fault.{Fault}
 use Rattle.ng_base.specs.declared.value.Value.{Value}
 use Rattle.ng_fire.specs.Runs.{asked_first}
 use Rattle.ng_language.specs.Trees.{Trees}
 use Rattle.ng_view.specs.Evaluation.{Local}
-use Rattle.ng_page.specs.Commands.{back, program_run, destroyed, json_run, items_in, emit_run, broadcast_run}
+use Rattle.ng_page.specs.Commands.{back, program_run, destroyed, json_run, items_in}
 
 same_locals : (n c : State) → n.locals ≡ c.locals → with_locals c.locals n ≡ n
 same_locals n c e = ap (λ ls. with_locals ls n) (sym e)

@@ -7,7 +7,6 @@ use Rattle.ng_base.specs.Views.{ViewTree, prim, list, rec, no_fields, views_from
 use Rattle.ng_base.specs.declared.fault.Fault.{Fault}
 use Rattle.ng_base.specs.declared.fault.Fault.TheVariants.{CallLimit, StoreFull}
 use Rattle.ng_base.specs.declared.value.Value.{Value}
-use Rattle.ng_behaviour.specs.Listeners.{place_of}
 use Rattle.ng_behaviour.specs.Scopes.{live_at, object_at}
 use Rattle.ng_language.specs.declared.snapshots.SnapKind.{SnapKind}
 use Rattle.ng_language.specs.declared.snapshots.SnapKind.TheVariants as snaps

@@ -1,5 +1,5 @@
 -- What holds of a page after a program ran on its core.
-use Rattle.std.proofs.Common.{◌≡◌, ◌≤◌, ◌<◌, ℕ, List, length, Result, Ok, Err, refl, ap, sym, subst, ◌∙◌}
+use Rattle.std.proofs.Common.{◌≡◌, ◌≤◌, ◌<◌, length, Result, Ok, Err, ap, sym, subst}
 use Rattle.ng_act.specs.Frames as cores
 use Rattle.ng_act.specs.Frames.{IsSound, Acts}
 use Rattle.ng_act.specs.Running.{same}

@@ -1,6 +1,6 @@
 -- Where no watcher is dirty, the document that is shown is the rendering.
 use Rattle.std.proofs.Common.{◌≡◌, ℕ, zero, suc, ◌+◌, Bool, true, false, List, [], ◌∷◌, length, cond, Option, None, Some, Result, Ok, Err, refl, ap, sym, subst, ◌∙◌, slice_get}
-use Rattle.std.specs.Prelude.{is_some, not, IfOk}
+use Rattle.std.specs.Prelude.{is_some, not}
 use Rattle.std.specs.Map.{lookup}
 use Rattle.ng_act.specs.State as act
 use Rattle.ng_base.specs.Meets.{◌>>=◌}
@@ -17,7 +17,7 @@ use Rattle.ng_drawing.specs.Template.{Site}
 use Rattle.ng_drawing.proofs.Fresh.{fresh_parts}
 use Rattle.ng_language.specs.Texts.{show_text}
 use Rattle.ng_link.specs.Shape.{key_on}
-use Rattle.ng_link.specs.State.{State, Linked, Resting, kept_in, kept_or, site_state, site_states, instance_at, shown_in, shown, rendering_in, rendering}
+use Rattle.ng_link.specs.State.{State, Linked, Resting, kept_or, site_state, site_states, instance_at, shown_in, shown, rendering_in, rendering}
 use Rattle.ng_watch.specs.Keys.{is_key}
 use Rattle.ng_watch.specs.Laws.{is_two_way}
 use Rattle.ng_watch.specs.Now.{value_now, text_view, now}

@@ -18,13 +18,12 @@ use Rattle.ng_digest.specs.declared.rounds.Found.TheVariants.{Nothing, Stopped, 
 use Rattle.ng_digest.specs.declared.rounds.RoundEnd.TheVariants as round
 use Rattle.ng_digest.specs.declared.rounds.Walked.{Walked}
 use Rattle.ng_digest.specs.declared.rounds.DigestFault.{DigestFault}
-use Rattle.ng_digest.specs.declared.rounds.DigestFault.TheVariants as fault
 use Rattle.ng_digest.specs.Causes.{Unless}
 use Rattle.ng_digest.specs.Early.{plain_of, plain_answer, IsIn, IsLive, IsKnownClean}
 use Rattle.ng_digest.specs.Laws.{InOrder}
 use Rattle.ng_digest.specs.Machine.{found_dirty, next_key}
 use Rattle.ng_digest.specs.Place.{Place, at_next, after_test, found}
-use Rattle.ng_digest.specs.Plain.{Plain, PlainDigests}
+use Rattle.ng_digest.specs.Plain.{PlainDigests}
 use Rattle.ng_digest.specs.Short.{Skips, none_above, at_remembered, at_dirty, passed_by, Walks, walked_through, walk_stopped, walk_limited, fired_one, IsWhole, Round, closed_clean, Rounds, last_is_clean, one_more, Digests, gives_report, gives_faulted, gives_infdig, gives_fire_limit, gives_async_limit, gives_memory}
 use Rattle.ng_digest.proofs.Carried.{tested_is}
 use Rattle.ng_digest.proofs.Fresh.{rounds_known}

@@ -1,7 +1,7 @@
 -- What leaves the watchers of sites as they are, or takes them out.
-use Rattle.std.proofs.Common.{◌≡◌, ℕ, Bool, true, false, List, [], ◌∷◌, cond, Option, Some, None, refl, ap, sym, subst, ◌∙◌, not}
+use Rattle.std.proofs.Common.{◌≡◌, ℕ, Bool, true, false, List, [], ◌∷◌, cond, Option, Some, None, refl, ap, sym, ◌∙◌, not}
 use Rattle.std.specs.BTreeMap.{insert_entry}
-use Rattle.std.specs.List.{filter, AllByRecursion}
+use Rattle.std.specs.List.{filter}
 use Rattle.std.specs.Map.{remove_entry}
 use Rattle.std.specs.Ordering.{match_ordering}
 use Rattle.std.specs.declared.cmp.Ordering.{Ordering}
@@ -13,11 +13,11 @@ use Rattle.ng_link.specs.Calls.{with_core, keeping_at, unset_at, declared_at, un
 use Rattle.ng_link.specs.State.{State, Linked, Listening, is_site}
 use Rattle.ng_watch.specs.Keys.{key_cmp, is_key, begins}
 use Rattle.ng_watch.specs.Seen.{Watching, Watcher}
-use Rattle.ng_watch.specs.Table.{Table, with_kept, keeping, with_watch, without_watch, without_under}
+use Rattle.ng_watch.specs.Table.{Table, with_kept, keeping, with_watch, without_watch}
 use Rattle.ng_watch.specs.Ended.{is_over}
 use Rattle.ng_page.specs.PageLaws.{key_exact}
 use Rattle.ng_page.specs.Settled.{WatchesAt}
-use Rattle.ng_page.proofs.EventsStay.{Part, part, Stays, stays_refl, stays_trans}
+use Rattle.ng_page.proofs.EventsStay.{part, Stays, stays_refl, stays_trans}
 
 all_cond : (b : Bool) (k : Key) (v : Watching) (t u : Table) → WatchesAt k v t → WatchesAt k v u → WatchesAt k v (cond b t u)
 all_cond true k v t u h g = h

@@ -1,5 +1,5 @@
 -- Between a test and its fire.
-use Rattle.std.proofs.Common.{◌≡◌, Bool, true, false, List, [], ◌∷◌, None, Some, Option, Result, Ok, Err, refl, ap, sym, subst, ◌∙◌, cond, find}
+use Rattle.std.proofs.Common.{◌≡◌, Bool, true, false, [], ◌∷◌, None, Some, Option, Result, Ok, Err, refl, ap, sym, subst, ◌∙◌, cond, find}
 use Rattle.std.specs.Prelude.{option_map}
 use Rattle.std.specs.Map.{keys_of}
 use Rattle.std.specs.Option.{ForSome}

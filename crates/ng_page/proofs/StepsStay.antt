@@ -1,5 +1,5 @@
 -- What programs, fires, tasks and the end of a digest leave of sites.
-use Rattle.std.proofs.Common.{◌≡◌, ℕ, Bool, true, false, List, [], ◌∷◌, map, Option, Some, None, Result, Ok, Err, refl}
+use Rattle.std.proofs.Common.{◌≡◌, ℕ, true, List, [], ◌∷◌, map, Option, Some, None, Result, Ok, Err}
 use Rattle.std.specs.Prelude.{is_some, is_err}
 use Rattle.serde_json.specs.Data.{Data}
 use Rattle.ng_act.specs.Actions.{Asked, a_body, an_emit, a_broadcast, does, programmed, stores, nothing}
@@ -14,18 +14,17 @@ use Rattle.ng_behaviour.specs.Scopes.{path_at}
 use Rattle.ng_fire.specs.Changes.{key_in, watching_in, listening_in, applied, applied_all, changed, without_changes}
 use Rattle.ng_fire.specs.Fires.{former_value, listener_locals, listener_run, run_with, fire_run, fired_by, fired as fires, listener_at, value_at}
 use Rattle.ng_fire.specs.Runs.{asked_first, followed, task_run, ran_of, ran, without_task}
-use Rattle.ng_fire.specs.Settling.{unset_all, without_probes, settled, given_up}
+use Rattle.ng_fire.specs.Settling.{unset_all, without_probes, settled}
 use Rattle.ng_language.specs.Trees.{Trees}
 use Rattle.ng_link.specs.Calls.{with_core, keeping_at, ended_at, unset_at}
 use Rattle.ng_link.specs.State.{State, Listening}
-use Rattle.ng_store.specs.Json.{json_value, with_json}
+use Rattle.ng_store.specs.Json.{json_value}
 use Rattle.ng_store.specs.declared.json.JsonFault.{JsonFault}
-use Rattle.ng_view.specs.Evaluation.{Local}
 use Rattle.ng_watch.specs.Table.{kept_at}
 use Rattle.ng_write.specs.Making.{value_in}
 use Rattle.ng_page.specs.Commands as commands
 use Rattle.ng_page.specs.Commands.{program_run, destroyed, json_read, json_run, items_in, emit_run, broadcast_run, asked_run, applies, queues, probes, digests, destroys_scope, emits, broadcasts}
-use Rattle.ng_page.proofs.EventsStay.{Part, part, Stays, stays_refl, stays_trans, fault_stays, destroys_stay, some_first}
+use Rattle.ng_page.proofs.EventsStay.{part, Stays, stays_refl, stays_trans, fault_stays, destroys_stay, some_first}
 use Rattle.ng_page.proofs.ProgramsStay.{bind_stay, stores_stay, statements_stay, does_stay}
 use Rattle.ng_page.proofs.Sites.{SitesStay, sites_refl, sites_trans, core_sites, keeping_sites, unset_sites, declared_sites, undeclared_sites, left_sites, ended_sites}
 

@@ -1,6 +1,6 @@
 -- The sites of what is linked stay watched.
-use Rattle.std.proofs.Common.{◌≡◌, ◌≤◌, ◌<◌, ℕ, ◌+◌, Bool, true, List, [], ◌∷◌, length, Option, Some, None, refl, ap, sym, subst, ◌∙◌, arith}
-use Rattle.std.specs.Prelude.{nat_le, nat_lt, ◌&&◌}
+use Rattle.std.proofs.Common.{◌≡◌, ◌≤◌, ◌<◌, ℕ, ◌+◌, true, List, [], ◌∷◌, length, Option, Some, None, refl, sym, subst, arith}
+use Rattle.std.specs.Prelude.{nat_le, nat_lt}
 use Rattle.std.specs.Str.{bytes_eq}
 use Rattle.std.proofs.lemmas.Bool.Decides.{nat_tests}
 use Rattle.std.proofs.lemmas.Slice.Eq.{bytes_eq-Decides}
@@ -13,7 +13,7 @@ use Rattle.ng_link.specs.Shape.{key_on}
 use Rattle.ng_link.specs.State.{State, Linked, is_site, is_in}
 use Rattle.ng_watch.specs.Seen.{Watching}
 use Rattle.ng_watch.specs.Table.{Table}
-use Rattle.ng_page.specs.Settled.{text_watch, WatchesAt, AreWatched, IsLinked, IsLinkedIn, IsWatched}
+use Rattle.ng_page.specs.Settled.{text_watch, WatchesAt, AreWatched, IsLinkedIn, IsWatched}
 use Rattle.ng_page.proofs.Sites.{SitesStay}
 
 -- a key of a page's sites

@@ -2,7 +2,6 @@
 use Rattle.std.specs.Prelude.{◌≡◌, false}
 use Rattle.ng_dom.specs.Document as document
 use Rattle.ng_dom.specs.Nodes.{NamedForest}
-use Rattle.ng_fire.specs.Whole.{IsWhole}
 use Rattle.ng_link.specs.Standing as standing
 use Rattle.ng_link.specs.State as link
 use Rattle.ng_markup.specs.Forest.{Forest}

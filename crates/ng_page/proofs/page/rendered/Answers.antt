@@ -1,4 +1,4 @@
-use Rattle.std.proofs.Common.{map, sym, subst, slice_get}
+use Rattle.std.proofs.Common.{subst, slice_get}
 use Rattle.std.specs.Prelude.{option_map}
 use Rattle.std.specs.Option.{IfSome}
 use Rattle.ng_base.specs.Faults.{is_memory}
@@ -6,7 +6,7 @@ use Rattle.ng_base.specs.Meets.{Gives}
 use Rattle.ng_drawing.specs.Instance as instances
 use Rattle.ng_drawing.specs.InstanceOf.{instance_of}
 use Rattle.ng_html.specs.Seen.{forest_of}
-use Rattle.ng_link.specs.State.{state_of, templates_of}
+use Rattle.ng_link.specs.State.{state_of}
 use Rattle.ng_page.proofs.Rendered.{names_stand, page_rendered}
 use Rattle.ng_page.proofs.page.rendered.Goals as goal
 

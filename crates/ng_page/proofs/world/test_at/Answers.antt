@@ -1,4 +1,4 @@
-use Rattle.std.proofs.Common.{◌≡◌, Option, Some, length, subst}
+use Rattle.std.proofs.Common.{◌≡◌, Option, length, subst}
 use Rattle.std.specs.Prelude.{option_map}
 use Rattle.ng_base.specs.declared.path.Key.{Key}
 use Rattle.ng_digest.specs.Machine.{verdict_at}
