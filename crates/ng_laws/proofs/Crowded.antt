@@ -1,7 +1,7 @@
 -- A page that would have too many nodes.
-use Rattle.std.proofs.Common.{◌≡◌, ◌<◌, ◌+◌, ℕ, Bool, true, false, List, refl, ap, sym, ◌∙◌, subst, Option, Some, None, Ok, Err, nat_lt, arith}
+use Rattle.std.proofs.Common.{◌≡◌, ◌<◌, ◌+◌, ℕ, Bool, true, false, List, [], ◌∷◌, refl, ap, sym, ◌∙◌, subst, Option, Some, None, Ok, Err, nat_lt, arith}
 use Rattle.std.specs.Option.{IfSome}
-use Rattle.std.specs.Prelude.{if◌then◌else◌}
+use Rattle.std.specs.Prelude.{◌&&◌, if◌then◌else◌}
 use Rattle.std.proofs.lemmas.Bool.Decides.{nat_tests}
 use Rattle.ng_act.specs.State.{first_or}
 use Rattle.ng_app.specs.App.{Facts}
@@ -14,13 +14,17 @@ use Rattle.ng_link.specs.Calls.{blank}
 use Rattle.ng_link.specs.State.{State, shown_in, shown}
 use Rattle.ng_markup.specs.Forest.{no_nodes}
 use Rattle.ng_page.specs.Answered.{DigestsWhere}
-use Rattle.ng_page.specs.Commands.{program_run}
+use Rattle.ng_page.specs.Commands.{Asked, is_idle, begun, asked_run, program_run}
 use Rattle.ng_page.specs.Opening.{prepared, linked_by, opening}
+use Rattle.ng_page.specs.Steps.{Outcome, Ends}
 use Rattle.ng_page.proofs.DigestsStay.{digest_sites}
-use Rattle.ng_page.proofs.StepsStay.{followed_sites, program_stays}
-use Rattle.ng_run.specs.Lines.{Digest}
-use Rattle.ng_run.specs.Refusals.{Accepted}
-use Rattle.ng_run.specs.Session.{Reply, is_well, OpensPage, SessionOf}
+use Rattle.ng_page.proofs.StepsStay.{followed_sites, program_stays, asked_sites}
+use Rattle.ng_script.specs.Acts.{Entry}
+use Rattle.ng_inputs.specs.Refusals.{Accepted}
+use Rattle.ng_run.specs.Aims.{asked_of}
+use Rattle.ng_run.specs.Lines.{Digest, header}
+use Rattle.ng_run.specs.Session.{Reply, all_well, steps_status, whole, Runs, SessionOf}
+use Rattle.ng_run.specs.Steps.{Left, Step, is_well, DoesUnlessIdle, DoesAsked, Continues, OpensPage}
 use Rattle.ng_laws.specs.Sessions.{CrowdedPageIsEmpty}
 
 is_full : (n : ℕ) → node_limit < n → nat_lt node_limit (0 + n) ≡ true
@@ -44,19 +48,43 @@ not_well : (o : Option Fault) (f : Fault) (d : Digest) → is_well (first_or o f
 not_well None f d = refl
 not_well (Some e) f d = refl
 
-abbrev by_well : Bool → ℕ
-by_well well = if well then 0 else 1
+-- nor does a command
+ends_unlinked : (s : State) (o : Outcome) (t : State) → Ends s o t → s.linked ≡ None → t.linked ≡ None
+ends_unlinked s o t h e = linked_stays (live_at s.core.scopes 0) s o.digest o.probed t h.digest ∙ e
 
-opened_crowded : (a : Accepted) (r : Reply) → node_limit < nodes a.template.parts → OpensPage a r → (r.status ≡ 1) × IfSome r.page (λ l. shown l.state ≡ no_nodes)
-opened_crowded a r more (o, s, h, is) =
-    let begun = opening a.facts a.template in
-    let first = (prepared a.facts).core.handed.first in
-    let none = empty a more in
-    let fault : o.first ≡ first_or first NodeLimit = h.first ∙ ap (λ (x : State). x.core.handed.first) none in
-    let gone : s.linked ≡ None = linked_stays (live_at begun.core.scopes 0) begun o.digest o.probed s h.digest ∙ (ap (λ (x : State). x.linked) none ∙ none_linked a.facts) in (
-      ap (λ (q : Reply). q.status) is ∙ ap by_well (ap (λ x. is_well x o.digest) fault ∙ not_well first NodeLimit o.digest),
-      subst (λ x. IfSome x (λ l. shown l.state ≡ no_nodes)) (sym (ap (λ (q : Reply). q.page) is)) (ap (shown_in s.watchers s.resting) gone),
+unless_unlinked : (idle trace : Bool) (head : List ℕ) (a : Asked) (s : State) (x : Step) (l : Left) → DoesUnlessIdle idle trace head a s x l → s.linked ≡ None → l.state.linked ≡ None
+unless_unlinked true trace head a s x l h e = ap (λ (z : Left). z.state.linked) h.1 ∙ e
+unless_unlinked false trace head a s x l h e = ap (λ (z : Left). z.state.linked) h.leaves ∙ ends_unlinked (asked_run a (begun s)) h.outcome h.state h.steps ((asked_sites a (begun s)).linked ∙ e)
+
+asked_unlinked : (trace : Bool) (head : List ℕ) (o : Option Asked) (s : State) (x : Step) (l : Left) → DoesAsked trace head o s x l → s.linked ≡ None → l.state.linked ≡ None
+asked_unlinked trace head None s x l h e = ap (λ (z : Left). z.state.linked) h.1 ∙ e
+asked_unlinked trace head (Some a) s x l h e = unless_unlinked (is_idle a s) trace head a s x l h e
+
+continues_unlinked : (trace : Bool) (k : ℕ) (es : List Entry) (left : Left) (xs : List Step) (end : Left) → Continues trace k es left xs end → left.state.linked ≡ None → end.state.linked ≡ None
+continues_unlinked trace k [] left xs end h e = ap (λ (z : Left). z.state.linked) h.1 ∙ e
+continues_unlinked trace k (c ∷ es) left xs end (x, next, rest, does, more, is) e =
+    continues_unlinked trace (k + 1) es next rest end more (asked_unlinked trace (header k c.shown) (asked_of c.act left.state) left.state x next does e)
+
+module _ (trace : Bool) (a : Accepted) (more : node_limit < nodes a.template.parts) (x : Step) (left : Left) (h : OpensPage trace a x left) where
+  abbrev started : State
+  started = opening a.facts a.template
+
+  first_fault : h.outcome.first ≡ first_or (prepared a.facts).core.handed.first NodeLimit
+  first_fault = h.opens.first ∙ ap (λ (s : State). s.core.handed.first) (empty a more)
+
+  first_faulted : x.well ≡ false
+  first_faulted = ap (λ (s : Step). s.well) h.prints ∙ (ap (λ f. is_well f h.outcome.digest) first_fault ∙ not_well (prepared a.facts).core.handed.first NodeLimit h.outcome.digest)
+
+  first_unlinked : left.state.linked ≡ None
+  first_unlinked = ap (λ (z : Left). z.state.linked) h.leaves ∙ ends_unlinked started h.outcome h.state h.opens (ap (λ (s : State). s.linked) (empty a more) ∙ none_linked a.facts)
+
+runs_crowded : (trace : Bool) (a : Accepted) (r : Reply) → node_limit < nodes a.template.parts → Runs whole trace a r → (r.status ≡ 1) × IfSome r.page (λ l. shown l.state ≡ no_nodes)
+runs_crowded trace a r more (xs, end, (x, left, rest, opens, then_on, is), done_so) =
+    let status : steps_status xs ≡ 1 = ap steps_status is ∙ ap (λ b. if b && all_well rest then 0 else 1) (first_faulted trace a more x left opens) in
+    let gone : end.state.linked ≡ None = continues_unlinked trace 1 a.commands left rest end then_on (first_unlinked trace a more x left opens) in (
+      ap (λ (q : Reply). q.status) done_so ∙ status,
+      subst (λ o. IfSome o (λ l. shown l.state ≡ no_nodes)) (sym (ap (λ (q : Reply). q.page) done_so)) (ap (shown_in end.state.watchers end.state.resting) gone),
     )
 
 pub crowded : CrowdedPageIsEmpty
-crowded i a r e more h = opened_crowded a r more (subst (λ c. SessionOf c r) e h)
+crowded trace i a r e more h = runs_crowded trace a r more (subst (λ c. SessionOf whole trace c r) e h)

@@ -21,7 +21,7 @@ use Rattle.ng_link.specs.Shape.{key_on, linked}
 use Rattle.ng_link.specs.State.{State, Listening, is_site}
 use Rattle.ng_app.specs.Installing.{installed}
 use Rattle.ng_page.specs.Answered.{ready_place}
-use Rattle.ng_page.specs.Commands.{program_run}
+use Rattle.ng_page.specs.Commands.{Asked, applies, queues, probes, digests, destroys_scope, emits, broadcasts, begun, program_run, destroyed, emit_run, broadcast_run, asked_run}
 use Rattle.ng_page.specs.Opening.{prepared, linked_root, linked_by, opening}
 use Rattle.ng_page.specs.PageLaws.{by_test, page_laws}
 use Rattle.ng_page.specs.PageMachine as page
@@ -159,3 +159,17 @@ by_ordered t (Err f) s h = h
 
 pub opening_ordered : (f : Facts) (t : Template) → IsOrdered (opening f t)
 opening_ordered f t = by_ordered t (linked 0 t.parts) (prepared f) (prepared_ordered f)
+
+-- ---- the commands
+
+program_ordered : (a : Asked) (s : State) → IsOrdered s → IsOrdered (asked_run a s)
+program_ordered (applies scope p) s h = followed_ordered (program_run scope p s.core) s h
+program_ordered (queues p) s h = h
+program_ordered (probes p) s h = h
+program_ordered digests s h = h
+program_ordered (destroys_scope scope) s h = changed_ordered (with_core (destroyed scope s.core) s) h
+program_ordered (emits scope name d) s h = followed_ordered (emit_run scope name d s.core) s h
+program_ordered (broadcasts scope name d) s h = followed_ordered (broadcast_run scope name d s.core) s h
+
+pub asked_ordered : (a : Asked) (s : State) → IsOrdered s → IsOrdered (asked_run a (begun s))
+asked_ordered a s h = program_ordered a (begun s) h

@@ -1,5 +1,5 @@
 -- What is there: the end of a digest, and the session of the files of a run; and what a page with too many nodes is.
-use Rattle.std.specs.Prelude.{◌≡◌, ◌<◌, Result, Ok}
+use Rattle.std.specs.Prelude.{◌≡◌, ◌<◌, Bool, Result, Ok}
 use Rattle.std.specs.Option.{IfSome}
 use Rattle.ng_base.specs.declared.path.Key.{Key}
 use Rattle.ng_digest.specs.Early.{plain_answer}
@@ -15,8 +15,8 @@ use Rattle.ng_link.specs.State.{shown}
 use Rattle.ng_markup.specs.Forest.{no_nodes}
 use Rattle.ng_page.specs.Answered.{ready_place}
 use Rattle.ng_page.specs.PageMachine.{State, page_machine, readied}
-use Rattle.ng_run.specs.Files.{Inputs}
-use Rattle.ng_run.specs.Refusals.{Accepted, accepted}
+use Rattle.ng_inputs.specs.Files.{Inputs}
+use Rattle.ng_inputs.specs.Refusals.{Accepted, accepted}
 use Rattle.ng_run.specs.Session.{Reply, Session}
 
 -- A digest over the watchers of a page, which stand in key order, comes to an end: the one that stops early, and the plain one
@@ -25,10 +25,10 @@ abbrev pub DigestEnds : Type 0
 DigestEnds = (s : link.State) → InOrder page_machine (readied s) → (answer : Result Report DigestFault) × (short : Place State Key) × (end : Plain State)
     × Digests page_machine (ready_place s) answer short × PlainDigests page_machine (readied s) (plain_answer answer) end × (end.state ≡ short.state)
 
--- the files of a run have a session
+-- the files of a run have a session, with the trace and without
 abbrev pub SessionIsThere : Type 0
-SessionIsThere = (i : Inputs) → (r : Reply) × Session i r
+SessionIsThere = (trace : Bool) (i : Inputs) → (r : Reply) × Session trace i r
 
--- a page that would have too many nodes is empty, and the status is 1
+-- a page that would have too many nodes is empty, whatever is done on it, and the status is 1
 abbrev pub CrowdedPageIsEmpty : Type 0
-CrowdedPageIsEmpty = (i : Inputs) (a : Accepted) (r : Reply) → accepted i ≡ Ok a → node_limit < nodes a.template.parts → Session i r → (r.status ≡ 1) × IfSome r.page (λ l. shown l.state ≡ no_nodes)
+CrowdedPageIsEmpty = (trace : Bool) (i : Inputs) (a : Accepted) (r : Reply) → accepted i ≡ Ok a → node_limit < nodes a.template.parts → Session trace i r → (r.status ≡ 1) × IfSome r.page (λ l. shown l.state ≡ no_nodes)

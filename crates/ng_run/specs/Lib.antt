@@ -1,9 +1,9 @@
-pub mod Words
-pub mod Files
 pub mod Lines
-pub mod Refusals
+pub mod Aims
+pub mod Steps
 pub mod Session
 pub mod ReplyOf
+pub mod Performed
 pub mod Run
-pub mod Free
+pub mod Doing
 pub mod Laws

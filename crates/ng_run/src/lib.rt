@@ -1,24 +1,30 @@
 //! The top call: words and files in, bytes and a status out.
 //!
-//! `run` does all that the program does. Its contract is the headline: what was written is the first bytes of the reply that the
-//! words and files call for, the whole of it for all statuses but 7 and 8; where no fetch failed that reply is the session of
-//! the files. The page that is handed back shows what its sites have kept, and where its last digest answered Ok it is
-//! settled and shows its rendering. Every status has its cause.
+//! `run` does all that the program does. Its contract is the headline: what was written is nothing, or the first steps of the reply
+//! that the words and files call for, and that reply whole for all statuses but 7 and 8; where no fetch failed it is the session
+//! of the files. The page that is handed back shows what its watchers have kept, and where the last digest of its last step
+//! answered Ok it is settled and shows its rendering. Every status has its cause.
 //!
-//! The definitions stand in `specs/`. `Words.antt` has the form of the words; `Files.antt` the files of a run as one list, in the
-//! order of fetching, and what their fetches bring; `Refusals.antt` the order of work, in which the first refusal stands;
-//! `Session.antt` the reply, in pieces of which each is a put; `Lines.antt` the lines; `Run.antt` what a run writes and leaves,
-//! and the causes of its statuses.
+//! The definitions stand in `specs/`. `Lines.antt` has the lines of a step; `Aims.antt` what a command is aimed at, and what it
+//! asks of the page; `Steps.antt` what a step prints and leaves; `Session.antt` the reply, in pieces of which each is a put;
+//! `Run.antt` what a run writes and leaves, and the causes of its statuses. `Performed.antt` and `Doing.antt` say what the code
+//! makes of one command and of all of them, and `ReplyOf.antt` what its values stand for. The words, the files and their refusals
+//! are defined in `ng_inputs`.
 //!
-//! Formats and limits are decided below: in `ng_html` and `ng_template` for templates, in `ng_app` for applications.
+//! In reading order: `reply` has the types; `lines` writes lines, and `step` puts them together; `commands` does one command on a
+//! page, `doing` those of a script over a sink; `opening` opens a page; `answer` finds the reply to words, and `run` writes it.
+//! `laws` says that there is one session at most.
+//!
+//! Formats and limits are decided below: in `ng_html` and `ng_template` for templates, in `ng_app` for applications, in
+//! `ng_script` for scripts. What a command does is the page's.
 #![tactic(auto)]
 
 mod answer;
-mod files;
+mod commands;
+mod doing;
 pub mod laws;
 mod lines;
 mod opening;
-mod refusal;
 mod reply;
 pub mod run;
-mod words;
+mod step;

@@ -1,135 +1,35 @@
-//! The lines of a run.
-ghost use Rattle.std.specs.Prelude.{◌≡◌, ◌++◌, codes, IfOk, OnOk, option_map};
-ghost use Rattle.std.specs.Fmt.{decimal};
+//! The lines of a step.
+ghost use Rattle.std.specs.Prelude.{◌≡◌, ◌++◌, IfOk, OnOk, option_map, encode_utf8_all};
+ghost use Rattle.std.specs.List.{flat_map};
 ghost use Rattle.ng_digest.specs.Early.{plain_answer};
-ghost use Rattle.ng_run.specs.Lines.{faults, action_line, failed_line, digest_line, html_name, tpl_name, member_name, app_name};
-ghost use Rattle.ng_run.specs.Refusals.{template_text, refusal_text};
+ghost use Rattle.ng_html.specs.Seen.{forest_of};
+ghost use Rattle.ng_link.specs.State.{shown, rendering};
+ghost use Rattle.ng_markup.specs.Forest.{text_char};
+ghost use Rattle.ng_page.specs.PageOf.{state_of};
+ghost use Rattle.ng_run.specs.Lines.{header as header_of, faults, action_line, trace_line, failed_line, digest_line, probe_line, probe_lines, print_line, rendered_line};
+ghost use Rattle.ng_run.specs.ReplyOf.{IsReady, told_lines};
 
-use crate::refusal::Refusal;
-use ng_app::{AppFault, AppKind, Member};
-use ng_base::fault::Fault;
+use ng_base::fault::{Fault, Memory};
+use ng_base::lists::Words;
+use ng_base::txt::Txt;
 use ng_digest::log::Report;
 use ng_digest::rounds::DigestFault;
-use ng_html::fault::HtmlKind;
-use ng_template::fault::TplKind;
+use ng_html::forest::{Forest, text_node};
+use ng_html::write;
+use ng_inputs::names::push_number;
+use ng_page::page::Page;
 use std::alloc::{AllocError, Global};
 
-/// Adds the digits of a number.
-pub(crate) fn push_number(into: &mut Vec<u8>, n: u64) -> Result<(), AllocError>
-    ensures { OnOk result (into.new.items ≡ into.old.items ++ decimal n) }
+/// The line that a step begins with: its number and its command.
+pub(crate) fn header(alloc: Global, number: u64, command: &Txt) -> Result<Vec<u8>, AllocError>
+    ensures { IfOk result (λ v. v.items ≡ header_of number command.now) }
 {
-    let digits = n.to_string(*into.allocator())?;
-    into.extend_from_slice(digits.as_str().as_bytes())
-}
-
-/// The name of a refusal of a document.
-fn html_word(kind: &HtmlKind) -> &'static str
-    ensures { result.now ≡ html_name kind.now }
-{
-    match kind {
-        HtmlKind::Utf8 => "Utf8",
-        HtmlKind::Unclosed => "Unclosed",
-        HtmlKind::Unmatched => "Unmatched",
-        HtmlKind::BadTag => "BadTag",
-        HtmlKind::BadAttr => "BadAttr",
-        HtmlKind::BadReference => "BadReference",
-        HtmlKind::TooDeep => "TooDeep",
-        HtmlKind::SelfClosed => "SelfClosed",
-        HtmlKind::Memory(_) => "Memory",
-    }
-}
-
-/// The name of a refusal of a template.
-fn tpl_word(kind: &TplKind) -> &'static str
-    ensures { result.now ≡ tpl_name kind.now }
-{
-    match kind {
-        TplKind::Expression => "Expression",
-        TplKind::Impure => "Impure",
-        TplKind::MultiDir => "MultiDir",
-        TplKind::BadRepeat => "BadRepeat",
-        TplKind::CaseWithoutSwitch => "CaseWithoutSwitch",
-        TplKind::UnknownFilter => "UnknownFilter",
-        TplKind::LeftOut => "LeftOut",
-        TplKind::Orphan => "Orphan",
-        TplKind::Later => "Later",
-        TplKind::Memory(_) => "Memory",
-    }
-}
-
-/// The name of a member of the application file.
-fn member_word(member: &Member) -> &'static str
-    ensures { result.now ≡ member_name member.now }
-{
-    match member {
-        Member::File => "file",
-        Member::Format => "format",
-        Member::Facts => "data",
-        Member::Templates => "templates",
-        Member::Directives => "directives",
-        Member::Functions => "functions",
-        Member::Run => "run",
-        Member::Watch => "watch",
-        Member::On => "on",
-    }
-}
-
-/// The name of a refusal of an application.
-fn app_word(kind: &AppKind) -> &'static str
-    ensures { result.now ≡ app_name kind.now }
-{
-    match kind {
-        AppKind::Json => "Json",
-        AppKind::Shape => "Shape",
-        AppKind::Number => "Number",
-        AppKind::Full => "Full",
-        AppKind::BadName => "BadName",
-        AppKind::BadRestrict => "BadRestrict",
-        AppKind::BadBinding => "BadBinding",
-        AppKind::Markup => "Markup",
-        AppKind::Template => "Template",
-        AppKind::Expression => "Expression",
-        AppKind::Impure => "Impure",
-        AppKind::Later => "Later",
-        AppKind::Memory(_) => "Memory",
-    }
-}
-
-/// The text of a refused template.
-fn template_words(alloc: Global, place: u64, word: &str) -> Result<Vec<u8>, AllocError>
-    ensures { IfOk result (λ v. v.items ≡ template_text place word.now) }
-{
-    let mut text = Vec::new(alloc);
-    text.extend_from_slice("template: ".as_bytes())?;
-    push_number(&mut text, place)?;
-    text.extend_from_slice(" ".as_bytes())?;
-    text.extend_from_slice(word.as_bytes())?;
-    Ok(text)
-}
-
-/// The text of a refused application.
-fn application_words(alloc: Global, fault: &AppFault) -> Result<Vec<u8>, AllocError>
-    ensures { IfOk result (λ v. v.items ≡ codes "application: " ++ member_name fault.now.member ++ codes " " ++ decimal fault.now.item ++ codes " " ++ app_name fault.now.kind) }
-{
-    let mut text = Vec::new(alloc);
-    text.extend_from_slice("application: ".as_bytes())?;
-    text.extend_from_slice(member_word(&fault.member).as_bytes())?;
-    text.extend_from_slice(" ".as_bytes())?;
-    push_number(&mut text, fault.item)?;
-    text.extend_from_slice(" ".as_bytes())?;
-    text.extend_from_slice(app_word(&fault.kind).as_bytes())?;
-    Ok(text)
-}
-
-/// The text of a refusal.
-pub(crate) fn refusal_words(alloc: Global, refusal: &Refusal) -> Result<Vec<u8>, AllocError>
-    ensures { IfOk result (λ v. v.items ≡ refusal_text refusal.now) }
-{
-    match refusal {
-        Refusal::Document(fault) => template_words(alloc, fault.place, html_word(&fault.kind)),
-        Refusal::Application(fault) => application_words(alloc, fault),
-        Refusal::Template(fault) => template_words(alloc, fault.place, tpl_word(&fault.kind)),
-    }
+    let mut bytes = Vec::from_slice(alloc, "# ".as_bytes())?;
+    push_number(&mut bytes, number)?;
+    bytes.extend_from_slice(" ".as_bytes())?;
+    bytes.extend_from_slice(command.as_str().as_bytes())?;
+    bytes.extend_from_slice("\n".as_bytes())?;
+    Ok(bytes)
 }
 
 /// As many faults, of which this is the first.
@@ -200,5 +100,102 @@ pub(crate) fn digested(
         None => Ok(Vec::new(alloc)),
         Some(Ok(_)) => Ok(Vec::new(alloc)),
         Some(Err(fault)) => failed_digest(alloc, fault),
+    }
+}
+
+/// What a digest that answered Ok took.
+fn trace(alloc: Global, report: &Report) -> Result<Vec<u8>, AllocError>
+    ensures { IfOk result (λ v. v.items ≡ trace_line report.now) }
+{
+    let mut bytes = Vec::from_slice(alloc, "~ rounds ".as_bytes())?;
+    push_number(&mut bytes, u64::from(report.rounds))?;
+    bytes.extend_from_slice(" fires ".as_bytes())?;
+    push_number(&mut bytes, u64::from(report.fires))?;
+    bytes.extend_from_slice(" tests ".as_bytes())?;
+    push_number(&mut bytes, report.tests)?;
+    bytes.extend_from_slice("\n".as_bytes())?;
+    Ok(bytes)
+}
+
+/// The trace of a step's digest, where it is asked for.
+pub(crate) fn told(
+    alloc: Global,
+    is_traced: bool,
+    digest: &Option<Result<Report, DigestFault>>,
+) -> Result<Vec<u8>, AllocError>
+    ensures { IfOk result (λ v. v.items ≡ told_lines is_traced digest.now) }
+{
+    if !is_traced {
+        return Ok(Vec::new(alloc));
+    }
+    match digest {
+        None => Ok(Vec::new(alloc)),
+        Some(Ok(report)) => trace(alloc, report),
+        Some(Err(_)) => Ok(Vec::new(alloc)),
+    }
+}
+
+/// Adds a text as it is printed in a document.
+fn push_text(alloc: Global, into: &mut Vec<u8>, text: &Txt) -> Result<(), Memory>
+    ensures { OnOk result (into.new.items ≡ into.old.items ++ encode_utf8_all (flat_map text_char text.now)) }
+{
+    let mut document = Forest::new(alloc);
+    document.push(text_node(text.copied()?))?;
+    write(&document, into)
+}
+
+/// Adds the line of a probe.
+fn push_probe(alloc: Global, into: &mut Vec<u8>, text: &Txt) -> Result<(), Memory>
+    ensures { OnOk result (into.new.items ≡ into.old.items ++ probe_line text.now) }
+{
+    into.extend_from_slice("= ".as_bytes())?;
+    push_text(alloc, into, text)?;
+    into.extend_from_slice("\n".as_bytes())?;
+    Ok(())
+}
+
+/// The lines of the probes.
+pub(crate) fn probes(alloc: Global, texts: &Words) -> Result<Vec<u8>, Memory>
+    ensures { IfOk result (λ v. v.items ≡ probe_lines texts.now) }
+{
+    let mut bytes = Vec::new(alloc);
+    let list = texts.as_slice();
+    for text in list {
+        push_probe(alloc, &mut bytes, text)?;
+    }
+    Ok(bytes)
+}
+
+/// The document on one line.
+pub(crate) fn shown_line(alloc: Global, page: &Page) -> Result<Vec<u8>, Memory>
+    requires { IsReady page.now }
+    ensures { IfOk result (λ v. v.items ≡ print_line (shown (state_of page.now))) }
+{
+    let mut bytes = Vec::new(alloc);
+    page.print(&mut bytes)?;
+    bytes.extend_from_slice("\n".as_bytes())?;
+    Ok(bytes)
+}
+
+/// A document that was computed afresh, on one line.
+fn forest_line(alloc: Global, document: &Forest) -> Result<Vec<u8>, Memory>
+    ensures { IfOk result (λ v. v.items ≡ print_line (forest_of document.now)) }
+{
+    let mut bytes = Vec::new(alloc);
+    write(document, &mut bytes)?;
+    bytes.extend_from_slice("\n".as_bytes())?;
+    Ok(bytes)
+}
+
+/// The rendering on one line, where there is one.
+pub(crate) fn static_line(alloc: Global, page: &Page) -> Result<Vec<u8>, Memory>
+    requires { IsReady page.now }
+    ensures { IfOk result (λ v. v.items ≡ rendered_line (rendering (state_of page.now))) }
+{
+    match page.rendered() {
+        Ok(Some(document)) => forest_line(alloc, &document),
+        Ok(None) => Ok(Vec::new(alloc)),
+        Err(Fault::Memory(memory)) => Err(memory),
+        Err(_) => Ok(Vec::new(alloc)),
     }
 }

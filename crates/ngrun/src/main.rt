@@ -1,4 +1,4 @@
-//! The program `ngrun`: renders a template over an application's data.
+//! The program `ngrun`: opens the page of a template over an application, and does the commands of a script on it.
 //!
 //! It makes the real shelf and sink, takes its words after the program's name, and does what `run` of `ng_run`
 //! says, whose contract is the one that counts; the exit status is the status of the run. What a file holds and

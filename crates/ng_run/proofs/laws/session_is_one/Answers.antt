@@ -1,4 +1,4 @@
-use Rattle.ng_run.proofs.One.{session_one}
+use Rattle.ng_run.proofs.Sessions.{session_one}
 use Rattle.ng_run.proofs.laws.session_is_one.Goals as goal
 
 pub returns : goal.returns

@@ -1,0 +1,109 @@
+-- The steps of a session: what each prints, and how it leaves the page.
+use Rattle.std.specs.Prelude.{ℕ, ◌≡◌, ◌+◌, Bool, true, false, List, [], ◌∷◌, ◌++◌, codes, Option, None, Some, Ok, Err}
+use Rattle.ng_base.specs.declared.fault.Fault.{Fault}
+use Rattle.ng_digest.specs.declared.log.Report.{Report}
+use Rattle.ng_drawing.specs.Drawing.{Rendered}
+use Rattle.ng_markup.specs.Forest.{Forest}
+use Rattle.ng_link.specs.State.{State, rendering}
+use Rattle.ng_page.specs.Commands.{Asked, is_idle}
+use Rattle.ng_page.specs.Steps.{Outcome, Steps, StepsShort, Opens, OpensShort}
+use Rattle.ng_script.specs.Acts.{Entry}
+use Rattle.ng_run.specs.Aims.{asked_of}
+use Rattle.ng_run.specs.Lines.{Digest, header, action_line, trace_line, digest_line, probe_lines, last_line}
+use Rattle.ng_inputs.specs.Refusals.{Accepted}
+
+-- the page as a step left it, and whether the last digest of that step answered Ok
+pub record Left : Type 0 where
+  pub state : State
+  pub digested : Bool
+
+-- what a step prints, and whether none of its lines is `action:`, `digest:` or `target:`
+pub record Step : Type 0 where
+  pub lines : List ℕ
+  pub well : Bool
+
+abbrev pub is_digested : Digest → Bool
+is_digested None = false
+is_digested (Some (Ok counts)) = true
+is_digested (Some (Err f)) = false
+
+abbrev pub has_no_failure : Digest → Bool
+has_no_failure None = true
+has_no_failure (Some (Ok counts)) = true
+has_no_failure (Some (Err f)) = false
+
+-- all went well where no fault was handed over and no digest failed
+abbrev pub is_well : Option Fault → Digest → Bool
+is_well None digest = has_no_failure digest
+is_well (Some f) digest = false
+
+-- the lines of a step in their order, after its header: the faults of its programs, the trace, a digest that failed, the probes, the document
+abbrev pub step_lines : List ℕ → Outcome → Rendered Forest → List ℕ
+step_lines trace o document = action_line o.count o.first ++ trace ++ digest_line o.digest ++ probe_lines o.probed ++ last_line o.digest document
+
+abbrev pub step_of : List ℕ → List ℕ → Outcome → Rendered Forest → Step
+step_of head trace o document = record { lines = head ++ step_lines trace o document; well = is_well o.first o.digest }
+
+abbrev pub left_by : Outcome → State → Left
+left_by o s = record { state = s; digested = is_digested o.digest }
+
+abbrev pub idle_step : List ℕ → Step
+idle_step head = record { lines = head ++ codes "idle\n"; well = true }
+
+abbrev pub aimless_step : List ℕ → Step
+aimless_step head = record { lines = head ++ codes "target: none\n"; well = false }
+
+abbrev pub same_page : State → Left
+same_page s = record { state = s; digested = false }
+
+-- With `--trace` a digest that answered Ok is told with what it took, where each round stops at the watcher that was last dirty.
+abbrev pub IsTrace : Bool → (Report → Type 0) → Digest → List ℕ → Type 0
+IsTrace true Took (Some (Ok counts)) l = (r : Report) × Took r × (l ≡ trace_line r)
+IsTrace true Took (Some (Err f)) l = l ≡ []
+IsTrace true Took None l = l ≡ []
+IsTrace false Took digest l = l ≡ []
+
+-- what is asked of the page is done
+pub record Performs (trace : Bool) (head : List ℕ) (a : Asked) (s : State) (step : Step) (left : Left) : Type 0 where
+  pub outcome : Outcome
+  pub state : State
+  pub told : List ℕ
+  pub steps : Steps a s outcome state
+  pub took : IsTrace trace (λ r. StepsShort a s (Some (Ok r)) state) outcome.digest told
+  pub prints : step ≡ step_of head told outcome (rendering state)
+  pub leaves : left ≡ left_by outcome state
+
+-- nothing is done where the root, or the scope in question, is not live
+abbrev pub DoesUnlessIdle : Bool → Bool → List ℕ → Asked → State → Step → Left → Type 0
+DoesUnlessIdle true trace head a s step left = (step ≡ idle_step head) × (left ≡ same_page s)
+DoesUnlessIdle false trace head a s step left = Performs trace head a s step left
+
+-- nor where no element stands at the target
+abbrev pub DoesAsked : Bool → List ℕ → Option Asked → State → Step → Left → Type 0
+DoesAsked trace head None s step left = (step ≡ aimless_step head) × (left ≡ same_page s)
+DoesAsked trace head (Some a) s step left = DoesUnlessIdle (is_idle a s) trace head a s step left
+
+-- a command, the k-th of the script, is done so
+abbrev pub Does : Bool → ℕ → Entry → State → Step → Left → Type 0
+Does trace k e s step left = DoesAsked trace (header k e.shown) (asked_of e.act s) s step left
+
+-- commands are done one after another, the first of them as step k
+abbrev pub Continues : Bool → ℕ → List Entry → Left → List Step → Left → Type 0
+Continues trace k [] left steps end = (steps ≡ []) × (end ≡ left)
+Continues trace k (e ∷ es) left steps end =
+    (step : Step) × (next : Left) × (rest : List Step) × Does trace k e left.state step next × Continues trace (k + 1) es next rest end × (steps ≡ step ∷ rest)
+
+-- the step that opens the page
+pub record OpensPage (trace : Bool) (a : Accepted) (step : Step) (left : Left) : Type 0 where
+  pub outcome : Outcome
+  pub state : State
+  pub told : List ℕ
+  pub opens : Opens a.facts a.template outcome state
+  pub took : IsTrace trace (λ r. OpensShort a.facts a.template (Some (Ok r)) state) outcome.digest told
+  pub prints : step ≡ step_of (codes "# 0 open\n") told outcome (rendering state)
+  pub leaves : left ≡ left_by outcome state
+
+-- the page is opened, and the commands are done
+abbrev pub RunsSteps : Bool → Accepted → List Step → Left → Type 0
+RunsSteps trace a steps end =
+    (step : Step) × (left : Left) × (rest : List Step) × OpensPage trace a step left × Continues trace 1 a.commands left rest end × (steps ≡ step ∷ rest)

@@ -1,0 +1,150 @@
+//! Commands, done on a page.
+ghost use Rattle.std.specs.Prelude.{◌≡◌, true, is_some, IfOk, option_map};
+ghost use Rattle.std.specs.Option.{IfSome};
+ghost use Rattle.serde_json.specs.Find.{as_array};
+ghost use Rattle.serde_json.specs.View.{view};
+ghost use Rattle.ng_page.specs.Commands.{applies, destroys_scope, emits, broadcasts};
+ghost use Rattle.ng_page.specs.PageOf.{state_of};
+ghost use Rattle.ng_parse.specs.ProgramOf.{program as program_of};
+ghost use Rattle.ng_script.specs.Acts.{act_of, entry_of};
+ghost use Rattle.ng_inputs.specs.Acts.{IsSound};
+ghost use Rattle.ng_run.specs.Aims.{scope_in, asked_of};
+ghost use Rattle.ng_run.specs.Performed.{Answers, Performed, IsStepOf};
+ghost use Rattle.ng_run.specs.ReplyOf.{IsReady};
+
+use crate::lines::header;
+use crate::reply::Lines;
+use crate::step::{aimless, idle, step};
+use ng_base::fault::Memory;
+use ng_base::name::ScopeId;
+use ng_base::txt::Txt;
+use ng_inputs::words::Flags;
+use ng_page::outcome::{Outcome, PageFault};
+use ng_page::page::Page;
+use ng_parse::Program;
+use ng_script::{Command, ScopeOf, What};
+use serde_json::Value as Json;
+use std::alloc::Global;
+
+/// What became of a command: no element stands at its target; nothing was to be done; or it was done.
+#[derive(Drop)]
+pub(crate) enum Done {
+    Aimless,
+    Idle,
+    Outcome(Outcome),
+}
+
+/// What the call of a page came to. A page that is spent has wanted memory.
+fn answered(answer: Result<Outcome, PageFault>) -> Result<Done, Memory>
+    ensures { Answers answer result }
+{
+    match answer {
+        Ok(outcome) => Ok(Done::Outcome(outcome)),
+        Err(PageFault::Idle) => Ok(Done::Idle),
+        Err(PageFault::Spent) => Err(Memory::Refused),
+        Err(PageFault::Memory(memory)) => Err(memory),
+    }
+}
+
+/// The scope that a command is aimed at, where its target stands.
+fn scope_of(page: &Page, scope: &ScopeOf) -> Option<ScopeId>
+    requires { IsReady page.now }
+    ensures scope { option_map (λ s. s.0) result ≡ scope_in scope.now (state_of page.now) }
+    ensures root { IfSome result (λ s. s.0 ≡ 0) }
+{
+    match scope {
+        ScopeOf::Root => Some(page.root()),
+        ScopeOf::Node(target) => match page.find(target) {
+            None => None,
+            Some(node) => Some(page.scope_of(node)),
+        },
+    }
+}
+
+/// A program runs on a scope.
+fn apply(page: &mut Page, scope: &ScopeOf, program: &Program) -> Result<Done, Memory>
+    requires { IsReady page.old }
+    ensures { Performed (option_map (λ s. applies s (program_of program.now)) (scope_in scope.now (state_of page.old))) page.old result page.new }
+{
+    match scope_of(page, scope) {
+        None => Ok(Done::Aimless),
+        Some(scope) => answered(page.apply(scope, program)),
+    }
+}
+
+/// An event goes up from a scope.
+fn emit(page: &mut Page, scope: &ScopeOf, name: &Txt, args: &Json) -> Result<Done, Memory>
+    requires ready { IsReady page.old }
+    requires list { is_some (as_array (view args.now)) ≡ true }
+    ensures { Performed (option_map (λ s. emits s name.now (view args.now)) (scope_in scope.now (state_of page.old))) page.old result page.new }
+{
+    match scope_of(page, scope) {
+        None => Ok(Done::Aimless),
+        Some(scope) => answered(page.emit(scope, name, args)),
+    }
+}
+
+/// An event goes down from a scope.
+fn broadcast(page: &mut Page, scope: &ScopeOf, name: &Txt, args: &Json) -> Result<Done, Memory>
+    requires ready { IsReady page.old }
+    requires list { is_some (as_array (view args.now)) ≡ true }
+    ensures { Performed (option_map (λ s. broadcasts s name.now (view args.now)) (scope_in scope.now (state_of page.old))) page.old result page.new }
+{
+    match scope_of(page, scope) {
+        None => Ok(Done::Aimless),
+        Some(scope) => answered(page.broadcast(scope, name, args)),
+    }
+}
+
+/// A scope is destroyed.
+fn destroy(page: &mut Page, scope: &ScopeOf) -> Result<Done, Memory>
+    requires { IsReady page.old }
+    ensures { Performed (option_map (λ s. destroys_scope s) (scope_in scope.now (state_of page.old))) page.old result page.new }
+{
+    match scope_of(page, scope) {
+        None => Ok(Done::Aimless),
+        Some(scope) => answered(page.destroy(scope)),
+    }
+}
+
+/// Does what a command asks of the page. The commands of the document's elements ask nothing yet, and are refused with the script.
+fn perform(page: &mut Page, what: &What) -> Result<Done, Memory>
+    requires ready { IsReady page.old }
+    requires sound { IsSound (act_of what.now) }
+    ensures { Performed (asked_of (act_of what.now) (state_of page.old)) page.old result page.new }
+{
+    match what {
+        What::Eval(program) => apply(page, &ScopeOf::Root, program),
+        What::At { scope, program } => apply(page, scope, program),
+        What::Emit { scope, name, args } => emit(page, scope, name, args),
+        What::Broadcast { scope, name, args } => broadcast(page, scope, name, args),
+        What::Async(program) => answered(page.queue(program)),
+        What::Probe(program) => answered(page.probe(program)),
+        What::Destroy(scope) => destroy(page, scope),
+        What::Digest => answered(page.digest()),
+        What::Click(_) => Ok(Done::Aimless),
+        What::Fire { .. } => Ok(Done::Aimless),
+        What::Typed { .. } => Ok(Done::Aimless),
+        What::Check { .. } => Ok(Done::Aimless),
+    }
+}
+
+/// Does a command, the one of this number, and tells what its step prints.
+pub(crate) fn do_command(
+    alloc: Global,
+    page: &mut Page,
+    flags: Flags,
+    number: u64,
+    command: &Command,
+) -> Result<Lines, Memory>
+    requires ready { IsReady page.old }
+    requires sound { IsSound (act_of command.now.what) }
+    ensures { IfOk result (λ l. IsStepOf flags.trace number (entry_of command.now) page.old l page.new) }
+{
+    let header = header(alloc, number, &command.shown)?;
+    match perform(page, &command.what)? {
+        Done::Aimless => Ok(aimless(header)?),
+        Done::Idle => Ok(idle(header)?),
+        Done::Outcome(outcome) => step(alloc, flags, header, page, &outcome),
+    }
+}
