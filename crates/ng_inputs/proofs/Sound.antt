@@ -151,12 +151,12 @@ all_lines n before (l ∷ ls) h =
 script : (bytes : List ℕ) → IfOk (script_of bytes) AreSound
 script bytes = either (is_utf8 bytes) (commands_from 0 [] (lines (chars bytes))) (Err (fault (ill_formed_line bytes) kinds.Utf8)) AreSound (all_lines 0 [] (lines (chars bytes)) tt) tt
 
+pub read_sound : (bytes : List ℕ) (es : List Entry) → script_of bytes ≡ Ok es → AreSound es
+read_sound bytes es e = subst (λ (r : Result (List Entry) ScriptFault). IfOk r AreSound) e (script bytes)
+
 unless : (es : List Entry) (o : Option ScriptFault) → AreSound es → IfOk (unless_later es o) AreSound
 unless es None h = h
 unless es (Some f) h = tt
 
 pub commands_sound : (bytes : List ℕ) → IfOk (commands_of bytes) AreSound
 commands_sound bytes = after (script_of bytes) (λ es. unless_later es (first_later es)) AreSound AreSound (script bytes) (λ es h. unless es (first_later es) h)
-
-pub read_sound : (bytes : List ℕ) (es : List Entry) → commands_of bytes ≡ Ok es → AreSound es
-read_sound bytes es e = subst (λ (r : Result (List Entry) ScriptFault). IfOk r AreSound) e (commands_sound bytes)

@@ -1,8 +1,9 @@
 //! The commands of a script.
-ghost use Rattle.std.specs.Prelude.{◌≡◌, map};
+ghost use Rattle.std.specs.Prelude.{◌≡◌, map, IfOk};
 ghost use Rattle.ng_base.specs.Meets.{Gives};
 ghost use Rattle.ng_script.specs.Acts.{act_of, entry_of, entries_of};
 ghost use Rattle.ng_script.specs.Free.{is_free};
+ghost use Rattle.ng_inputs.specs.Acts.{AreSound};
 ghost use Rattle.ng_inputs.specs.Refusals.{is_later as is_later_of, first_later as first_later_of, commands_of};
 
 use ng_script::{Command, Commands, ScriptFault, ScriptKind, What, read};
@@ -38,7 +39,8 @@ fn first_later(commands: &[Command]) -> Option<ScriptFault>
 
 /// The commands of a script. It is read to its end before one that is not built yet is refused.
 pub(crate) fn read_commands(alloc: Global, bytes: &[u8]) -> Result<Commands, ScriptFault>
-    ensures { Gives is_free entries_of (commands_of bytes.now) result }
+    ensures commands { Gives is_free entries_of (commands_of bytes.now) result }
+    ensures sound { IfOk result (λ commands. AreSound (entries_of commands)) }
 {
     let commands = read(alloc, bytes)?;
     match first_later(commands.as_slice()) {
