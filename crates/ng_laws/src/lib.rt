@@ -2,7 +2,7 @@
 //!
 //! - `sessions`: the files of a run have a session. `run` of `ng_run` says that what a run writes is the session of its files, a
 //!   relation over the plain digest, and `session_is_one` of that crate that there is at most one. The law here says that there
-//!   is one: whatever the bytes of the files are, the session refuses one of them, or the page opens and its plain digest, where
+//!   is one: whatever the bytes of the files are, the session refuses one of them, or the page opens, and each plain digest, where
 //!   one is due, comes to an end. `proofs/Ends` shows that of any world whose keys stand in order whatever is done to it: a test
 //!   leaves the live keys, so that each step of a walk has one key less ahead; fires and tasks are limited, and the eleventh
 //!   dirty round is the last. `proofs/Ordered` shows of a page that its keys stand in order.
