@@ -1,0 +1,4 @@
+//! A law.
+#![tactic(auto)]
+
+pub mod laws;
