@@ -5,3 +5,5 @@ pub mod Texts
 pub mod Equal
 pub mod Members
 pub mod Operators
+pub mod Methods
+pub mod Storing

@@ -12,7 +12,7 @@ use Rattle.ng_base.specs.declared.fault.Fault.{Fault}
 use Rattle.ng_language.specs.Objects.{look, look_within, or_else_at, items_at}
 use Rattle.ng_language.specs.Texts.{to_text}
 use Rattle.ng_language.specs.Unfolding.{prims}
-use Rattle.ng_store.specs.Json.{array_of, plain_of}
+use Rattle.ng_write.specs.Storing.{array_with, plain_with}
 use Rattle.ng_view.specs.Evaluation.{named, or_from, Local, LocalsStand}
 use Rattle.ng_view.specs.Members.{member, item, has_members, object_member, text_member, list_member, record_member, or_undefined, view_or_undefined, char_or_undefined, indexed, is_length, count}
 use Rattle.ng_pure.specs.Showing.{Shows, ItemsShow, NamesShow}
@@ -71,7 +71,7 @@ values_length n from now [] (t ∷ ts) s = absurd s
 values_length n from now (v ∷ vs) [] s = absurd s
 values_length n from now (v ∷ vs) (t ∷ ts) s = ap suc (values_length n from now vs ts s.1)
 
-list_seen : (n from : ℕ) (now : List Object) (name : List ℕ) (o : ℕ) (vs : List Value) (ts : ViewTrees) → object_at now o ≡ array_of vs → ItemsShow n from now vs ts → Seen n from now (object_member now o name) (list_member (views_list ts) name)
+list_seen : (n from : ℕ) (now : List Object) (name : List ℕ) (o : ℕ) (vs : List Value) (ts : ViewTrees) → object_at now o ≡ array_with vs → ItemsShow n from now vs ts → Seen n from now (object_member now o name) (list_member (views_list ts) name)
 list_seen n from now name o vs ts e s =
     let all = items_seen n from now ts vs s in
     let found : Option Value = option_and_then (λ k. slice_get vs k) (index_of name) in
@@ -93,7 +93,7 @@ named_seen n from now name (p ∷ ps) (field_then m t fs) s =
     by true rest = s.1
     by false rest = rest
 
-rec_seen : (n from : ℕ) (now : List Object) (name : List ℕ) (o : ℕ) (ps : List (List ℕ × Value)) (fs : ViewFields) → object_at now o ≡ plain_of ps → NamesShow n from now ps fs → Seen n from now (object_member now o name) (record_member (fields_list fs) name)
+rec_seen : (n from : ℕ) (now : List Object) (name : List ℕ) (o : ℕ) (ps : List (List ℕ × Value)) (fs : ViewFields) → object_at now o ≡ plain_with ps → NamesShow n from now ps fs → Seen n from now (object_member now o name) (record_member (fields_list fs) name)
 rec_seen n from now name o ps fs e s =
     let found : Option Value = lookup (bytes_eq name) ps in
     let P : Object → Type 0 = λ (y : Object). Seen n from now (if is_array y.kind && is_length name then count (length y.items) else or_undefined (or_else_at (own_of y name) y.proto (λ p. look_within o now p name))) (record_member (fields_list fs) name) in

@@ -18,7 +18,9 @@ use Rattle.ng_language.specs.declared.syntax.Binary.{Binary}
 use Rattle.ng_language.specs.declared.syntax.Binary.TheVariants as binaries
 use Rattle.ng_view.specs.Evaluation.{sign_value, operator_value, truth}
 use Rattle.ng_view.proofs.Stand.{Numeric, mul_stands, sub_stands, div_stands, rem_stands}
-use Rattle.ng_pure.proofs.Shown.{Grown, Kept, Seen, seen_on}
+use Rattle.ng_write.specs.Reading.{Extends}
+use Rattle.ng_write.proofs.Extending.{extends_self}
+use Rattle.ng_pure.proofs.Shown.{Grown, Seen, seen_on}
 use Rattle.ng_pure.proofs.Alike.{truthy_same, num_same, term_same, undefined_same, joined_same, less_same}
 use Rattle.ng_pure.proofs.Equal.{strict_seen, loose_seen}
 use Rattle.ng_pure.proofs.Texts.{text_same}
@@ -70,7 +72,7 @@ sign_seen n from now unaries.Minus v t s = of_same n from now difference (Some (
 sign_seen n from now unaries.Not v t s = truth_same n from now (not (truthy v)) (not (truthy t)) (ap not (truthy_same n from now v t s))
 
 -- The right side was evaluated where the objects of the left one stood already.
-pub operator_seen : (from to : ℕ) (before mid now : List Object) → Grown before now → Kept mid now → length before ≤ from → from ≤ to → length mid ≤ to → (o : Binary) (v w t u : ViewTree)
+pub operator_seen : (from to : ℕ) (before mid now : List Object) → Grown before now → Extends mid now → length before ≤ from → from ≤ to → length mid ≤ to → (o : Binary) (v w t u : ViewTree)
     → Seen (length before) from mid v t → Seen (length before) to now w u → SeenResult (length before) from now (operator_value now o v w) (operator_value before o t u)
 unfolding operator_value
 operator_seen from to before mid now g k a b c o v w t u s r =

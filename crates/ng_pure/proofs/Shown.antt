@@ -11,13 +11,24 @@ use Rattle.ng_base.specs.declared.value.Value.TheVariants as value
 use Rattle.ng_base.specs.declared.fault.Fault.{Fault}
 use Rattle.ng_language.specs.Objects.{AreObjects}
 use Rattle.ng_language.specs.Unfolding.{prims, Field}
+use Rattle.ng_write.specs.Reading.{Extends}
 use Rattle.ng_pure.specs.Showing.{Shows, ItemsShow, NamesShow}
 
--- the objects that stood before, and those that stand now: what stood is as it was
+-- the objects that stood before are those of a store, and those that stand now extend them
 pub record Grown (before now : List Object) : Type 0 where
   pub sound : AreObjects before
   pub no_fewer : length before ≤ length now
   pub unchanged : (q : ℕ) → q < length before → object_at now q ≡ object_at before q
+
+pub grown_on : (before mid now : List Object) → Grown before mid → Extends mid now → Grown before now
+grown_on before mid now g e = record {
+  sound = g.sound;
+  no_fewer = (let x : length before ≤ length mid = g.no_fewer in let y : length mid ≤ length now = e.no_fewer in omega arith);
+  unchanged = λ q h.
+      let x : length before ≤ length mid = g.no_fewer in
+      let k : q < length mid = omega arith in
+      e.unchanged q k ∙ g.unchanged q h;
+}
 
 -- a view of a run shows one of evaluation
 abbrev pub Seen : ℕ → ℕ → List Object → ViewTree → ViewTree → Type 0
@@ -48,45 +59,28 @@ ResultBy R (Ok a) (Err e) = ⊥
 ResultBy R (Err d) (Ok b) = ⊥
 ResultBy R (Err d) (Err e) = d ≡ e
 
--- objects as they are, and others behind them
-pub record Kept (a b : List Object) : Type 0 where
-  pub no_fewer : length a ≤ length b
-  pub unchanged : (q : ℕ) → q < length a → object_at b q ≡ object_at a q
-
-pub kept_self : (a : List Object) → Kept a a
-kept_self a = record { no_fewer = omega arith; unchanged = λ q h. refl }
-
-pub kept_on : (a b c : List Object) → Kept a b → Kept b c → Kept a c
-kept_on a b c e f = record {
-  no_fewer = let x : length a ≤ length b = e.no_fewer in let y : length b ≤ length c = f.no_fewer in omega arith;
-  unchanged = λ q h.
-      let x : length a ≤ length b = e.no_fewer in
-      let k : q < length b = omega arith in
-      f.unchanged q k ∙ e.unchanged q h;
-}
-
 -- what is shown is shown still when more objects stand, and from an earlier place on
 mutual
-  pub shows_on : (n from to : ℕ) (a b : List Object) → Kept a b → to ≤ from → (t : ViewTree) (v : Value) → Shows n from a v t → Shows n to b v t
+  pub shows_on : (n from to : ℕ) (a b : List Object) → Extends a b → to ≤ from → (t : ViewTree) (v : Value) → Shows n from a v t → Shows n to b v t
   shows_on n from to a b k h (prim w) v s = s
   shows_on n from to a b k h (list ts) v (o, items, is, low, high, x, r) =
       (o, items, is, omega arith, (let m : length a ≤ length b = k.no_fewer in omega arith), k.unchanged o.0 high ∙ x, items_on n from to a b k h ts items r)
   shows_on n from to a b k h (rec fs) v (o, ps, is, low, high, x, d, r) =
       (o, ps, is, omega arith, (let m : length a ≤ length b = k.no_fewer in omega arith), k.unchanged o.0 high ∙ x, d, names_on n from to a b k h fs ps r)
 
-  pub items_on : (n from to : ℕ) (a b : List Object) → Kept a b → to ≤ from → (ts : ViewTrees) (vs : List Value) → ItemsShow n from a vs ts → ItemsShow n to b vs ts
+  pub items_on : (n from to : ℕ) (a b : List Object) → Extends a b → to ≤ from → (ts : ViewTrees) (vs : List Value) → ItemsShow n from a vs ts → ItemsShow n to b vs ts
   items_on n from to a b k h no_views [] r = tt
   items_on n from to a b k h (view_then t ts) [] r = absurd r
   items_on n from to a b k h no_views (v ∷ vs) r = absurd r
   items_on n from to a b k h (view_then t ts) (v ∷ vs) r = (shows_on n from to a b k h t v r.0, items_on n from to a b k h ts vs r.1)
 
-  pub names_on : (n from to : ℕ) (a b : List Object) → Kept a b → to ≤ from → (fs : ViewFields) (ps : List (List ℕ × Value)) → NamesShow n from a ps fs → NamesShow n to b ps fs
+  pub names_on : (n from to : ℕ) (a b : List Object) → Extends a b → to ≤ from → (fs : ViewFields) (ps : List (List ℕ × Value)) → NamesShow n from a ps fs → NamesShow n to b ps fs
   names_on n from to a b k h no_fields [] r = tt
   names_on n from to a b k h (field_then name t fs) [] r = absurd r
   names_on n from to a b k h no_fields (p ∷ ps) r = absurd r
   names_on n from to a b k h (field_then name t fs) (p ∷ ps) r = (r.0, shows_on n from to a b k h t p.1 r.1, names_on n from to a b k h fs ps r.2)
 
-pub seen_on : (n from to : ℕ) (a b : List Object) → Kept a b → to ≤ from → (u t : ViewTree) → Seen n from a u t → Seen n to b u t
+pub seen_on : (n from to : ℕ) (a b : List Object) → Extends a b → to ≤ from → (u t : ViewTree) → Seen n from a u t → Seen n to b u t
 seen_on n from to a b k h (prim v) t s = shows_on n from to a b k h t v s
 seen_on n from to a b k h (list us) t s = s
 seen_on n from to a b k h (rec fs) t s = s
@@ -97,10 +91,10 @@ all_through R Q f [] (b ∷ bs) s = s
 all_through R Q f (a ∷ xs) [] s = s
 all_through R Q f (a ∷ xs) (b ∷ bs) s = (f a b s.0, all_through R Q f xs bs s.1)
 
-pub all_on : (n from to : ℕ) (a b : List Object) → Kept a b → to ≤ from → (us ts : List ViewTree) → AllSeen n from a us ts → AllSeen n to b us ts
+pub all_on : (n from to : ℕ) (a b : List Object) → Extends a b → to ≤ from → (us ts : List ViewTree) → AllSeen n from a us ts → AllSeen n to b us ts
 all_on n from to a b k h us ts s = all_through (Seen n from a) (Seen n to b) (seen_on n from to a b k h) us ts s
 
-pub fields_on : (n from to : ℕ) (a b : List Object) → Kept a b → to ≤ from → (us ts : List Field) → FieldsSeen n from a us ts → FieldsSeen n to b us ts
+pub fields_on : (n from to : ℕ) (a b : List Object) → Extends a b → to ≤ from → (us ts : List Field) → FieldsSeen n from a us ts → FieldsSeen n to b us ts
 fields_on n from to a b k h us ts s = all_through (FieldSeen n from a) (FieldSeen n to b) (λ f g r. (r.0, seen_on n from to a b k h f.1 g.1 r.1)) us ts s
 
 -- the items of an array that was made, as views

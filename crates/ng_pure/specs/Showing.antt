@@ -7,7 +7,7 @@ use Rattle.ng_base.specs.Views.{ViewTree, ViewTrees, ViewFields, prim, list, rec
 use Rattle.ng_base.specs.declared.name.Oid.{Oid}
 use Rattle.ng_base.specs.declared.value.Value.{Value}
 use Rattle.ng_base.specs.declared.value.Value.TheVariants as value
-use Rattle.ng_store.specs.Json.{array_of, plain_of}
+use Rattle.ng_write.specs.Storing.{array_with, plain_with}
 
 -- A value shows a view: as itself, where it names none of the objects that were made; as an array that was made, whose items
 -- show those of a list, in order; or as a plain object that was made, whose named values show those of a record, in order.
@@ -16,10 +16,10 @@ abbrev mutual
   pub Shows : ℕ → ℕ → List Object → Value → ViewTree → Type 0
   Shows before from objects v (prim w) = (v ≡ w) × StandsAmong before w
   Shows before from objects v (list ts) =
-      (o : Oid) × (items : List Value) × (v ≡ value.Obj o) × (from ≤ o.0) × (o.0 < length objects) × (object_at objects o.0 ≡ array_of items)
+      (o : Oid) × (items : List Value) × (v ≡ value.Obj o) × (from ≤ o.0) × (o.0 < length objects) × (object_at objects o.0 ≡ array_with items)
       × ItemsShow before from objects items ts
   Shows before from objects v (rec fs) =
-      (o : Oid) × (properties : List (List ℕ × Value)) × (v ≡ value.Obj o) × (from ≤ o.0) × (o.0 < length objects) × (object_at objects o.0 ≡ plain_of properties)
+      (o : Oid) × (properties : List (List ℕ × Value)) × (v ≡ value.Obj o) × (from ≤ o.0) × (o.0 < length objects) × (object_at objects o.0 ≡ plain_with properties)
       × IsDistinct bytes_eq (keys_of properties) × NamesShow before from objects properties fs
 
   pub ItemsShow : ℕ → ℕ → List Object → List Value → ViewTrees → Type 0
