@@ -7,3 +7,10 @@ pub mod Members
 pub mod Operators
 pub mod Methods
 pub mod Storing
+pub mod Filters
+pub mod Orders
+pub mod Running
+pub mod Named
+pub mod Called
+pub mod Applied
+pub mod Trees

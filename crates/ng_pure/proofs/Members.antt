@@ -65,7 +65,7 @@ indexed_seen : (n from : ℕ) (now : List Object) (vs : List Value) (ts : List V
 indexed_seen n from now vs ts s None = (refl, tt)
 indexed_seen n from now vs ts s (Some k) = got_seen n from now vs ts s k
 
-values_length : (n from : ℕ) (now : List Object) (vs : List Value) (ts : List ViewTree) → AllSeen n from now (prims vs) ts → length vs ≡ length ts
+pub values_length : (n from : ℕ) (now : List Object) (vs : List Value) (ts : List ViewTree) → AllSeen n from now (prims vs) ts → length vs ≡ length ts
 values_length n from now [] [] s = refl
 values_length n from now [] (t ∷ ts) s = absurd s
 values_length n from now (v ∷ vs) [] s = absurd s

@@ -38,12 +38,16 @@ of_same n from now f x y z w e d h =
 truth_same : (n from : ℕ) (now : List Object) (a b : Bool) → a ≡ b → SeenResult n from now (truth a) (truth b)
 truth_same n from now a b e = subst (λ c. SeenResult n from now (truth c) (truth b)) (sym e) (refl, tt)
 
-sum_seen : (n from : ℕ) (now : List Object) (x y : Option ℤ) → SeenResult n from now (as_view (of_numbers sum x y)) (as_view (of_numbers sum x y))
-sum_seen n from now (Some a) (Some b) = by (is_in_range (a +ℤ b))
+-- a whole number
+pub whole_seen : (n from : ℕ) (now : List Object) (i : ℤ) → SeenResult n from now (as_view (in_range i)) (as_view (in_range i))
+whole_seen n from now i = by (is_in_range i)
   where
-    by : (c : Bool) → SeenResult n from now (as_view (if c then Ok (value.Int (a +ℤ b)) else Err Range)) (as_view (if c then Ok (value.Int (a +ℤ b)) else Err Range))
+    by : (c : Bool) → SeenResult n from now (as_view (if c then Ok (value.Int i) else Err Range)) (as_view (if c then Ok (value.Int i) else Err Range))
     by true = (refl, tt)
     by false = refl
+
+sum_seen : (n from : ℕ) (now : List Object) (x y : Option ℤ) → SeenResult n from now (as_view (of_numbers sum x y)) (as_view (of_numbers sum x y))
+sum_seen n from now (Some a) (Some b) = whole_seen n from now (a +ℤ b)
 sum_seen n from now (Some a) None = (refl, tt)
 sum_seen n from now None y = (refl, tt)
 
