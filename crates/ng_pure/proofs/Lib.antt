@@ -14,3 +14,4 @@ pub mod Named
 pub mod Called
 pub mod Applied
 pub mod Trees
+pub mod Whole

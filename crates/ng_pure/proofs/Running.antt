@@ -13,10 +13,11 @@ use Rattle.ng_write.specs.Reading.{Extends}
 use Rattle.ng_write.specs.Storing.{stored}
 use Rattle.ng_write.specs.Written.{Written}
 use Rattle.ng_write.proofs.Extending.{extends_self, extends_on}
+use Rattle.ng_pure.specs.Pure.{IsFull}
 use Rattle.ng_pure.proofs.Shown.{Seen, ResultBy}
 use Rattle.ng_pure.proofs.Methods.{Given, GivenResult}
 use Rattle.ng_pure.proofs.Members.{SeenResult}
-use Rattle.ng_pure.proofs.Storing.{IsFull, Answered, Wrote, ShownAt, stored_given}
+use Rattle.ng_pure.proofs.Storing.{Answered, Wrote, ShownAt, stored_given}
 
 -- what is left and answered
 pub record Ran {A B : Type 0} (R : List Object → A → B → Type 0) (s : State) (now : List Object) (r : Run A) (x : Result B Fault) : Type 0 where

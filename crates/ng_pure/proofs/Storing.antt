@@ -19,13 +19,10 @@ use Rattle.ng_write.specs.Storing.{array_with, plain_with, entered, with_object,
 use Rattle.ng_write.specs.Written.{Written, ◌>>◌}
 use Rattle.ng_write.proofs.Extending.{extends_self, extends_object}
 use Rattle.ng_write.proofs.Filled.{last_object}
+use Rattle.ng_pure.specs.Pure.{IsFull}
 use Rattle.ng_pure.specs.Showing.{Shows, ItemsShow, NamesShow}
 use Rattle.ng_pure.proofs.Shown.{Seen, AllSeen, FieldsSeen, items_on, names_on}
 use Rattle.ng_pure.proofs.Methods.{Given}
-
--- a million objects stand, so that no more is made
-abbrev pub IsFull : List Object → Fault → Type 0
-IsFull objects e = (e ≡ StoreFull) × (1000000 ≤ length objects)
 
 -- the answer is the one that is asked for, or the same fault, or there is no room for an object
 abbrev pub Answered : {A B : Type 0} → (List Object → A → B → Type 0) → List Object → Result A Fault → Result B Fault → Type 0

@@ -34,6 +34,7 @@ use Rattle.ng_act.specs.declared.called.Called.{Called}
 use Rattle.ng_act.specs.declared.called.Called.TheVariants as calls
 use Rattle.ng_write.specs.Reading.{Extends}
 use Rattle.ng_write.proofs.Extending.{extends_self, extends_on}
+use Rattle.ng_pure.specs.Covered.{IsCoveredFilter, IsCovered, AreCovered, IsPairCovered, ArePairsCovered}
 use Rattle.ng_pure.proofs.Shown.{Grown, grown_on, Seen, AllBy, AllSeen, FieldSeen, FieldsSeen, ResultBy, seen_on, all_on, fields_on, one_more, all_length}
 use Rattle.ng_pure.proofs.Alike.{truthy_same}
 use Rattle.ng_pure.proofs.Texts.{text_same}
@@ -144,41 +145,41 @@ call_follows go s from mid name k u t args asked g a b pure e h =
         (method_given from (length mid) s.objects mid after (grown_on s.objects mid after g x) x a b (omega arith) m u t vs ws e q.0))
 
 filter_follows : (s : State) (from : ℕ) (now : List Object) (name : List ℕ) (k : ℕ) (u t : ViewTree) (vs ws : List ViewTree)
-    → Grown s.objects now → from ≤ length now → IsTrue (known name k) → Seen (length s.objects) from now u t → AllSeen (length s.objects) from now vs ws → length ws ≡ k
+    → Grown s.objects now → from ≤ length now → IsTrue (known name k) → IsCoveredFilter name → Seen (length s.objects) from now u t → AllSeen (length s.objects) from now vs ws → length ws ≡ k
     → Follows (SeenAt (length s.objects) from) s now (stores_result (filter_result now name u vs) (with_objects now s)) (applied s.objects name t (views_from ws))
-filter_follows s from now name k u t vs ws g h known_is e r many =
+filter_follows s from now name k u t vs ws g h known_is f e r many =
     let n = length s.objects in
     let is : known name (length vs) ≡ true = ap (known name) (all_length (Seen n from now) vs ws r ∙ many) ∙ known_is in
     subst (λ b. Follows (SeenAt n from) s now (stores_result (if b then applied now name u (views_from vs) else Err Syntax) (with_objects now s)) (applied s.objects name t (views_from ws))) (sym is)
-    (follows_stored_result n from s now h (applied now name u (views_from vs)) (applied s.objects name t (views_from ws)) (applied_given from s.objects now name g (length vs) is u t vs ws e r))
+    (follows_stored_result n from s now h (applied now name u (views_from vs)) (applied s.objects name t (views_from ws)) (applied_given from s.objects now name g (length vs) is f u t vs ws e r))
 
 mutual
-  tree_follows : (go : Doing) (scope : ℕ) (s : State) → Begins scope s → (t : Tree) → IsPure t → IsKnown t → (now : List Object) → Grown s.objects now
+  tree_follows : (go : Doing) (scope : ℕ) (s : State) → Begins scope s → (t : Tree) → IsPure t → IsKnown t → IsCovered t → (now : List Object) → Grown s.objects now
       → Follows (SeenAt (length s.objects) (length now)) s now (acted go scope t (with_objects now s)) (evaluated s.objects (object_at s.scopes scope) s.locals t)
-  tree_follows go scope s c (a_number k) p q now g = follows_result (SeenAt (length s.objects) (length now)) s now (as_view (in_range (pos k))) (as_view (in_range (pos k))) (whole_seen (length s.objects) (length now) now (pos k))
-  tree_follows go scope s c (a_text t) p q now g = follows_ok (SeenAt (length s.objects) (length now)) s now (prim (value.Text t)) (prim (value.Text t)) (refl, tt)
-  tree_follows go scope s c (a_name name) p q now g =
+  tree_follows go scope s c (a_number k) p q f now g = follows_result (SeenAt (length s.objects) (length now)) s now (as_view (in_range (pos k))) (as_view (in_range (pos k))) (whole_seen (length s.objects) (length now) now (pos k))
+  tree_follows go scope s c (a_text t) p q f now g = follows_ok (SeenAt (length s.objects) (length now)) s now (prim (value.Text t)) (prim (value.Text t)) (refl, tt)
+  tree_follows go scope s c (a_name name) p q f now g =
       follows_ok (SeenAt (length s.objects) (length now)) s now (named now (object_at s.scopes scope) s.locals name) (named s.objects (object_at s.scopes scope) s.locals name) (name_seen (length now) s.objects now g (object_at s.scopes scope) s.locals name c.there c.locals)
-  tree_follows go scope s c the_scope p q now g =
+  tree_follows go scope s c the_scope p q f now g =
       follows_ok (SeenAt (length s.objects) (length now)) s now (prim (value.Obj (record { 0 = object_at s.scopes scope }))) (prim (value.Obj (record { 0 = object_at s.scopes scope }))) (refl, c.there)
-  tree_follows go scope s c (a_constant k) p q now g = follows_ok (SeenAt (length s.objects) (length now)) s now (prim (constant_value k)) (prim (constant_value k)) (constant_seen (length s.objects) (length now) now k)
-  tree_follows go scope s c (member_of t name) p q now g =
+  tree_follows go scope s c (a_constant k) p q f now g = follows_ok (SeenAt (length s.objects) (length now)) s now (prim (constant_value k)) (prim (constant_value k)) (constant_seen (length s.objects) (length now) now k)
+  tree_follows go scope s c (member_of t name) p q f now g =
       let R = SeenAt (length s.objects) (length now) in
       follows_then R R s now (acted go scope t (with_objects now s)) (evaluated s.objects (object_at s.scopes scope) s.locals t) (λ v a. (a, Ok (member a.objects v name))) (λ v. Ok (member s.objects v name))
-      (tree_follows go scope s c t p q now g)
+      (tree_follows go scope s c t p q f now g)
       (λ after v w e r. follows_ok R s after (member after v name) (member s.objects w name) (member_seen (length now) s.objects after name (grown_on s.objects now after g e) v w r))
-  tree_follows go scope s c (item_of t i) p q now g =
+  tree_follows go scope s c (item_of t i) p q f now g =
       let n = length s.objects in
       let R = SeenAt n (length now) in
       follows_then R R s now (acted go scope t (with_objects now s)) (evaluated s.objects (object_at s.scopes scope) s.locals t) (λ v a. acted go scope i a >>= λ w b. given b (item b.objects v w)) (λ v. evaluated s.objects (object_at s.scopes scope) s.locals i >>? λ w. item s.objects v w)
-      (tree_follows go scope s c t p.0 q.0 now g)
+      (tree_follows go scope s c t p.0 q.0 f.0 now g)
       (λ mid v w e r. follows_then (SeenAt n (length mid)) R s mid (acted go scope i (with_objects mid s)) (evaluated s.objects (object_at s.scopes scope) s.locals i) (λ x b. given b (item b.objects v x)) (λ x. item s.objects w x)
-      (tree_follows go scope s c i p.1 q.1 mid (grown_on s.objects now mid g e))
+      (tree_follows go scope s c i p.1 q.1 f.1 mid (grown_on s.objects now mid g e))
       (λ after x y d m. follows_result R s after (item after v x) (item s.objects w y)
       (item_seen (length now) s.objects after (grown_on s.objects mid after (grown_on s.objects now mid g e) d) v w x y
       (seen_on n (length now) (length now) mid after d (omega arith) v w r)
       (seen_on n (length mid) (length now) after after (extends_self after) e.no_fewer x y m))))
-  tree_follows go scope s c (call_of (member_of t name) ts) p q now g =
+  tree_follows go scope s c (call_of (member_of t name) ts) p q f now g =
       let n = length s.objects in
       let so = object_at s.scopes scope in
       let R = SeenAt n (length now) in
@@ -186,145 +187,145 @@ mutual
       follows_then C R s now (acted go scope t (with_objects now s) >>= λ v a. (a, Ok (v, run_called_on a.objects a.scopes v name))) (evaluated s.objects so s.locals t >>? λ v. Ok (v, name))
       (λ r a. if runs_nothing r.1 then (a, Ok nothing) else (acted_all go scope [] ts a >>= λ args b. runs go r.1 r.0 args b)) (λ r. called s.objects (callee s.objects r.0 r.1) r.0 (evaluated_all s.objects so s.locals [] ts))
       (follows_then R C s now (acted go scope t (with_objects now s)) (evaluated s.objects so s.locals t) (λ v a. (a, Ok (v, run_called_on a.objects a.scopes v name))) (λ v. Ok (v, name))
-      (tree_follows go scope s c t p.1.0 q.0 now g)
+      (tree_follows go scope s c t p.1.0 q.0 f.0 now g)
       (λ mid v w e r. follows_ok C s mid (v, run_called_on mid s.scopes v name) (w, name) (r, refl, refl)))
       (λ mid r x e m.
           let grown = grown_on s.objects now mid g e in
           let from_start : length s.objects ≤ length now = g.no_fewer in
           let more : length now ≤ length mid = e.no_fewer in
           let main = call_follows go s (length now) mid name (count_of ts) r.0 x.0 (acted_all go scope [] ts (with_objects mid s)) (evaluated_all s.objects so s.locals [] ts) grown from_start more p.0 m.0
-          (trees_follow go scope s c ts p.1.1 q.1 mid grown (length mid) (omega arith) [] [] tt (count_of ts) (omega arith)) in
+          (trees_follow go scope s c ts p.1.1 q.1 f.1 mid grown (length mid) (omega arith) [] [] tt (count_of ts) (omega arith)) in
           subst (λ k. Follows R s mid (if runs_nothing k then (with_objects mid s, Ok nothing) else (acted_all go scope [] ts (with_objects mid s) >>= λ args b. runs go k r.0 args b)) (called s.objects (callee s.objects x.0 x.1) x.0 (evaluated_all s.objects so s.locals [] ts))) (sym m.1)
           (subst (λ k. Follows R s mid (if runs_nothing (run_called_on mid s.scopes r.0 name) then (with_objects mid s, Ok nothing) else (acted_all go scope [] ts (with_objects mid s) >>= λ args b. runs go (run_called_on mid s.scopes r.0 name) r.0 args b)) (called s.objects (callee s.objects x.0 k) x.0 (evaluated_all s.objects so s.locals [] ts))) (sym m.2) main))
-  tree_follows go scope s c (call_of t ts) p q now g = absurd (true≢false (sym p.0))
-  tree_follows go scope s c (a_list ts) p q now g =
+  tree_follows go scope s c (call_of t ts) p q f now g = absurd (true≢false (sym p.0))
+  tree_follows go scope s c (a_list ts) p q f now g =
       let n = length s.objects in
       let R = SeenAt n (length now) in
       follows_then (AllAt n (length now) (count_of ts)) R s now (acted_all go scope [] ts (with_objects now s)) (evaluated_all s.objects (object_at s.scopes scope) s.locals [] ts) (λ vs a. stores (list (views_from vs)) a) (λ vs. Ok (list (views_from vs)))
-      (trees_follow go scope s c ts p q now g (length now) (omega arith) [] [] tt (count_of ts) (omega arith))
+      (trees_follow go scope s c ts p q f now g (length now) (omega arith) [] [] tt (count_of ts) (omega arith))
       (λ after vs ws e r. follows_stored n (length now) s after e.no_fewer (list (views_from vs)) (list (views_from ws)) (given_list n (length now) after vs ws r.0))
-  tree_follows go scope s c (a_record ps) p q now g =
+  tree_follows go scope s c (a_record ps) p q f now g =
       let n = length s.objects in
       let R = SeenAt n (length now) in
       follows_then (FieldsAt n (length now)) R s now (acted_pairs go scope [] ps (with_objects now s)) (evaluated_pairs s.objects (object_at s.scopes scope) s.locals [] ps) (λ fs a. stores (rec (fields_from fs)) a) (λ fs. Ok (rec (fields_from fs)))
-      (pairs_follow go scope s c ps p q now g (length now) (omega arith) [] [] tt nothing_distinct)
+      (pairs_follow go scope s c ps p q f now g (length now) (omega arith) [] [] tt nothing_distinct)
       (λ after fs gs e r. follows_stored n (length now) s after e.no_fewer (rec (fields_from fs)) (rec (fields_from gs))
       (subst (λ x. FieldsSeen n (length now) after x (fields_list (fields_from gs)) × IsDistinct bytes_eq (keys_of (fields_list (fields_from gs)))) (sym (fields_list-from fs)) (subst (λ x. FieldsSeen n (length now) after fs x × IsDistinct bytes_eq (keys_of x)) (sym (fields_list-from gs)) r)))
-  tree_follows go scope s c (in_brackets t) p q now g = tree_follows go scope s c t p q now g
-  tree_follows go scope s c (signed o t) p q now g =
+  tree_follows go scope s c (in_brackets t) p q f now g = tree_follows go scope s c t p q f now g
+  tree_follows go scope s c (signed o t) p q f now g =
       let n = length s.objects in
       let R = SeenAt n (length now) in
       follows_then R R s now (acted go scope t (with_objects now s)) (evaluated s.objects (object_at s.scopes scope) s.locals t) (λ v a. given a (sign_value o v)) (λ v. sign_value o v)
-      (tree_follows go scope s c t p q now g)
+      (tree_follows go scope s c t p q f now g)
       (λ after v w e r. follows_result R s after (sign_value o v) (sign_value o w) (sign_seen n (length now) after o v w r))
-  tree_follows go scope s c (combined o x y) p q now g =
+  tree_follows go scope s c (combined o x y) p q f now g =
       let n = length s.objects in
       let so = object_at s.scopes scope in
       let R = SeenAt n (length now) in
       follows_then R R s now (acted go scope x (with_objects now s)) (evaluated s.objects so s.locals x) (λ v a. acted go scope y a >>= λ w b. given b (operator_value b.objects o v w)) (λ v. evaluated s.objects so s.locals y >>? λ w. operator_value s.objects o v w)
-      (tree_follows go scope s c x p.0 q.0 now g)
+      (tree_follows go scope s c x p.0 q.0 f.0 now g)
       (λ mid v w e r. follows_then (SeenAt n (length mid)) R s mid (acted go scope y (with_objects mid s)) (evaluated s.objects so s.locals y) (λ z b. given b (operator_value b.objects o v z)) (λ z. operator_value s.objects o w z)
-      (tree_follows go scope s c y p.1 q.1 mid (grown_on s.objects now mid g e))
+      (tree_follows go scope s c y p.1 q.1 f.1 mid (grown_on s.objects now mid g e))
       (λ after z k d m. follows_result R s after (operator_value after o v z) (operator_value s.objects o w k)
       (operator_seen (length now) (length mid) s.objects mid after (grown_on s.objects mid after (grown_on s.objects now mid g e) d) d g.no_fewer e.no_fewer (omega arith) o v z w k r m)))
-  tree_follows go scope s c (both_of x y) p q now g =
+  tree_follows go scope s c (both_of x y) p q f now g =
       let n = length s.objects in
       let so = object_at s.scopes scope in
       let R = SeenAt n (length now) in
       follows_then R R s now (acted go scope x (with_objects now s)) (evaluated s.objects so s.locals x) (λ v a. if truthy v then acted go scope y a else (a, Ok v)) (λ v. if truthy v then evaluated s.objects so s.locals y else Ok v)
-      (tree_follows go scope s c x p.0 q.0 now g)
+      (tree_follows go scope s c x p.0 q.0 f.0 now g)
       (λ mid v w e r. chosen R s mid (truthy v) (truthy w) (acted go scope y (with_objects mid s)) (with_objects mid s, Ok v) (evaluated s.objects so s.locals y) (Ok w) (truthy_same n (length now) mid v w r)
-      (earlier n (length mid) (length now) s mid (acted go scope y (with_objects mid s)) (evaluated s.objects so s.locals y) e.no_fewer (tree_follows go scope s c y p.1 q.1 mid (grown_on s.objects now mid g e)))
+      (earlier n (length mid) (length now) s mid (acted go scope y (with_objects mid s)) (evaluated s.objects so s.locals y) e.no_fewer (tree_follows go scope s c y p.1 q.1 f.1 mid (grown_on s.objects now mid g e)))
       (follows_ok R s mid v w r))
-  tree_follows go scope s c (either_of x y) p q now g =
+  tree_follows go scope s c (either_of x y) p q f now g =
       let n = length s.objects in
       let so = object_at s.scopes scope in
       let R = SeenAt n (length now) in
       follows_then R R s now (acted go scope x (with_objects now s)) (evaluated s.objects so s.locals x) (λ v a. if truthy v then (a, Ok v) else acted go scope y a) (λ v. if truthy v then Ok v else evaluated s.objects so s.locals y)
-      (tree_follows go scope s c x p.0 q.0 now g)
+      (tree_follows go scope s c x p.0 q.0 f.0 now g)
       (λ mid v w e r. chosen R s mid (truthy v) (truthy w) (with_objects mid s, Ok v) (acted go scope y (with_objects mid s)) (Ok w) (evaluated s.objects so s.locals y) (truthy_same n (length now) mid v w r)
       (follows_ok R s mid v w r)
-      (earlier n (length mid) (length now) s mid (acted go scope y (with_objects mid s)) (evaluated s.objects so s.locals y) e.no_fewer (tree_follows go scope s c y p.1 q.1 mid (grown_on s.objects now mid g e))))
-  tree_follows go scope s c (choice_of z x y) p q now g =
+      (earlier n (length mid) (length now) s mid (acted go scope y (with_objects mid s)) (evaluated s.objects so s.locals y) e.no_fewer (tree_follows go scope s c y p.1 q.1 f.1 mid (grown_on s.objects now mid g e))))
+  tree_follows go scope s c (choice_of z x y) p q f now g =
       let n = length s.objects in
       let so = object_at s.scopes scope in
       let R = SeenAt n (length now) in
       follows_then R R s now (acted go scope z (with_objects now s)) (evaluated s.objects so s.locals z) (λ v a. if truthy v then acted go scope x a else acted go scope y a) (λ v. if truthy v then evaluated s.objects so s.locals x else evaluated s.objects so s.locals y)
-      (tree_follows go scope s c z p.0 q.0 now g)
+      (tree_follows go scope s c z p.0 q.0 f.0 now g)
       (λ mid v w e r. chosen R s mid (truthy v) (truthy w) (acted go scope x (with_objects mid s)) (acted go scope y (with_objects mid s)) (evaluated s.objects so s.locals x) (evaluated s.objects so s.locals y) (truthy_same n (length now) mid v w r)
-      (earlier n (length mid) (length now) s mid (acted go scope x (with_objects mid s)) (evaluated s.objects so s.locals x) e.no_fewer (tree_follows go scope s c x p.1.0 q.1.0 mid (grown_on s.objects now mid g e)))
-      (earlier n (length mid) (length now) s mid (acted go scope y (with_objects mid s)) (evaluated s.objects so s.locals y) e.no_fewer (tree_follows go scope s c y p.1.1 q.1.1 mid (grown_on s.objects now mid g e))))
-  tree_follows go scope s c (assigned x y) p q now g = absurd p
-  tree_follows go scope s c (filtered t name ts) p q now g =
+      (earlier n (length mid) (length now) s mid (acted go scope x (with_objects mid s)) (evaluated s.objects so s.locals x) e.no_fewer (tree_follows go scope s c x p.1.0 q.1.0 f.1.0 mid (grown_on s.objects now mid g e)))
+      (earlier n (length mid) (length now) s mid (acted go scope y (with_objects mid s)) (evaluated s.objects so s.locals y) e.no_fewer (tree_follows go scope s c y p.1.1 q.1.1 f.1.1 mid (grown_on s.objects now mid g e))))
+  tree_follows go scope s c (assigned x y) p q f now g = absurd p
+  tree_follows go scope s c (filtered t name ts) p q f now g =
       let n = length s.objects in
       let so = object_at s.scopes scope in
       let R = SeenAt n (length now) in
       follows_then R R s now (acted go scope t (with_objects now s)) (evaluated s.objects so s.locals t) (λ v a. acted_all go scope [] ts a >>= λ vs b. stores_result (filter_result b.objects name v vs) b) (λ v. evaluated_all s.objects so s.locals [] ts >>? λ vs. applied s.objects name v (views_from vs))
-      (tree_follows go scope s c t p.0 q.1.0 now g)
+      (tree_follows go scope s c t p.0 q.1.0 f.1.0 now g)
       (λ mid v w e r. follows_then (AllAt n (length now) (count_of ts)) R s mid (acted_all go scope [] ts (with_objects mid s)) (evaluated_all s.objects so s.locals [] ts) (λ vs b. stores_result (filter_result b.objects name v vs) b) (λ vs. applied s.objects name w (views_from vs))
-      (trees_follow go scope s c ts p.1 q.1.1 mid (grown_on s.objects now mid g e) (length now) e.no_fewer [] [] tt (count_of ts) (omega arith))
-      (λ after vs ws d m. filter_follows s (length now) after name (count_of ts) v w vs ws (grown_on s.objects mid after (grown_on s.objects now mid g e) d) (let k : length now ≤ length mid = e.no_fewer in let l : length mid ≤ length after = d.no_fewer in omega arith) q.0
+      (trees_follow go scope s c ts p.1 q.1.1 f.1.1 mid (grown_on s.objects now mid g e) (length now) e.no_fewer [] [] tt (count_of ts) (omega arith))
+      (λ after vs ws d m. filter_follows s (length now) after name (count_of ts) v w vs ws (grown_on s.objects mid after (grown_on s.objects now mid g e) d) (let k : length now ≤ length mid = e.no_fewer in let l : length mid ≤ length after = d.no_fewer in omega arith) q.0 f.0
       (seen_on n (length now) (length now) mid after d (omega arith) v w r) m.0 m.1))
 
-  trees_follow : (go : Doing) (scope : ℕ) (s : State) → Begins scope s → (ts : Trees) → ArePure ts → FiltersKnown ts → (now : List Object) → Grown s.objects now → (from : ℕ) → from ≤ length now
+  trees_follow : (go : Doing) (scope : ℕ) (s : State) → Begins scope s → (ts : Trees) → ArePure ts → FiltersKnown ts → AreCovered ts → (now : List Object) → Grown s.objects now → (from : ℕ) → from ≤ length now
       → (us ws : List ViewTree) → AllSeen (length s.objects) from now us ws → (k : ℕ) → length ws + count_of ts ≡ k
       → Follows (AllAt (length s.objects) from k) s now (acted_all go scope us ts (with_objects now s)) (evaluated_all s.objects (object_at s.scopes scope) s.locals ws ts)
-  trees_follow go scope s c no_trees p q now g from h us ws d k many = follows_ok (AllAt (length s.objects) from k) s now us ws (d, omega arith)
-  trees_follow go scope s c (tree_then t ts) p q now g from h us ws d k many =
+  trees_follow go scope s c no_trees p q f now g from h us ws d k many = follows_ok (AllAt (length s.objects) from k) s now us ws (d, omega arith)
+  trees_follow go scope s c (tree_then t ts) p q f now g from h us ws d k many =
       let n = length s.objects in
       let so = object_at s.scopes scope in
       follows_then (SeenAt n (length now)) (AllAt n from k) s now (acted go scope t (with_objects now s)) (evaluated s.objects so s.locals t) (λ v a. acted_all go scope (us ++ v ∷ []) ts a) (λ v. evaluated_all s.objects so s.locals (ws ++ v ∷ []) ts)
-      (tree_follows go scope s c t p.0 q.0 now g)
+      (tree_follows go scope s c t p.0 q.0 f.0 now g)
       (λ after v w e r.
-          trees_follow go scope s c ts p.1 q.1 after (grown_on s.objects now after g e) from (let m : length now ≤ length after = e.no_fewer in omega arith) (us ++ v ∷ []) (ws ++ w ∷ [])
+          trees_follow go scope s c ts p.1 q.1 f.1 after (grown_on s.objects now after g e) from (let m : length now ≤ length after = e.no_fewer in omega arith) (us ++ v ∷ []) (ws ++ w ∷ [])
           (one_more (Seen n from after) us ws v w (all_on n from from now after e (omega arith) us ws d) (seen_on n (length now) from after after (extends_self after) h v w r))
           k (omega (arith, length-append ws (w ∷ []))))
 
-  pair_follows : (go : Doing) (scope : ℕ) (s : State) → Begins scope s → (p : PairTree) → IsPurePair p → IsPairKnown p → (now : List Object) → Grown s.objects now
+  pair_follows : (go : Doing) (scope : ℕ) (s : State) → Begins scope s → (p : PairTree) → IsPurePair p → IsPairKnown p → IsPairCovered p → (now : List Object) → Grown s.objects now
       → Follows (FieldAt (length s.objects) (length now)) s now (acted_pair go scope p (with_objects now s)) (evaluated_pair s.objects (object_at s.scopes scope) s.locals p)
-  pair_follows go scope s c (labelled l t) p q now g =
+  pair_follows go scope s c (labelled l t) p q f now g =
       let n = length s.objects in
       follows_then (SeenAt n (length now)) (FieldAt n (length now)) s now (acted go scope t (with_objects now s)) (evaluated s.objects (object_at s.scopes scope) s.locals t) (λ v a. (a, Ok (label_name l, v))) (λ v. Ok (label_name l, v))
-      (tree_follows go scope s c t p q now g) (λ after v w e r. follows_ok (FieldAt n (length now)) s after (label_name l, v) (label_name l, w) (refl, r))
-  pair_follows go scope s c (shorthand m t) p q now g =
+      (tree_follows go scope s c t p q f now g) (λ after v w e r. follows_ok (FieldAt n (length now)) s after (label_name l, v) (label_name l, w) (refl, r))
+  pair_follows go scope s c (shorthand m t) p q f now g =
       let n = length s.objects in
       follows_then (SeenAt n (length now)) (FieldAt n (length now)) s now (acted go scope t (with_objects now s)) (evaluated s.objects (object_at s.scopes scope) s.locals t) (λ v a. (a, Ok (m, v))) (λ v. Ok (m, v))
-      (tree_follows go scope s c t p q now g) (λ after v w e r. follows_ok (FieldAt n (length now)) s after (m, v) (m, w) (refl, r))
-  pair_follows go scope s c (computed i t) p q now g =
+      (tree_follows go scope s c t p q f now g) (λ after v w e r. follows_ok (FieldAt n (length now)) s after (m, v) (m, w) (refl, r))
+  pair_follows go scope s c (computed i t) p q f now g =
       let n = length s.objects in
       let so = object_at s.scopes scope in
       let F = FieldAt n (length now) in
       let N : List Object → List ℕ → List ℕ → Type 0 = λ objects a b. a ≡ b in
       follows_then (SeenAt n (length now)) F s now (acted go scope i (with_objects now s)) (evaluated s.objects so s.locals i) (λ w a. given a (to_text a.objects w) >>= λ m b. acted go scope t b >>= λ v z. (z, Ok (m, v))) (λ w. to_text s.objects w >>? λ m. evaluated s.objects so s.locals t >>? λ v. Ok (m, v))
-      (tree_follows go scope s c i p.0 q.0 now g)
+      (tree_follows go scope s c i p.0 q.0 f.0 now g)
       (λ mid v w e r.
           let grown = grown_on s.objects now mid g e in
           follows_then N F s mid (with_objects mid s, to_text mid v) (to_text s.objects w) (λ m b. acted go scope t b >>= λ x z. (z, Ok (m, x))) (λ m. evaluated s.objects so s.locals t >>? λ x. Ok (m, x))
           (follows_result N s mid (to_text mid v) (to_text s.objects w) (names_by (to_text mid v) (to_text s.objects w) (text_same (length now) s.objects mid grown v w r)))
           (λ after a b d m. follows_then (SeenAt n (length after)) F s after (acted go scope t (with_objects after s)) (evaluated s.objects so s.locals t) (λ x z. (z, Ok (a, x))) (λ x. Ok (b, x))
-          (tree_follows go scope s c t p.1 q.1 after (grown_on s.objects mid after grown d))
+          (tree_follows go scope s c t p.1 q.1 f.1 after (grown_on s.objects mid after grown d))
           (λ last x y k z. follows_ok F s last (a, x) (b, y)
           (m, seen_on n (length after) (length now) last last (extends_self last) (let o : length now ≤ length mid = e.no_fewer in let o2 : length mid ≤ length after = d.no_fewer in omega arith) x y z))))
 
-  pairs_follow : (go : Doing) (scope : ℕ) (s : State) → Begins scope s → (ps : Pairs) → ArePurePairs ps → ArePairsKnown ps → (now : List Object) → Grown s.objects now → (from : ℕ) → from ≤ length now
+  pairs_follow : (go : Doing) (scope : ℕ) (s : State) → Begins scope s → (ps : Pairs) → ArePurePairs ps → ArePairsKnown ps → ArePairsCovered ps → (now : List Object) → Grown s.objects now → (from : ℕ) → from ≤ length now
       → (fs gs : List Field) → FieldsSeen (length s.objects) from now fs gs → IsDistinct bytes_eq (keys_of gs)
       → Follows (FieldsAt (length s.objects) from) s now (acted_pairs go scope fs ps (with_objects now s)) (evaluated_pairs s.objects (object_at s.scopes scope) s.locals gs ps)
-  pairs_follow go scope s c no_pairs p q now g from h fs gs d k = follows_ok (FieldsAt (length s.objects) from) s now fs gs (d, k)
-  pairs_follow go scope s c (pair_then x ps) p q now g from h fs gs d k =
+  pairs_follow go scope s c no_pairs p q f now g from h fs gs d k = follows_ok (FieldsAt (length s.objects) from) s now fs gs (d, k)
+  pairs_follow go scope s c (pair_then x ps) p q f now g from h fs gs d k =
       let n = length s.objects in
       let so = object_at s.scopes scope in
       follows_then (FieldAt n (length now)) (FieldsAt n from) s now (acted_pair go scope x (with_objects now s)) (evaluated_pair s.objects so s.locals x) (λ f a. acted_pairs go scope (insert_entry bytes_eq fs f.0 f.1) ps a) (λ f. evaluated_pairs s.objects so s.locals (insert_entry bytes_eq gs f.0 f.1) ps)
-      (pair_follows go scope s c x p.0 q.0 now g)
-      (λ after v w e r. pairs_follow go scope s c ps p.1 q.1 after (grown_on s.objects now after g e) from (let o : length now ≤ length after = e.no_fewer in omega arith) (insert_entry bytes_eq fs v.0 v.1) (insert_entry bytes_eq gs w.0 w.1)
+      (pair_follows go scope s c x p.0 q.0 f.0 now g)
+      (λ after v w e r. pairs_follow go scope s c ps p.1 q.1 f.1 after (grown_on s.objects now after g e) from (let o : length now ≤ length after = e.no_fewer in omega arith) (insert_entry bytes_eq fs v.0 v.1) (insert_entry bytes_eq gs w.0 w.1)
       (put_seen n from after fs gs v w (fields_on n from from now after e (omega arith) fs gs d) (r.0, seen_on n (length now) from after after (extends_self after) h v.1 w.1 r.1)) (put_distinct gs w.0 w.1 k))
 
-pub statements_follow : (go : Doing) (scope : ℕ) (s : State) → Begins scope s → (ts : Trees) → ArePure ts → FiltersKnown ts → (now : List Object) → Grown s.objects now → (from : ℕ) → from ≤ length now → (u t : ViewTree) → Seen (length s.objects) from now u t
+pub statements_follow : (go : Doing) (scope : ℕ) (s : State) → Begins scope s → (ts : Trees) → ArePure ts → FiltersKnown ts → AreCovered ts → (now : List Object) → Grown s.objects now → (from : ℕ) → from ≤ length now → (u t : ViewTree) → Seen (length s.objects) from now u t
     → Follows (SeenAt (length s.objects) from) s now (statements go scope u ts (with_objects now s)) (evaluated_statements s.objects (object_at s.scopes scope) s.locals t ts)
-statements_follow go scope s c no_trees p q now g from h u t d = follows_ok (SeenAt (length s.objects) from) s now u t d
-statements_follow go scope s c (tree_then x ts) p q now g from h u t d =
+statements_follow go scope s c no_trees p q f now g from h u t d = follows_ok (SeenAt (length s.objects) from) s now u t d
+statements_follow go scope s c (tree_then x ts) p q f now g from h u t d =
     let n = length s.objects in
     let so = object_at s.scopes scope in
     follows_then (SeenAt n (length now)) (SeenAt n from) s now (acted go scope x (with_objects now s)) (evaluated s.objects so s.locals x) (λ w a. statements go scope w ts a) (λ w. evaluated_statements s.objects so s.locals w ts)
-    (tree_follows go scope s c x p.0 q.0 now g)
-    (λ after v w e r. statements_follow go scope s c ts p.1 q.1 after (grown_on s.objects now after g e) from (let o : length now ≤ length after = e.no_fewer in omega arith) v w
+    (tree_follows go scope s c x p.0 q.0 f.0 now g)
+    (λ after v w e r. statements_follow go scope s c ts p.1 q.1 f.1 after (grown_on s.objects now after g e) from (let o : length now ≤ length after = e.no_fewer in omega arith) v w
     (seen_on n (length now) from after after (extends_self after) h v w r))
