@@ -15,3 +15,5 @@ pub mod Called
 pub mod Applied
 pub mod Trees
 pub mod Whole
+pub mod KeyOrder
+pub mod Matching
