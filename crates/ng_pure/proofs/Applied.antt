@@ -11,11 +11,13 @@ use Rattle.ng_filters.specs.Limits.{limited}
 use Rattle.ng_filters.specs.Matching.{filtered}
 use Rattle.ng_filters.specs.Ordering.{ordered}
 use Rattle.ng_view.specs.Applied.{known, applied}
-use Rattle.ng_pure.specs.Covered.{IsCoveredFilter}
 use Rattle.ng_pure.proofs.Shown.{Grown, Seen, AllSeen}
 use Rattle.ng_pure.proofs.Methods.{Given, GivenResult, given_seen}
 use Rattle.ng_pure.proofs.Filters.{upper_seen, lower_seen, number_seen, limited_given}
 use Rattle.ng_pure.proofs.Orders.{ordered_given}
+use Rattle.ng_pure.proofs.Matching.{NoList, filtered_given}
+use Rattle.ng_pure.proofs.Plainly.{IsValue}
+use Rattle.ng_pure.proofs.Json.{json_given}
 
 first_seen : (n from : ℕ) (now : List Object) (us ts : List ViewTree) → AllSeen n from now us ts → Seen n from now (first_of (views_from us)) (first_of (views_from ts))
 first_seen n from now [] [] s = (refl, tt)
@@ -29,10 +31,10 @@ second_seen n from now [] (t ∷ ts) s = absurd s
 second_seen n from now (u ∷ us) [] s = absurd s
 second_seen n from now (u ∷ us) (t ∷ ts) s = first_seen n from now us ts s.1
 
-pub applied_given : (from : ℕ) (before now : List Object) (name : List ℕ) → Grown before now → (k : ℕ) → known name k ≡ true → IsCoveredFilter name → (u t : ViewTree) (us ts : List ViewTree) → Seen (length before) from now u t → AllSeen (length before) from now us ts
+pub applied_given : (from : ℕ) (before now : List Object) (name : List ℕ) → Grown before now → (k : ℕ) → known name k ≡ true → (u t : ViewTree) (us ts : List ViewTree) → (bytes_eq name (codes "json") ≡ true → IsValue t) → (bytes_eq name (codes "filter") ≡ true → NoList (first_of (views_from ts))) → Seen (length before) from now u t → AllSeen (length before) from now us ts
     → GivenResult (length before) from now (applied now name u (views_from us)) (applied before name t (views_from ts))
 unfolding applied known
-applied_given from before now name g k h covered u t us ts s r = one (bytes_eq name (codes "uppercase")) refl
+applied_given from before now name g k h u t us ts plain pattern s r = one (bytes_eq name (codes "uppercase")) refl
   where
     n : ℕ
     n = length before
@@ -61,19 +63,21 @@ applied_given from before now name g k h covered u t us ts s r = one (bytes_eq n
             three true e3 =
                 at_word (codes "number") e3
                 (given_seen n from now (number u (first_of (views_from us))) (number t (first_of (views_from ts))) (number_seen n from now u t (first_of (views_from us)) (first_of (views_from ts)) s first))
-            three false e3 = four covered.0
+            three false e3 = four (bytes_eq name (codes "json")) refl
               where
-                four : bytes_eq name (codes "json") ≡ false → Goal name
-                four e4 = five (bytes_eq name (codes "limitTo")) refl
+                four : (b : Bool) → bytes_eq name (codes "json") ≡ b → Goal name
+                four true e4 = at_word (codes "json") e4 (json_given from before now g u t (first_of (views_from us)) (first_of (views_from ts)) (plain e4) s first)
+                four false e4 = five (bytes_eq name (codes "limitTo")) refl
                   where
                     five : (b : Bool) → bytes_eq name (codes "limitTo") ≡ b → Goal name
                     five true e5 =
                         at_word (codes "limitTo") e5
                         (limited_given from before now g u t (first_of (views_from us)) (first_of (views_from ts)) (second_of (views_from us)) (second_of (views_from ts)) s first second)
-                    five false e5 = six covered.1
+                    five false e5 = six (bytes_eq name (codes "filter")) refl
                       where
-                        six : bytes_eq name (codes "filter") ≡ false → Goal name
-                        six e6 = last (bytes_eq name (codes "orderBy")) refl
+                        six : (b : Bool) → bytes_eq name (codes "filter") ≡ b → Goal name
+                        six true e6 = at_word (codes "filter") e6 (filtered_given from before now g u t (first_of (views_from us)) (first_of (views_from ts)) (pattern e6) s first)
+                        six false e6 = last (bytes_eq name (codes "orderBy")) refl
                           where
                             last : (b : Bool) → bytes_eq name (codes "orderBy") ≡ b → Goal name
                             last true e7 =

@@ -17,3 +17,5 @@ pub mod Trees
 pub mod Whole
 pub mod KeyOrder
 pub mod Matching
+pub mod Plainly
+pub mod Json

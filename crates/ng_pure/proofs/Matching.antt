@@ -60,7 +60,7 @@ old_entry : (n from : ℕ) (now : List Object) (name : List ℕ) (u : Option Val
 old_entry n from now name None rest h s = s
 old_entry n from now name (Some v) rest h s = ((refl, (refl, h v refl)), s)
 
-old_entries : (n from o : ℕ) (now : List Object) (x : Object) → IsObjectAt n o x → (names : List (List ℕ)) → FieldsSeen n from now (entries_of x names) (entries_of x names)
+pub old_entries : (n from o : ℕ) (now : List Object) (x : Object) → IsObjectAt n o x → (names : List (List ℕ)) → FieldsSeen n from now (entries_of x names) (entries_of x names)
 old_entries n from o now x a [] = tt
 old_entries n from o now x a (name ∷ names) = old_entry n from now name (own_of x name) (entries_of x names) (λ v e. own_stands n o x name v a e) (old_entries n from o now x a names)
 
@@ -83,9 +83,9 @@ properties_seen from before now g (rec fs) t h s = absurd s
 abbrev Of : (Field → Type 0) → ℕ × Field → Type 0
 Of P e = P e.1
 
-all_append : {X : Type 0} (P : X → Type 0) (xs ys : List X) → AllByRecursion P xs → AllByRecursion P ys → AllByRecursion P (xs ++ ys)
-all_append P [] ys a b = b
-all_append P (x ∷ xs) ys a b = (a.0, all_append P xs ys a.1 b)
+all_appended : {X : Type 0} (P : X → Type 0) (xs ys : List X) → AllByRecursion P xs → AllByRecursion P ys → AllByRecursion P (xs ++ ys)
+all_appended P [] ys a b = b
+all_appended P (x ∷ xs) ys a b = (a.0, all_appended P xs ys a.1 b)
 
 all_inserted : (P : Field → Type 0) (i : ℕ) (f : Field) → P f → (es : List (ℕ × Field)) → AllByRecursion (Of P) es → AllByRecursion (Of P) (insert_entry nat_cmp es i f)
 all_inserted P i f h [] a = (h, tt)
@@ -116,7 +116,7 @@ all_others P (f ∷ fs) a = by (index_of f.0) (all_others P fs a.1)
     by None rest = (a.0, rest)
     by (Some i) rest = rest
 
-abbrev FieldNoList : Field → Type 0
+abbrev pub FieldNoList : Field → Type 0
 FieldNoList f = NoList f.1
 
 fields_no_list : (fs : ViewFields) → NoLists fs → AllByRecursion FieldNoList (fields_list fs)
@@ -137,7 +137,7 @@ properties_no_list before (prim w) h = tt
 properties_no_list before (list ts) h = absurd h
 properties_no_list before (rec fs) h =
     let a = fields_no_list fs h in
-    all_append FieldNoList (values_of (indexed_from [] (fields_list fs))) (others_of (fields_list fs))
+    all_appended FieldNoList (values_of (indexed_from [] (fields_list fs))) (others_of (fields_list fs))
     (all_values FieldNoList (indexed_from [] (fields_list fs)) (all_indexed FieldNoList (fields_list fs) [] a tt)) (all_others FieldNoList (fields_list fs) a)
 
 -- the same answer with as much spent

@@ -52,14 +52,19 @@ faulted_then : {A B C D : Type 0} (R : List Object → A → B → Type 0) (Q : 
 faulted_then R Q s now after st (Ok v) d f e same answer = absurd answer
 faulted_then R Q s now after st (Err c) d f e same answer = record { after = after; extends = e; state = same; answer = answer }
 
-pub follows_then : {A B C D : Type 0} (R : List Object → A → B → Type 0) (Q : List Object → C → D → Type 0) (s : State) (now : List Object) (r : Run A) (x : Result B Fault) (f : A → State → Run C) (g : B → Result D Fault)
-    → Follows R s now r x → ((after : List Object) (v : A) (w : B) → Extends now after → R after v w → Follows Q s after (f v (with_objects after s)) (g w)) → Follows Q s now (r >>= f) (x >>? g)
-follows_then R Q s now r (Ok b) f g h k n =
+-- what follows may know what evaluation gave
+pub follows_then_is : {A B C D : Type 0} (R : List Object → A → B → Type 0) (Q : List Object → C → D → Type 0) (s : State) (now : List Object) (r : Run A) (x : Result B Fault) (f : A → State → Run C) (g : B → Result D Fault)
+    → Follows R s now r x → ((after : List Object) (v : A) (w : B) → x ≡ Ok w → Extends now after → R after v w → Follows Q s after (f v (with_objects after s)) (g w)) → Follows Q s now (r >>= f) (x >>? g)
+follows_then_is R Q s now r (Ok b) f g h k n =
     let first = h (λ e. cc) in
-    ran_then R Q s now first.after r.0 r.1 b f (g b) first.extends first.state first.answer (λ v q. k first.after v b first.extends q n)
-follows_then R Q s now r (Err d) f g h k n =
+    ran_then R Q s now first.after r.0 r.1 b f (g b) first.extends first.state first.answer (λ v q. k first.after v b refl first.extends q n)
+follows_then_is R Q s now r (Err d) f g h k n =
     let first = h (λ e. n (let same : d ≡ ImpureCall = cc in ap (λ c. Err c) same)) in
     faulted_then R Q s now first.after r.0 r.1 d f first.extends first.state first.answer
+
+pub follows_then : {A B C D : Type 0} (R : List Object → A → B → Type 0) (Q : List Object → C → D → Type 0) (s : State) (now : List Object) (r : Run A) (x : Result B Fault) (f : A → State → Run C) (g : B → Result D Fault)
+    → Follows R s now r x → ((after : List Object) (v : A) (w : B) → Extends now after → R after v w → Follows Q s after (f v (with_objects after s)) (g w)) → Follows Q s now (r >>= f) (x >>? g)
+follows_then R Q s now r x f g h k = follows_then_is R Q s now r x f g h (λ after v w is e q. k after v w e q)
 
 weaker : {A B : Type 0} (R Q : List Object → A → B → Type 0) (objects : List Object) (a : Result A Fault) (x : Result B Fault) → ((v : A) (w : B) → R objects v w → Q objects v w) → Answered R objects a x → Answered Q objects a x
 weaker R Q objects (Ok v) (Ok w) h s = h v w s

@@ -41,10 +41,13 @@ use Rattle.ng_pure.proofs.Texts.{text_same}
 use Rattle.ng_pure.proofs.Members.{SeenResult, member_seen, item_seen, name_seen}
 use Rattle.ng_pure.proofs.Operators.{sign_seen, operator_seen, whole_seen}
 use Rattle.ng_pure.proofs.Methods.{Given, GivenResult, given_list, method_same, method_given}
+use Rattle.ng_filters.specs.Applied.{first_of}
+use Rattle.ng_pure.proofs.Matching.{NoList}
+use Rattle.ng_pure.proofs.Plainly.{IsValue, input_value, pattern_given}
 use Rattle.ng_pure.proofs.Applied.{applied_given}
 use Rattle.ng_pure.proofs.Called.{called_plainly}
 use Rattle.ng_pure.proofs.Named.{put_seen, put_distinct, nothing_distinct}
-use Rattle.ng_pure.proofs.Running.{Follows, SeenAt, follows_then, follows_weaker, follows_ok, follows_result, follows_fault, follows_stored, follows_stored_result}
+use Rattle.ng_pure.proofs.Running.{Follows, SeenAt, follows_then, follows_then_is, follows_weaker, follows_ok, follows_result, follows_fault, follows_stored, follows_stored_result}
 
 -- what a run begins with: the objects are those of a store, and the scope and the locals stand
 pub record Begins (scope : ℕ) (s : State) : Type 0 where
@@ -145,13 +148,13 @@ call_follows go s from mid name k u t args asked g a b pure e h =
         (method_given from (length mid) s.objects mid after (grown_on s.objects mid after g x) x a b (omega arith) m u t vs ws e q.0))
 
 filter_follows : (s : State) (from : ℕ) (now : List Object) (name : List ℕ) (k : ℕ) (u t : ViewTree) (vs ws : List ViewTree)
-    → Grown s.objects now → from ≤ length now → IsTrue (known name k) → IsCoveredFilter name → Seen (length s.objects) from now u t → AllSeen (length s.objects) from now vs ws → length ws ≡ k
+    → Grown s.objects now → from ≤ length now → IsTrue (known name k) → (bytes_eq name (codes "json") ≡ true → IsValue t) → (bytes_eq name (codes "filter") ≡ true → NoList (first_of (views_from ws))) → Seen (length s.objects) from now u t → AllSeen (length s.objects) from now vs ws → length ws ≡ k
     → Follows (SeenAt (length s.objects) from) s now (stores_result (filter_result now name u vs) (with_objects now s)) (applied s.objects name t (views_from ws))
-filter_follows s from now name k u t vs ws g h known_is f e r many =
+filter_follows s from now name k u t vs ws g h known_is plain pattern e r many =
     let n = length s.objects in
     let is : known name (length vs) ≡ true = ap (known name) (all_length (Seen n from now) vs ws r ∙ many) ∙ known_is in
     subst (λ b. Follows (SeenAt n from) s now (stores_result (if b then applied now name u (views_from vs) else Err Syntax) (with_objects now s)) (applied s.objects name t (views_from ws))) (sym is)
-    (follows_stored_result n from s now h (applied now name u (views_from vs)) (applied s.objects name t (views_from ws)) (applied_given from s.objects now name g (length vs) is f u t vs ws e r))
+    (follows_stored_result n from s now h (applied now name u (views_from vs)) (applied s.objects name t (views_from ws)) (applied_given from s.objects now name g (length vs) is u t vs ws plain pattern e r))
 
 mutual
   tree_follows : (go : Doing) (scope : ℕ) (s : State) → Begins scope s → (t : Tree) → IsPure t → IsKnown t → IsCovered t → (now : List Object) → Grown s.objects now
@@ -260,11 +263,12 @@ mutual
       let n = length s.objects in
       let so = object_at s.scopes scope in
       let R = SeenAt n (length now) in
-      follows_then R R s now (acted go scope t (with_objects now s)) (evaluated s.objects so s.locals t) (λ v a. acted_all go scope [] ts a >>= λ vs b. stores_result (filter_result b.objects name v vs) b) (λ v. evaluated_all s.objects so s.locals [] ts >>? λ vs. applied s.objects name v (views_from vs))
+      follows_then_is R R s now (acted go scope t (with_objects now s)) (evaluated s.objects so s.locals t) (λ v a. acted_all go scope [] ts a >>= λ vs b. stores_result (filter_result b.objects name v vs) b) (λ v. evaluated_all s.objects so s.locals [] ts >>? λ vs. applied s.objects name v (views_from vs))
       (tree_follows go scope s c t p.0 q.1.0 f.1.0 now g)
-      (λ mid v w e r. follows_then (AllAt n (length now) (count_of ts)) R s mid (acted_all go scope [] ts (with_objects mid s)) (evaluated_all s.objects so s.locals [] ts) (λ vs b. stores_result (filter_result b.objects name v vs) b) (λ vs. applied s.objects name w (views_from vs))
+      (λ mid v w is e r. follows_then_is (AllAt n (length now) (count_of ts)) R s mid (acted_all go scope [] ts (with_objects mid s)) (evaluated_all s.objects so s.locals [] ts) (λ vs b. stores_result (filter_result b.objects name v vs) b) (λ vs. applied s.objects name w (views_from vs))
       (trees_follow go scope s c ts p.1 q.1.1 f.1.1 mid (grown_on s.objects now mid g e) (length now) e.no_fewer [] [] tt (count_of ts) (omega arith))
-      (λ after vs ws d m. filter_follows s (length now) after name (count_of ts) v w vs ws (grown_on s.objects mid after (grown_on s.objects now mid g e) d) (let k : length now ≤ length mid = e.no_fewer in let l : length mid ≤ length after = d.no_fewer in omega arith) q.0 f.0
+      (λ after vs ws are d m. filter_follows s (length now) after name (count_of ts) v w vs ws (grown_on s.objects mid after (grown_on s.objects now mid g e) d) (let k : length now ≤ length mid = e.no_fewer in let l : length mid ≤ length after = d.no_fewer in omega arith) q.0
+      (λ j. input_value s.objects so s.locals t w (f.0.0 j) is) (λ j. pattern_given s.objects so s.locals ts ws (f.0.1 j) are)
       (seen_on n (length now) (length now) mid after d (omega arith) v w r) m.0 m.1))
 
   trees_follow : (go : Doing) (scope : ℕ) (s : State) → Begins scope s → (ts : Trees) → ArePure ts → FiltersKnown ts → AreCovered ts → (now : List Object) → Grown s.objects now → (from : ℕ) → from ≤ length now
