@@ -28,8 +28,10 @@ fn begun(alloc: Global) -> Option<Core>
     ensures root { IfSome result (λ core. 0 < length core.scopes) }
 {
     let app = App::read(alloc, APPLICATION).ok()?;
-    let (core, _) = app.begin().ok()?;
-    Some(core)
+    match app.begin() {
+        Ok((core, _)) => Some(core),
+        Err(_) => None,
+    }
 }
 
 fn program(alloc: Global, text: &str) -> Option<Program> {

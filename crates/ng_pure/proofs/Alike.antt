@@ -1,11 +1,11 @@
 -- What asks of a view no more than whether it is made is the same of both views.
-use Rattle.std.proofs.Common.{◌≡◌, ◌∙◌, ◌<◌, ◌≤◌, ℕ, ℤ, zero, suc, Bool, true, false, List, [], ◌∷◌, length, refl, sym, ap, subst, arith, Option}
-use Rattle.ng_base.specs.Objects.{Object, StandsAmong}
+use Rattle.std.proofs.Common.{◌≡◌, ◌∙◌, ℕ, Bool, List, refl, ap}
+use Rattle.ng_base.specs.Objects.{Object}
 use Rattle.ng_base.specs.Views.{ViewTree, ViewTrees, ViewFields, prim, list, rec}
 use Rattle.ng_base.specs.declared.name.Oid.{Oid}
 use Rattle.ng_base.specs.declared.value.Value.{Value}
 use Rattle.ng_base.specs.declared.value.Value.TheVariants as value
-use Rattle.ng_language.specs.Operators.{truthy, view_num, term_num, less, number_before}
+use Rattle.ng_language.specs.Operators.{truthy, view_num, term_num, less}
 use Rattle.ng_language.specs.Sums.{is_undefined, is_joined}
 use Rattle.ng_pure.specs.Showing.{Shows}
 use Rattle.ng_pure.proofs.Shown.{Seen}

@@ -1,18 +1,14 @@
 -- A filter on a value, and on the view that the value shows.
-use Rattle.std.proofs.Common.{◌≡◌, ◌∙◌, ℕ, Bool, true, false, List, [], ◌∷◌, length, refl, sym, ap, subst, bytes_eq, codes, if◌then◌else◌, true≢false}
-use Rattle.std.specs.Prelude.{Result, Ok, Err}
+use Rattle.std.proofs.Common.{◌≡◌, ℕ, Bool, true, false, List, [], ◌∷◌, length, refl, sym, subst, bytes_eq, codes, true≢false}
 use Rattle.std.proofs.lemmas.Slice.Eq.{bytes_eq-Decides}
 use Rattle.ng_base.specs.Objects.{Object}
-use Rattle.ng_base.specs.Views.{ViewTree, ViewTrees, views_from}
+use Rattle.ng_base.specs.Views.{ViewTree, views_from}
 use Rattle.ng_filters.specs.Applied.{first_of, second_of}
 use Rattle.ng_filters.specs.Casing.{uppercase, lowercase}
-use Rattle.ng_filters.specs.Numbers.{number, json}
-use Rattle.ng_filters.specs.Limits.{limited}
-use Rattle.ng_filters.specs.Matching.{filtered}
-use Rattle.ng_filters.specs.Ordering.{ordered}
+use Rattle.ng_filters.specs.Numbers.{number}
 use Rattle.ng_view.specs.Applied.{known, applied}
 use Rattle.ng_pure.proofs.Shown.{Grown, Seen, AllSeen}
-use Rattle.ng_pure.proofs.Methods.{Given, GivenResult, given_seen}
+use Rattle.ng_pure.proofs.Methods.{GivenResult, given_seen}
 use Rattle.ng_pure.proofs.Filters.{upper_seen, lower_seen, number_seen, limited_given}
 use Rattle.ng_pure.proofs.Orders.{ordered_given}
 use Rattle.ng_pure.proofs.Matching.{NoList, filtered_given}

@@ -1,19 +1,17 @@
 -- The methods that change nothing are no methods of scopes, of events, or such as change arrays.
-use Rattle.std.proofs.Common.{◌≡◌, ◌∙◌, ℕ, Bool, true, false, List, refl, sym, ap, subst, bytes_eq, if◌then◌else◌, Option, Some, None, codes, is_some, true≢false}
+use Rattle.std.proofs.Common.{◌≡◌, ◌∙◌, ℕ, Bool, true, false, List, refl, sym, ap, subst, bytes_eq, Option, Some, None, codes, true≢false}
 use Rattle.std.specs.Prelude.{IsTrue}
 use Rattle.std.proofs.lemmas.Slice.Eq.{bytes_eq-Decides}
 use Rattle.ng_base.specs.Objects.{Object, object_at}
-use Rattle.ng_base.specs.Views.{ViewTree, prim, list, rec}
+use Rattle.ng_base.specs.Views.{ViewTree, prim}
 use Rattle.ng_base.specs.declared.heap.ObjKind.{ObjKind}
 use Rattle.ng_base.specs.declared.heap.ObjKind.TheVariants as kinds
-use Rattle.ng_base.specs.declared.name.Oid.{Oid}
-use Rattle.ng_base.specs.declared.value.Value.{Value}
 use Rattle.ng_base.specs.declared.value.Value.TheVariants as value
 use Rattle.ng_behaviour.specs.Scopes.{Scope, of_object}
-use Rattle.ng_view.specs.Purity.{is_pure_method, list_method, text_method}
+use Rattle.ng_view.specs.Purity.{is_pure_method}
 use Rattle.ng_write.specs.Changing.{change_named}
 use Rattle.ng_write.specs.Events.{event_call_named}
-use Rattle.ng_act.specs.Calling.{called_on, plainly_called, object_called, scope_called, kind_called, of_method, event_or, change_or, scope_method}
+use Rattle.ng_act.specs.Calling.{called_on, plainly_called, scope_called, kind_called, of_method, event_or, change_or, scope_method}
 use Rattle.ng_act.specs.declared.called.Called.{Called}
 
 record IsPlainly (name : List ℕ) : Type 0 where

@@ -1,9 +1,9 @@
 -- No value equals one that was made for another view: fresh lists and records equal nothing, and objects that are made are
 -- new ones.
-use Rattle.std.proofs.Common.{◌≡◌, ◌∙◌, ◌<◌, ◌≤◌, ℕ, Bool, true, false, List, length, refl, sym, ap, subst, arith}
+use Rattle.std.proofs.Common.{◌≡◌, ◌∙◌, ◌<◌, ◌≤◌, ℕ, Bool, false, List, length, refl, sym, ap, subst, arith}
 use Rattle.std.specs.Prelude.{nat_eq}
 use Rattle.std.proofs.lemmas.Bool.Decides.{nat_tests}
-use Rattle.ng_base.specs.Objects.{Object, object_at, StandsAmong}
+use Rattle.ng_base.specs.Objects.{Object, StandsAmong}
 use Rattle.ng_base.specs.Views.{ViewTree, ViewTrees, ViewFields, prim, list, rec}
 use Rattle.ng_base.specs.declared.name.Oid.{Oid}
 use Rattle.ng_base.specs.declared.value.Value.{Value}

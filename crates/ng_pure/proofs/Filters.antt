@@ -1,18 +1,12 @@
 -- The filters over values, and over the views that these show.
-use Rattle.std.proofs.Common.{◌≡◌, ◌∙◌, ◌<◌, ◌≤◌, ◌+◌, ◌-◌, ◌&&◌, ℕ, ℤ, zero, suc, Bool, true, false, List, [], ◌∷◌, ◌++◌, length, take, drop, refl, sym, ap, subst, arith, Option, Some, None, bytes_eq, if◌then◌else◌, pos, negsuc, true≢false, slice_get}
-use Rattle.std.specs.Prelude.{Result, Ok, Err, codes, option_map, option_and_then}
-use Rattle.std.specs.List.{list_all, AllByRecursion}
-use Rattle.std.specs.Map.{lookup}
-use Rattle.ng_base.specs.Meets.{◌>>=◌}
-use Rattle.ng_base.specs.Objects.{Object, object_at, is_array, own_of, index_of, StandsAmong}
-use Rattle.ng_base.specs.Views.{ViewTree, ViewTrees, ViewFields, prim, list, rec, no_views, view_then, no_fields, field_then, views_list, views_from, fields_list}
-use Rattle.ng_base.specs.declared.name.Oid.{Oid}
+use Rattle.std.proofs.Common.{◌≡◌, ◌∙◌, ◌-◌, ℕ, ℤ, List, [], ◌++◌, length, drop, refl, sym, ap, subst, Option, Some, None}
+use Rattle.ng_base.specs.Objects.{Object, object_at, StandsAmong}
+use Rattle.ng_base.specs.Views.{ViewTree, prim, list, rec, views_list, views_from}
 use Rattle.ng_base.specs.declared.value.Value.{Value}
 use Rattle.ng_base.specs.declared.value.Value.TheVariants as value
-use Rattle.ng_base.specs.declared.fault.Fault.{Fault}
 use Rattle.ng_base.specs.declared.heap.ObjKind.{ObjKind}
 use Rattle.ng_base.specs.declared.heap.ObjKind.TheVariants as kinds
-use Rattle.ng_language.specs.Operators.{number_in, truthy}
+use Rattle.ng_language.specs.Operators.{number_in}
 use Rattle.ng_language.specs.Texts.{value_text}
 use Rattle.ng_language.specs.Unfolding.{prims}
 use Rattle.ng_filters.specs.Casing.{uppercase, lowercase}
@@ -20,9 +14,9 @@ use Rattle.ng_filters.specs.Numbers.{number, fraction, formatted, grouped_number
 use Rattle.ng_filters.specs.Limits.{whole, begin_at, window, between, part, part_of_primitive, part_by, limited_by, limited}
 use Rattle.ng_filters.specs.Parts.{shape_of, shape_of_object, items}
 use Rattle.ng_store.proofs.ObjectReads.{object_is}
-use Rattle.ng_pure.proofs.Shown.{Grown, Seen, AllBy, AllSeen, all_length, all_take, all_drop, items_seen, old_items}
+use Rattle.ng_pure.proofs.Shown.{Grown, Seen, AllSeen, all_length, all_take, all_drop, items_seen, old_items}
 use Rattle.ng_pure.proofs.Alike.{seen_same}
-use Rattle.ng_pure.proofs.Methods.{Given, GivenResult, given_list, given_seen}
+use Rattle.ng_pure.proofs.Methods.{Given, given_list, given_seen}
 
 pub upper_seen : (n from : ℕ) (now : List Object) (u t : ViewTree) → Seen n from now u t → Seen n from now (uppercase u) (uppercase t)
 upper_seen n from now (prim v) (prim w) s = subst (λ x. Seen n from now (uppercase (prim x)) (uppercase (prim w))) (sym s.0) (by w s.1)

@@ -1,10 +1,9 @@
 -- The JSON of a value of before is what it was.
-use Rattle.std.proofs.Common.{◌≡◌, ◌∙◌, ◌<◌, ◌≤◌, ℕ, zero, suc, Bool, true, false, List, [], ◌∷◌, ◌++◌, length, refl, sym, ap, subst, Option, Some, None, if◌then◌else◌}
+use Rattle.std.proofs.Common.{◌≡◌, ◌∙◌, ℕ, zero, suc, Bool, true, false, List, [], ◌∷◌, ◌++◌, length, refl, sym, ap, subst, if◌then◌else◌}
 use Rattle.std.specs.Prelude.{Result, Ok, Err}
 use Rattle.ng_base.specs.Meets.{◌>>=◌}
 use Rattle.ng_base.specs.Objects.{Object, object_at, StandsAmong}
 use Rattle.ng_base.specs.Views.{ViewTree, prim, list, rec, views_from, fields_from}
-use Rattle.ng_base.specs.declared.name.Oid.{Oid}
 use Rattle.ng_base.specs.declared.value.Value.{Value}
 use Rattle.ng_base.specs.declared.value.Value.TheVariants as value
 use Rattle.ng_base.specs.declared.fault.Fault.{Fault}
@@ -17,11 +16,11 @@ use Rattle.ng_language.specs.Unfolding.{Field, Spent, and_then, made, as_list, a
 use Rattle.ng_language.specs.declared.unfolding.Mode.{Mode}
 use Rattle.ng_language.specs.declared.unfolding.Mode.TheVariants as modes
 use Rattle.ng_store.proofs.ObjectReads.{object_is}
-use Rattle.ng_pure.proofs.Shown.{Grown, Seen, AllBy, AllSeen, FieldSeen, FieldsSeen, old_items}
+use Rattle.ng_pure.proofs.Shown.{Grown, Seen, AllBy, AllSeen, FieldsSeen, old_items}
 use Rattle.ng_pure.proofs.Alike.{seen_same}
 use Rattle.ng_pure.proofs.Texts.{SpentBy, spent_then, items_spent}
 use Rattle.ng_pure.proofs.Matching.{old_entries}
-use Rattle.ng_pure.proofs.Methods.{Given, GivenResult, given_then}
+use Rattle.ng_pure.proofs.Methods.{GivenResult, given_then}
 use Rattle.ng_pure.proofs.Plainly.{IsValue}
 
 abbrev Equal : ViewTree → ViewTree → Type 0

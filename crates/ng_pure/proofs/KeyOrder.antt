@@ -1,5 +1,5 @@
 -- The own names of an object that was made for a record stand in the order of keys of the record.
-use Rattle.std.proofs.Common.{◌≡◌, ◌∙◌, ℕ, Bool, true, false, cond, List, [], ◌∷◌, ◌++◌, length, map, refl, sym, ap, subst, bytes_eq, if◌then◌else◌, is_some, Option, Some, None, Ordering, Less, Equal, Greater, nat_cmp, decimal, true≢false}
+use Rattle.std.proofs.Common.{◌≡◌, ◌∙◌, ℕ, false, cond, List, [], ◌∷◌, ◌++◌, map, refl, sym, ap, subst, bytes_eq, if◌then◌else◌, is_some, Option, Some, None, Ordering, Less, Equal, Greater, nat_cmp, decimal}
 use Rattle.std.proofs.lemmas.Slice.Eq.{bytes_eq-Decides}
 use Rattle.std.specs.BTreeMap.{insert_entry}
 use Rattle.std.specs.BTreeSet.{insert_key}
@@ -7,15 +7,15 @@ use Rattle.std.specs.Cmp.{ranked}
 use Rattle.std.specs.List.{AllByRecursion, IsDistinct}
 use Rattle.std.specs.Map.{lookup, keys_of, values_of}
 use Rattle.std.specs.Ordering.{match_ordering}
-use Rattle.ng_base.specs.Objects.{Object, own_of, index_of, with_index, indices_from, other_names, names_of}
-use Rattle.ng_base.specs.Views.{ViewTree, ViewFields, prim, no_fields, field_then, fields_list}
+use Rattle.ng_base.specs.Objects.{Object, own_of, index_of, with_index, indices_from, other_names}
+use Rattle.ng_base.specs.Views.{ViewFields, no_fields, field_then, fields_list}
 use Rattle.ng_base.specs.declared.value.Value.{Value}
 use Rattle.ng_language.specs.Unfolding.{Field, with_entry, entries_of, own_entries, with_indexed, indexed_from, with_other, others_of, in_key_order}
 use Rattle.ng_store.proofs.Indices.{index_is}
 use Rattle.ng_store.proofs.Sound.{Property, unequal}
 use Rattle.ng_write.specs.Storing.{plain_with}
 use Rattle.ng_pure.specs.Showing.{Shows, NamesShow}
-use Rattle.ng_pure.proofs.Shown.{Seen, AllBy, FieldSeen, FieldsSeen, all_append}
+use Rattle.ng_pure.proofs.Shown.{AllBy, FieldSeen, FieldsSeen, all_append}
 
 entry_append : (name : List ℕ) (v : Option Value) (xs ys : List Field) → with_entry name v (xs ++ ys) ≡ with_entry name v xs ++ ys
 entry_append name None xs ys = refl

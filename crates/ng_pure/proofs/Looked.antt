@@ -1,9 +1,8 @@
 -- What is found in the objects of before is what was found there.
-use Rattle.std.proofs.Common.{◌≡◌, ◌∙◌, ◌<◌, ◌≤◌, ℕ, zero, suc, List, length, refl, sym, ap, subst, arith, Option, Some, None}
-use Rattle.ng_base.specs.Objects.{Object, object_at, own, own_of, StandsAmong}
-use Rattle.ng_base.specs.Views.{prim}
+use Rattle.std.proofs.Common.{◌≡◌, ◌<◌, ℕ, zero, suc, List, length, refl, sym, subst, arith, Option, Some, None}
+use Rattle.ng_base.specs.Objects.{Object, object_at, own_of, StandsAmong}
 use Rattle.ng_base.specs.declared.value.Value.{Value}
-use Rattle.ng_language.specs.Objects.{look, look_within, or_else_at, proto_of}
+use Rattle.ng_language.specs.Objects.{look, look_within, or_else_at}
 use Rattle.ng_store.proofs.Looks.{own_stands, earlier}
 use Rattle.ng_store.proofs.ObjectReads.{object_is}
 use Rattle.ng_pure.proofs.Shown.{Grown}

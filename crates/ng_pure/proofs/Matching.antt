@@ -1,5 +1,5 @@
 -- The filter `filter` over values, and over the views that these show, where its pattern has no fresh list.
-use Rattle.std.proofs.Common.{◌≡◌, ◌∙◌, ◌<◌, ◌≤◌, ℕ, zero, suc, Bool, true, false, not, List, [], ◌∷◌, ◌++◌, length, refl, sym, ap, subst, arith, Option, Some, None, bytes_eq, if◌then◌else◌, codes, Ordering, Less, Equal, Greater, nat_cmp}
+use Rattle.std.proofs.Common.{◌≡◌, ◌∙◌, ℕ, zero, suc, Bool, true, false, not, List, [], ◌∷◌, ◌++◌, length, refl, sym, ap, subst, Option, Some, None, bytes_eq, if◌then◌else◌, codes, Ordering, Less, Equal, Greater, nat_cmp}
 use Rattle.std.specs.Prelude.{Result, Ok, Err, option_map}
 use Rattle.std.specs.BTreeMap.{insert_entry}
 use Rattle.std.specs.List.{AllByRecursion}
@@ -7,20 +7,18 @@ use Rattle.std.specs.Map.{lookup, values_of}
 use Rattle.std.specs.Ordering.{match_ordering}
 use Rattle.ng_base.specs.Meets.{◌>>=◌}
 use Rattle.ng_base.specs.Objects.{Object, object_at, own_of, index_of, StandsAmong}
-use Rattle.ng_base.specs.Views.{ViewTree, ViewTrees, ViewFields, prim, list, rec, no_fields, field_then, views_from, views_list, fields_list}
+use Rattle.ng_base.specs.Views.{ViewTree, ViewTrees, ViewFields, prim, list, rec, no_fields, field_then, views_from, fields_list}
 use Rattle.ng_base.specs.declared.name.Oid.{Oid}
 use Rattle.ng_base.specs.declared.value.Value.{Value}
 use Rattle.ng_base.specs.declared.value.Value.TheVariants as value
 use Rattle.ng_base.specs.declared.fault.Fault.{Fault}
-use Rattle.ng_base.specs.declared.fault.Fault.TheVariants.{TooBig}
 use Rattle.ng_language.specs.Objects.{look, IsObjectAt}
 use Rattle.ng_language.specs.Unfolding.{Field, Spent, and_then, made, is_dollar, is_nothing, with_entry, entries_of, own_entries, with_indexed, indexed_from, with_other, others_of, in_key_order}
-use Rattle.ng_filters.specs.Matching.{alone_matches, Asked, some_item, some_property, is_any, held, held_matches, property_matches, every_property, is_object, any_matches, named_matches, object_matches, shape_matches, negated, opposite, match_by, match_within, level_limit, match_limit, is_primitive, or_else, pattern_for, item_matches, kept_with, matching_from, matching, filtered_by, filtered}
+use Rattle.ng_filters.specs.Matching.{alone_matches, Asked, some_item, some_property, is_any, held_matches, property_matches, every_property, is_object, object_matches, shape_matches, negated, opposite, match_by, match_within, level_limit, match_limit, is_primitive, or_else, pattern_for, item_matches, kept_with, matching_from, matching, filtered_by, filtered}
 use Rattle.ng_filters.specs.Parts.{shape_of, shape_of_object, items, properties, property, member}
 use Rattle.ng_store.proofs.Looks.{own_stands}
 use Rattle.ng_store.proofs.ObjectReads.{object_is}
-use Rattle.ng_pure.specs.Showing.{Shows}
-use Rattle.ng_pure.proofs.Shown.{Grown, Seen, AllBy, AllSeen, FieldSeen, FieldsSeen, OptionBy, ResultBy, one_more}
+use Rattle.ng_pure.proofs.Shown.{Grown, Seen, AllBy, AllSeen, FieldsSeen, OptionBy, ResultBy, one_more}
 use Rattle.ng_pure.proofs.Alike.{seen_same}
 use Rattle.ng_pure.proofs.Texts.{SpentBy, spent_then}
 use Rattle.ng_pure.proofs.Methods.{Given, GivenResult, given_list, given_seen}

@@ -1,23 +1,22 @@
 -- A member of a value shows that of the view that the value shows.
-use Rattle.std.proofs.Common.{◌≡◌, ◌∙◌, ◌<◌, ◌≤◌, ◌&&◌, ℕ, zero, suc, Bool, true, false, List, [], ◌∷◌, length, refl, sym, ap, subst, arith, Option, Some, None, slice_get, bytes_eq, if◌then◌else◌}
+use Rattle.std.proofs.Common.{◌≡◌, ◌<◌, ◌&&◌, ℕ, zero, suc, Bool, true, false, List, [], ◌∷◌, length, refl, sym, ap, subst, Option, Some, None, slice_get, bytes_eq, if◌then◌else◌}
 use Rattle.std.specs.Prelude.{Result, Ok, Err, option_and_then, pos}
 use Rattle.std.specs.Map.{lookup}
 use Rattle.ng_base.specs.Meets.{◌>>=◌}
 use Rattle.ng_base.specs.Objects.{Object, object_at, own_of, is_array, index_of, StandsAmong}
 use Rattle.ng_base.specs.Views.{ViewTree, ViewTrees, ViewFields, prim, list, rec, no_fields, field_then, views_list, fields_list}
-use Rattle.ng_base.specs.declared.name.Oid.{Oid}
 use Rattle.ng_base.specs.declared.value.Value.{Value}
 use Rattle.ng_base.specs.declared.value.Value.TheVariants as value
 use Rattle.ng_base.specs.declared.fault.Fault.{Fault}
-use Rattle.ng_language.specs.Objects.{look, look_within, or_else_at, items_at}
+use Rattle.ng_language.specs.Objects.{look, look_within, or_else_at}
 use Rattle.ng_language.specs.Texts.{to_text}
 use Rattle.ng_language.specs.Unfolding.{prims}
 use Rattle.ng_write.specs.Storing.{array_with, plain_with}
 use Rattle.ng_view.specs.Evaluation.{named, or_from, Local, LocalsStand}
-use Rattle.ng_view.specs.Members.{member, item, has_members, object_member, text_member, list_member, record_member, or_undefined, view_or_undefined, char_or_undefined, indexed, is_length, count}
-use Rattle.ng_pure.specs.Showing.{Shows, ItemsShow, NamesShow}
-use Rattle.ng_pure.proofs.Shown.{Grown, Seen, AllBy, AllSeen, OptionBy, ResultBy, all_get, all_length, items_seen}
-use Rattle.ng_pure.proofs.Looked.{Looked, OptionStands, look_looked}
+use Rattle.ng_view.specs.Members.{member, item, has_members, object_member, list_member, record_member, or_undefined, view_or_undefined, char_or_undefined, indexed, is_length, count}
+use Rattle.ng_pure.specs.Showing.{ItemsShow, NamesShow}
+use Rattle.ng_pure.proofs.Shown.{Grown, Seen, AllSeen, ResultBy, items_seen}
+use Rattle.ng_pure.proofs.Looked.{OptionStands, look_looked}
 use Rattle.ng_pure.proofs.Alike.{seen_same}
 use Rattle.ng_pure.proofs.Texts.{text_same}
 

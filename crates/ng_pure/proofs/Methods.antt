@@ -1,11 +1,10 @@
 -- The methods that change nothing, over values and over the views that these show.
-use Rattle.std.proofs.Common.{◌≡◌, ◌∙◌, ◌<◌, ◌≤◌, ◌-◌, ℕ, zero, suc, Bool, true, false, List, [], ◌∷◌, ◌++◌, length, map, take, drop, refl, sym, ap, subst, arith, Option, Some, None, slice_get, if◌then◌else◌}
+use Rattle.std.proofs.Common.{◌≡◌, ◌∙◌, ◌≤◌, ◌-◌, ℕ, suc, Bool, true, false, List, [], ◌∷◌, ◌++◌, length, map, take, drop, refl, sym, ap, subst, arith, Option, Some, None, slice_get, if◌then◌else◌}
 use Rattle.std.specs.Prelude.{Result, Ok, Err}
 use Rattle.std.specs.Char.{to_ascii_uppercase, to_ascii_lowercase}
 use Rattle.ng_base.specs.Meets.{◌>>=◌}
-use Rattle.ng_base.specs.Objects.{Object, object_at, is_array, StandsAmong}
-use Rattle.ng_base.specs.Views.{ViewTree, ViewTrees, ViewFields, prim, list, rec, views_list, views_from, fields_list}
-use Rattle.ng_base.specs.declared.name.Oid.{Oid}
+use Rattle.ng_base.specs.Objects.{Object, is_array, StandsAmong}
+use Rattle.ng_base.specs.Views.{ViewTree, prim, list, rec, views_list, views_from, fields_list}
 use Rattle.ng_base.specs.declared.value.Value.{Value}
 use Rattle.ng_base.specs.declared.value.Value.TheVariants as value
 use Rattle.ng_base.specs.declared.fault.Fault.{Fault}
@@ -13,7 +12,7 @@ use Rattle.ng_base.proofs.ViewLists.{views_list-from}
 use Rattle.ng_language.specs.Objects.{items_at}
 use Rattle.ng_language.specs.Operators.{strict_eq}
 use Rattle.ng_language.specs.Texts.{to_text}
-use Rattle.ng_language.specs.Unfolding.{prims, Field}
+use Rattle.ng_language.specs.Unfolding.{prims}
 use Rattle.ng_store.proofs.ObjectReads.{object_is}
 use Rattle.ng_view.specs.Evaluation.{method_of}
 use Rattle.ng_view.specs.Members.{view_or_undefined}
@@ -26,7 +25,7 @@ use Rattle.std.specs.Map.{keys_of}
 use Rattle.std.specs.Prelude.{bytes_eq}
 use Rattle.ng_write.specs.Reading.{Extends}
 use Rattle.ng_write.proofs.Extending.{extends_self}
-use Rattle.ng_pure.proofs.Shown.{Grown, Seen, AllBy, AllSeen, FieldsSeen, ResultBy, OptionBy, all_on, all_append, all_get, all_length, all_take, all_drop, items_seen, old_items}
+use Rattle.ng_pure.proofs.Shown.{Grown, Seen, AllSeen, FieldsSeen, ResultBy, OptionBy, all_on, all_append, all_get, all_length, all_take, all_drop, items_seen, old_items}
 use Rattle.ng_pure.proofs.Alike.{seen_same}
 use Rattle.ng_pure.proofs.Equal.{strict_seen}
 use Rattle.ng_pure.proofs.Texts.{text_same}

@@ -1,5 +1,5 @@
 -- The operators over values, and over the views that these show.
-use Rattle.std.proofs.Common.{◌≡◌, ◌∙◌, ◌<◌, ◌≤◌, ℕ, ℤ, Bool, true, false, not, List, length, refl, sym, ap, subst, arith, Option, Some, None, if◌then◌else◌, pos, ◌+ℤ◌, ◌++◌}
+use Rattle.std.proofs.Common.{◌≡◌, ◌∙◌, ◌≤◌, ℕ, ℤ, Bool, true, false, not, List, length, refl, sym, ap, subst, arith, Option, Some, None, if◌then◌else◌, pos, ◌+ℤ◌, ◌++◌}
 use Rattle.std.specs.Prelude.{Result, Ok, Err}
 use Rattle.ng_base.specs.Meets.{◌>>=◌}
 use Rattle.ng_base.specs.Objects.{Object}
@@ -9,7 +9,7 @@ use Rattle.ng_base.specs.declared.value.Value.TheVariants as value
 use Rattle.ng_base.specs.declared.fault.Fault.{Fault}
 use Rattle.ng_base.specs.declared.fault.Fault.TheVariants.{Range}
 use Rattle.ng_language.specs.Numbers.{is_in_range}
-use Rattle.ng_language.specs.Operators.{in_range, of_numbers, sum, difference, product, quotient, remainder, view_num, term_num, sub, mul, div, remainder_of, truthy, less, loose_eq, strict_eq}
+use Rattle.ng_language.specs.Operators.{in_range, of_numbers, sum, difference, product, quotient, remainder, view_num, term_num, truthy, less, loose_eq, strict_eq}
 use Rattle.ng_language.specs.Sums.{add, joined, add_defined, as_view, is_undefined, is_joined}
 use Rattle.ng_language.specs.Texts.{to_text}
 use Rattle.ng_language.specs.declared.syntax.Unary.{Unary}
@@ -19,7 +19,6 @@ use Rattle.ng_language.specs.declared.syntax.Binary.TheVariants as binaries
 use Rattle.ng_view.specs.Evaluation.{sign_value, operator_value, truth}
 use Rattle.ng_view.proofs.Stand.{Numeric, mul_stands, sub_stands, div_stands, rem_stands}
 use Rattle.ng_write.specs.Reading.{Extends}
-use Rattle.ng_write.proofs.Extending.{extends_self}
 use Rattle.ng_pure.proofs.Shown.{Grown, Seen, seen_on}
 use Rattle.ng_pure.proofs.Alike.{truthy_same, num_same, term_same, undefined_same, joined_same, less_same}
 use Rattle.ng_pure.proofs.Equal.{strict_seen, loose_seen}

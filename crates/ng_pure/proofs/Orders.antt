@@ -1,14 +1,13 @@
 -- Items are ordered as the views that they show are: by members at paths of names, which are no indices.
-use Rattle.std.proofs.Common.{◌≡◌, ◌∙◌, ◌<◌, ◌≤◌, ◌&&◌, ◌||◌, ◌==◌, ℕ, zero, suc, Bool, true, false, List, [], ◌∷◌, ◌++◌, length, refl, sym, ap, subst, arith, Option, Some, None, bytes_eq, if◌then◌else◌, true≢false, slice_get, nat_le, nat_eq, Ordering}
+use Rattle.std.proofs.Common.{◌≡◌, ◌∙◌, ◌&&◌, ◌==◌, ℕ, Bool, true, false, List, [], ◌∷◌, ◌++◌, length, refl, sym, ap, subst, arith, Option, Some, None, bytes_eq, if◌then◌else◌, true≢false, slice_get, Ordering}
 use Rattle.std.specs.Prelude.{Result, Ok, Err, codes, option_map, option_and_then}
 use Rattle.std.specs.List.{list_all, AllByRecursion}
 use Rattle.std.specs.Map.{lookup}
-use Rattle.std.specs.Ordering.{on, flip_args, is_lt, ordering_then}
+use Rattle.std.specs.Ordering.{on, is_lt, ordering_then}
 use Rattle.std.proofs.lemmas.Bool.Decides.{nat_tests}
 use Rattle.ng_base.specs.Meets.{◌>>=◌}
 use Rattle.ng_base.specs.Objects.{Object, object_at, is_array, own_of, index_of, is_digit, spelled, only_zero, StandsAmong}
-use Rattle.ng_base.specs.Views.{ViewTree, ViewTrees, ViewFields, prim, list, rec, no_fields, field_then, views_list, views_from, fields_list}
-use Rattle.ng_base.specs.declared.name.Oid.{Oid}
+use Rattle.ng_base.specs.Views.{ViewTree, ViewFields, prim, list, rec, no_fields, field_then, views_list, views_from, fields_list}
 use Rattle.ng_base.specs.declared.value.Value.{Value}
 use Rattle.ng_base.specs.declared.value.Value.TheVariants as value
 use Rattle.ng_base.specs.declared.fault.Fault.{Fault}
@@ -16,7 +15,7 @@ use Rattle.ng_base.specs.declared.fault.Fault.TheVariants.{Syntax}
 use Rattle.ng_language.specs.Letters.{begins_name}
 use Rattle.ng_language.specs.Objects.{look, look_within, or_else_at}
 use Rattle.ng_language.specs.Operators.{truthy}
-use Rattle.ng_filters.specs.Ordering.{is_name, parts_in, if_names, path_in, with_path, predicate_in, predicate_of, predicates_from, only_predicate, listed_predicates, predicates_by, predicates, key_of, key_cmp, turned, differ, key_at, by_predicate, by_predicates, put_in, in_order, is_before, ordered_by, ordered}
+use Rattle.ng_filters.specs.Ordering.{is_name, parts_in, path_in, with_path, predicate_in, predicate_of, predicates_from, only_predicate, listed_predicates, predicates_by, predicates, key_of, key_cmp, turned, differ, key_at, by_predicate, by_predicates, put_in, in_order, is_before, ordered_by, ordered}
 use Rattle.ng_filters.specs.Parts.{shape_of, shape_of_object, items, property, length_of, length_or, or_undefined, whole_number, member, member_at}
 use Rattle.ng_pure.specs.Showing.{NamesShow}
 use Rattle.ng_pure.proofs.Shown.{Grown, Seen, AllBy, AllSeen, OptionBy}

@@ -1,17 +1,17 @@
 -- Plain expressions give values, and patterns give no list.
-use Rattle.std.proofs.Common.{◌≡◌, ◌&&◌, ℕ, Bool, true, false, List, [], ◌∷◌, ◌++◌, length, refl, sym, ap, subst, bytes_eq, if◌then◌else◌, Option, Some, None, pos, not}
+use Rattle.std.proofs.Common.{◌≡◌, ◌&&◌, ℕ, Bool, true, false, List, [], ◌∷◌, ◌++◌, length, subst, bytes_eq, if◌then◌else◌, Option, Some, None, pos}
 use Rattle.std.specs.Prelude.{Result, Ok, Err}
 use Rattle.std.specs.List.{AllByRecursion}
 use Rattle.indexmap.specs.IndexMap.{insert_entry}
 use Rattle.ng_base.specs.Meets.{◌>>=◌}
 use Rattle.ng_base.specs.Objects.{Object, object_at, is_array}
-use Rattle.ng_base.specs.Views.{ViewTree, ViewFields, prim, list, rec, no_fields, field_then, views_from, fields_from}
+use Rattle.ng_base.specs.Views.{ViewTree, prim, list, rec, views_from, fields_from}
 use Rattle.ng_base.specs.declared.fault.Fault.{Fault}
 use Rattle.ng_base.specs.declared.value.Value.{Value}
 use Rattle.ng_base.specs.declared.value.Value.TheVariants as value
 use Rattle.ng_filters.specs.Applied.{first_of}
 use Rattle.ng_language.specs.Objects.{look, items_at}
-use Rattle.ng_language.specs.Operators.{in_range, sub, mul, div, remainder_of, truthy, of_numbers, sum, view_num, less, loose_eq, strict_eq}
+use Rattle.ng_language.specs.Operators.{in_range, sub, mul, div, remainder_of, truthy, of_numbers, sum, view_num}
 use Rattle.ng_language.specs.Sums.{add, joined, add_defined, as_view, is_undefined, is_joined}
 use Rattle.ng_language.specs.Texts.{to_text}
 use Rattle.ng_language.specs.Trees.{Tree, Trees, PairTree, Pairs, a_number, a_text, a_name, the_scope, a_constant, member_of, item_of, call_of, a_list, a_record, in_brackets, signed, combined, both_of, either_of, choice_of, assigned, filtered, no_trees, tree_then, labelled, shorthand, computed, no_pairs, pair_then}
@@ -21,9 +21,8 @@ use Rattle.ng_language.specs.declared.syntax.Unary.TheVariants as unaries
 use Rattle.ng_language.specs.declared.syntax.Binary.{Binary}
 use Rattle.ng_language.specs.declared.syntax.Binary.TheVariants as binaries
 use Rattle.ng_view.specs.Evaluation.{Local, named, or_from, label_name, sign_value, operator_value, evaluated, evaluated_all, evaluated_pair, evaluated_pairs}
-use Rattle.ng_view.specs.Members.{member, item, has_members, object_member, text_member, or_undefined, char_or_undefined, indexed, is_length, count}
+use Rattle.ng_view.specs.Members.{member, item, has_members, or_undefined, char_or_undefined, indexed, is_length, count}
 use Rattle.std.specs.Map.{lookup}
-use Rattle.std.specs.Prelude.{option_and_then}
 use Rattle.ng_act.specs.Laws.{IsPlain}
 use Rattle.ng_pure.specs.Covered.{IsPattern, ArePatterns, IsPatternPair, ArgumentsArePatterns}
 use Rattle.ng_pure.proofs.Matching.{NoList, NoLists, FieldNoList}

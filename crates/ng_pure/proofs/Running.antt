@@ -1,5 +1,5 @@
 -- A run that follows an evaluation: it leaves all but the objects as it was, and answers with what shows the value.
-use Rattle.std.proofs.Common.{◌≡◌, ◌∙◌, ◌<◌, ◌≤◌, ◌+◌, ℕ, zero, suc, Bool, true, false, List, [], ◌∷◌, ◌++◌, length, refl, sym, ap, subst, arith, if◌then◌else◌, inl, inr, ◌⊎◌}
+use Rattle.std.proofs.Common.{◌≡◌, ◌∙◌, ◌≤◌, ℕ, List, length, refl, sym, ap, subst, inl, inr}
 use Rattle.std.specs.Prelude.{Result, Ok, Err}
 use Rattle.ng_base.specs.Meets.{◌>>=◌ as ◌>>?◌}
 use Rattle.ng_base.specs.Objects.{Object}
@@ -11,13 +11,11 @@ use Rattle.ng_act.specs.Actions.{stores, stores_result}
 use Rattle.ng_act.specs.State.{State, Run, ◌>>=◌, with_objects}
 use Rattle.ng_write.specs.Reading.{Extends}
 use Rattle.ng_write.specs.Storing.{stored}
-use Rattle.ng_write.specs.Written.{Written}
 use Rattle.ng_write.proofs.Extending.{extends_self, extends_on}
 use Rattle.ng_pure.specs.Pure.{IsFull}
 use Rattle.ng_pure.proofs.Shown.{Seen, ResultBy}
 use Rattle.ng_pure.proofs.Methods.{Given, GivenResult}
-use Rattle.ng_pure.proofs.Members.{SeenResult}
-use Rattle.ng_pure.proofs.Storing.{Answered, Wrote, ShownAt, stored_given}
+use Rattle.ng_pure.proofs.Storing.{Answered, ShownAt, stored_given}
 
 -- what is left and answered
 pub record Ran {A B : Type 0} (R : List Object → A → B → Type 0) (s : State) (now : List Object) (r : Run A) (x : Result B Fault) : Type 0 where

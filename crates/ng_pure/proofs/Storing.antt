@@ -1,18 +1,17 @@
 -- A list or record of values that show views becomes a new object that shows the list or record of the views.
-use Rattle.std.proofs.Common.{◌≡◌, ◌∙◌, ◌<◌, ◌≤◌, ℕ, zero, suc, Bool, true, false, List, [], ◌∷◌, ◌++◌, length, refl, sym, ap, subst, arith, bytes_eq, nat_lt, if◌then◌else◌, true≢false, append-nil, append_assoc, ◌⊎◌, inl, inr, length-append}
+use Rattle.std.proofs.Common.{◌≡◌, ◌∙◌, ◌≤◌, ℕ, Bool, true, false, List, [], ◌∷◌, ◌++◌, length, refl, sym, ap, subst, arith, bytes_eq, nat_lt, if◌then◌else◌, true≢false, append-nil, append_assoc, ◌⊎◌, length-append}
 use Rattle.std.specs.Prelude.{Result, Ok, Err}
 use Rattle.std.specs.List.{AllByRecursion, IsDistinct}
 use Rattle.std.specs.Map.{keys_of}
 use Rattle.std.proofs.lemmas.Bool.Decides.{nat_tests}
 use Rattle.indexmap.specs.IndexMap.{insert_entry}
-use Rattle.ng_base.specs.Objects.{Object, object_at, StandsAmong}
-use Rattle.ng_base.specs.Views.{ViewTree, ViewTrees, ViewFields, prim, list, rec, no_views, view_then, no_fields, field_then, views_list, fields_list, fields_from}
+use Rattle.ng_base.specs.Objects.{Object, object_at}
+use Rattle.ng_base.specs.Views.{ViewTree, ViewTrees, ViewFields, prim, list, rec, no_views, view_then, no_fields, field_then, views_list, fields_list}
 use Rattle.ng_base.specs.declared.name.Oid.{Oid}
 use Rattle.ng_base.specs.declared.value.Value.{Value}
 use Rattle.ng_base.specs.declared.value.Value.TheVariants as value
 use Rattle.ng_base.specs.declared.fault.Fault.{Fault}
 use Rattle.ng_base.specs.declared.fault.Fault.TheVariants.{StoreFull}
-use Rattle.ng_language.specs.Unfolding.{Field}
 use Rattle.ng_store.proofs.Sound.{unequal}
 use Rattle.ng_write.specs.Reading.{Extends}
 use Rattle.ng_write.specs.Storing.{array_with, plain_with, entered, with_object, stored, stored_views, stored_fields}
@@ -21,7 +20,7 @@ use Rattle.ng_write.proofs.Extending.{extends_self, extends_object}
 use Rattle.ng_write.proofs.Filled.{last_object}
 use Rattle.ng_pure.specs.Pure.{IsFull}
 use Rattle.ng_pure.specs.Showing.{Shows, ItemsShow, NamesShow}
-use Rattle.ng_pure.proofs.Shown.{Seen, AllSeen, FieldsSeen, items_on, names_on}
+use Rattle.ng_pure.proofs.Shown.{AllSeen, FieldsSeen, items_on, names_on}
 use Rattle.ng_pure.proofs.Methods.{Given}
 
 -- the answer is the one that is asked for, or the same fault, or there is no room for an object

@@ -1,24 +1,22 @@
 -- A value's text is that of the view that it shows.
-use Rattle.std.proofs.Common.{◌≡◌, ◌∙◌, ◌<◌, ◌≤◌, ℕ, zero, suc, Bool, true, false, List, [], ◌∷◌, ◌++◌, length, refl, sym, ap, subst, arith, Option, Some, None}
+use Rattle.std.proofs.Common.{◌≡◌, ◌∙◌, ℕ, zero, suc, List, [], ◌∷◌, ◌++◌, length, refl, sym, ap, subst}
 use Rattle.std.specs.Prelude.{Result, Ok, Err}
 use Rattle.ng_base.specs.Meets.{◌>>=◌}
 use Rattle.ng_base.specs.Objects.{Object, object_at, StandsAmong}
-use Rattle.ng_base.specs.Views.{ViewTree, ViewTrees, ViewFields, prim, list, rec, no_views, view_then, no_fields, field_then, views_list, fields_list, views_from, fields_from}
-use Rattle.ng_base.specs.declared.name.Oid.{Oid}
+use Rattle.ng_base.specs.Views.{ViewTree, ViewTrees, ViewFields, prim, list, rec, no_fields, views_list, views_from}
 use Rattle.ng_base.specs.declared.value.Value.{Value}
 use Rattle.ng_base.specs.declared.value.Value.TheVariants as value
 use Rattle.ng_base.specs.declared.fault.Fault.{Fault}
-use Rattle.ng_base.specs.declared.fault.Fault.TheVariants.{TooBig}
 use Rattle.ng_base.specs.declared.heap.ObjKind.{ObjKind}
 use Rattle.ng_base.specs.declared.heap.ObjKind.TheVariants as kinds
-use Rattle.ng_language.specs.Objects.{AreObjects, IsObjectAt}
+use Rattle.ng_language.specs.Objects.{IsObjectAt}
 use Rattle.ng_language.specs.Texts.{text_of, item_text, items_text, more_text, to_text}
 use Rattle.ng_language.specs.Unfolding.{Spent, and_then, made, as_list, unfold_items, unfold_value, unfold_object, unfold_view, unfold_within, below_object, prims, level_limit, node_limit}
 use Rattle.ng_language.specs.declared.unfolding.Mode.{Mode}
 use Rattle.ng_language.specs.declared.unfolding.Mode.TheVariants as modes
 use Rattle.ng_store.proofs.ObjectReads.{object_is}
 use Rattle.ng_pure.specs.Showing.{Shows}
-use Rattle.ng_pure.proofs.Shown.{Grown, Seen, AllBy, AllSeen, items_seen, one_more, old_items}
+use Rattle.ng_pure.proofs.Shown.{Grown, Seen, AllBy, items_seen, one_more, old_items}
 
 -- as many nodes were spent, or there was the same fault
 abbrev pub SpentBy : {A B : Type 0} → (A → B → Type 0) → Spent A → Spent B → Type 0

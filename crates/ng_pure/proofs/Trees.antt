@@ -1,19 +1,18 @@
 -- Running a pure program follows its evaluation, tree by tree.
-use Rattle.std.proofs.Common.{◌≡◌, ◌∙◌, ◌<◌, ◌≤◌, ◌+◌, ◌&&◌, ℕ, zero, suc, Bool, true, false, List, [], ◌∷◌, ◌++◌, length, refl, sym, ap, subst, arith, if◌then◌else◌, Option, Some, None, bytes_eq, pos, length-append, codes, true≢false}
+use Rattle.std.proofs.Common.{◌≡◌, ◌∙◌, ◌<◌, ◌≤◌, ◌+◌, ℕ, Bool, true, false, List, [], ◌∷◌, ◌++◌, length, refl, sym, ap, subst, arith, if◌then◌else◌, Option, Some, None, bytes_eq, pos, length-append, codes, true≢false}
 use Rattle.std.specs.Prelude.{Result, Ok, Err, IsTrue}
 use Rattle.std.specs.List.{IsDistinct}
 use Rattle.std.specs.Map.{keys_of}
 use Rattle.indexmap.specs.IndexMap.{insert_entry}
 use Rattle.ng_base.specs.Meets.{◌>>=◌ as ◌>>?◌}
 use Rattle.ng_base.specs.Objects.{Object}
-use Rattle.ng_base.specs.Views.{ViewTree, prim, list, rec, views_from, fields_from, views_list, fields_list}
-use Rattle.ng_base.specs.declared.name.Oid.{Oid}
+use Rattle.ng_base.specs.Views.{ViewTree, prim, list, rec, views_from, fields_from, fields_list}
 use Rattle.ng_base.specs.declared.value.Value.{Value}
 use Rattle.ng_base.specs.declared.value.Value.TheVariants as value
 use Rattle.ng_base.specs.declared.fault.Fault.{Fault}
 use Rattle.ng_base.specs.declared.fault.Fault.TheVariants.{ImpureCall, NotAFunction, Syntax}
 use Rattle.ng_base.proofs.ViewLists.{fields_list-from}
-use Rattle.ng_behaviour.specs.Scopes.{Scope, object_at, of_object}
+use Rattle.ng_behaviour.specs.Scopes.{Scope, object_at}
 use Rattle.ng_language.specs.Objects.{AreObjects}
 use Rattle.ng_language.specs.Operators.{in_range, truthy}
 use Rattle.ng_language.specs.Sums.{as_view}
@@ -22,25 +21,24 @@ use Rattle.ng_language.specs.Trees.{Tree, Trees, PairTree, Pairs, a_number, a_te
 use Rattle.ng_language.specs.declared.syntax.Constant.{Constant}
 use Rattle.ng_language.specs.declared.syntax.Constant.TheVariants as constants
 use Rattle.ng_view.specs.Applied.{known, applied}
-use Rattle.ng_view.specs.Evaluation.{Local, Field, LocalsStand, named, constant_value, label_name, sign_value, operator_value, method_of, member_callee, callee_or, callee, is_nothing, called_on, called, evaluated, receiver, evaluated_all, evaluated_pair, evaluated_pairs, evaluated_statements, evaluated_program}
+use Rattle.ng_view.specs.Evaluation.{Field, LocalsStand, named, constant_value, label_name, sign_value, operator_value, method_of, member_callee, callee_or, callee, called_on, called, evaluated, evaluated_all, evaluated_pair, evaluated_pairs, evaluated_statements}
 use Rattle.ng_view.specs.Members.{member, item}
 use Rattle.ng_view.specs.Methods.{method_value}
-use Rattle.ng_view.specs.Purity.{is_pure_method, list_method, text_method, names_method, IsPure, ArePure, IsPurePair, ArePurePairs, count_of, IsKnown, FiltersKnown, IsPairKnown, ArePairsKnown}
+use Rattle.ng_view.specs.Purity.{is_pure_method, IsPure, ArePure, IsPurePair, ArePurePairs, count_of, IsKnown, FiltersKnown, IsPairKnown, ArePairsKnown}
 use Rattle.ng_view.specs.declared.methods.Method.{Method}
-use Rattle.ng_act.specs.Actions.{Doing, acted, reached, acted_all, acted_pair, acted_pairs, statements, runs, stores, stores_result, filter_result, nothing}
-use Rattle.ng_act.specs.Calling.{called_on as run_called_on, plainly_called, method_or, value_called, scope_method, scope_called, of_method, object_called, kind_called, event_or, change_or, is_nothing as runs_nothing}
+use Rattle.ng_act.specs.Actions.{Doing, acted, acted_all, acted_pair, acted_pairs, statements, runs, stores, stores_result, filter_result, nothing}
+use Rattle.ng_act.specs.Calling.{called_on as run_called_on, method_or, value_called, is_nothing as runs_nothing}
 use Rattle.ng_act.specs.State.{State, Run, ◌>>=◌, with_objects, given}
 use Rattle.ng_act.specs.declared.called.Called.{Called}
 use Rattle.ng_act.specs.declared.called.Called.TheVariants as calls
-use Rattle.ng_write.specs.Reading.{Extends}
-use Rattle.ng_write.proofs.Extending.{extends_self, extends_on}
-use Rattle.ng_pure.specs.Covered.{IsCoveredFilter, IsCovered, AreCovered, IsPairCovered, ArePairsCovered}
-use Rattle.ng_pure.proofs.Shown.{Grown, grown_on, Seen, AllBy, AllSeen, FieldSeen, FieldsSeen, ResultBy, seen_on, all_on, fields_on, one_more, all_length}
+use Rattle.ng_write.proofs.Extending.{extends_self}
+use Rattle.ng_pure.specs.Covered.{IsCovered, AreCovered, IsPairCovered, ArePairsCovered}
+use Rattle.ng_pure.proofs.Shown.{Grown, grown_on, Seen, AllSeen, FieldSeen, FieldsSeen, ResultBy, seen_on, all_on, fields_on, one_more, all_length}
 use Rattle.ng_pure.proofs.Alike.{truthy_same}
 use Rattle.ng_pure.proofs.Texts.{text_same}
-use Rattle.ng_pure.proofs.Members.{SeenResult, member_seen, item_seen, name_seen}
+use Rattle.ng_pure.proofs.Members.{member_seen, item_seen, name_seen}
 use Rattle.ng_pure.proofs.Operators.{sign_seen, operator_seen, whole_seen}
-use Rattle.ng_pure.proofs.Methods.{Given, GivenResult, given_list, method_same, method_given}
+use Rattle.ng_pure.proofs.Methods.{given_list, method_same, method_given}
 use Rattle.ng_filters.specs.Applied.{first_of}
 use Rattle.ng_pure.proofs.Matching.{NoList}
 use Rattle.ng_pure.proofs.Plainly.{IsValue, input_value, pattern_given}
@@ -193,13 +191,13 @@ mutual
       (tree_follows go scope s c t p.1.0 q.0 f.0 now g)
       (λ mid v w e r. follows_ok C s mid (v, run_called_on mid s.scopes v name) (w, name) (r, refl, refl)))
       (λ mid r x e m.
-          let grown = grown_on s.objects now mid g e in
-          let from_start : length s.objects ≤ length now = g.no_fewer in
-          let more : length now ≤ length mid = e.no_fewer in
-          let main = call_follows go s (length now) mid name (count_of ts) r.0 x.0 (acted_all go scope [] ts (with_objects mid s)) (evaluated_all s.objects so s.locals [] ts) grown from_start more p.0 m.0
-          (trees_follow go scope s c ts p.1.1 q.1 f.1 mid grown (length mid) (omega arith) [] [] tt (count_of ts) (omega arith)) in
-          subst (λ k. Follows R s mid (if runs_nothing k then (with_objects mid s, Ok nothing) else (acted_all go scope [] ts (with_objects mid s) >>= λ args b. runs go k r.0 args b)) (called s.objects (callee s.objects x.0 x.1) x.0 (evaluated_all s.objects so s.locals [] ts))) (sym m.1)
-          (subst (λ k. Follows R s mid (if runs_nothing (run_called_on mid s.scopes r.0 name) then (with_objects mid s, Ok nothing) else (acted_all go scope [] ts (with_objects mid s) >>= λ args b. runs go (run_called_on mid s.scopes r.0 name) r.0 args b)) (called s.objects (callee s.objects x.0 k) x.0 (evaluated_all s.objects so s.locals [] ts))) (sym m.2) main))
+      let grown = grown_on s.objects now mid g e in
+      let from_start : length s.objects ≤ length now = g.no_fewer in
+      let more : length now ≤ length mid = e.no_fewer in
+      let main = call_follows go s (length now) mid name (count_of ts) r.0 x.0 (acted_all go scope [] ts (with_objects mid s)) (evaluated_all s.objects so s.locals [] ts) grown from_start more p.0 m.0
+      (trees_follow go scope s c ts p.1.1 q.1 f.1 mid grown (length mid) (omega arith) [] [] tt (count_of ts) (omega arith)) in
+      subst (λ k. Follows R s mid (if runs_nothing k then (with_objects mid s, Ok nothing) else (acted_all go scope [] ts (with_objects mid s) >>= λ args b. runs go k r.0 args b)) (called s.objects (callee s.objects x.0 x.1) x.0 (evaluated_all s.objects so s.locals [] ts))) (sym m.1)
+      (subst (λ k. Follows R s mid (if runs_nothing (run_called_on mid s.scopes r.0 name) then (with_objects mid s, Ok nothing) else (acted_all go scope [] ts (with_objects mid s) >>= λ args b. runs go (run_called_on mid s.scopes r.0 name) r.0 args b)) (called s.objects (callee s.objects x.0 k) x.0 (evaluated_all s.objects so s.locals [] ts))) (sym m.2) main))
   tree_follows go scope s c (call_of t ts) p q f now g = absurd (true≢false (sym p.0))
   tree_follows go scope s c (a_list ts) p q f now g =
       let n = length s.objects in
@@ -281,9 +279,9 @@ mutual
       follows_then (SeenAt n (length now)) (AllAt n from k) s now (acted go scope t (with_objects now s)) (evaluated s.objects so s.locals t) (λ v a. acted_all go scope (us ++ v ∷ []) ts a) (λ v. evaluated_all s.objects so s.locals (ws ++ v ∷ []) ts)
       (tree_follows go scope s c t p.0 q.0 f.0 now g)
       (λ after v w e r.
-          trees_follow go scope s c ts p.1 q.1 f.1 after (grown_on s.objects now after g e) from (let m : length now ≤ length after = e.no_fewer in omega arith) (us ++ v ∷ []) (ws ++ w ∷ [])
-          (one_more (Seen n from after) us ws v w (all_on n from from now after e (omega arith) us ws d) (seen_on n (length now) from after after (extends_self after) h v w r))
-          k (omega (arith, length-append ws (w ∷ []))))
+      trees_follow go scope s c ts p.1 q.1 f.1 after (grown_on s.objects now after g e) from (let m : length now ≤ length after = e.no_fewer in omega arith) (us ++ v ∷ []) (ws ++ w ∷ [])
+      (one_more (Seen n from after) us ws v w (all_on n from from now after e (omega arith) us ws d) (seen_on n (length now) from after after (extends_self after) h v w r))
+      k (omega (arith, length-append ws (w ∷ []))))
 
   pair_follows : (go : Doing) (scope : ℕ) (s : State) → Begins scope s → (p : PairTree) → IsPurePair p → IsPairKnown p → IsPairCovered p → (now : List Object) → Grown s.objects now
       → Follows (FieldAt (length s.objects) (length now)) s now (acted_pair go scope p (with_objects now s)) (evaluated_pair s.objects (object_at s.scopes scope) s.locals p)
@@ -303,13 +301,13 @@ mutual
       follows_then (SeenAt n (length now)) F s now (acted go scope i (with_objects now s)) (evaluated s.objects so s.locals i) (λ w a. given a (to_text a.objects w) >>= λ m b. acted go scope t b >>= λ v z. (z, Ok (m, v))) (λ w. to_text s.objects w >>? λ m. evaluated s.objects so s.locals t >>? λ v. Ok (m, v))
       (tree_follows go scope s c i p.0 q.0 f.0 now g)
       (λ mid v w e r.
-          let grown = grown_on s.objects now mid g e in
-          follows_then N F s mid (with_objects mid s, to_text mid v) (to_text s.objects w) (λ m b. acted go scope t b >>= λ x z. (z, Ok (m, x))) (λ m. evaluated s.objects so s.locals t >>? λ x. Ok (m, x))
-          (follows_result N s mid (to_text mid v) (to_text s.objects w) (names_by (to_text mid v) (to_text s.objects w) (text_same (length now) s.objects mid grown v w r)))
-          (λ after a b d m. follows_then (SeenAt n (length after)) F s after (acted go scope t (with_objects after s)) (evaluated s.objects so s.locals t) (λ x z. (z, Ok (a, x))) (λ x. Ok (b, x))
-          (tree_follows go scope s c t p.1 q.1 f.1 after (grown_on s.objects mid after grown d))
-          (λ last x y k z. follows_ok F s last (a, x) (b, y)
-          (m, seen_on n (length after) (length now) last last (extends_self last) (let o : length now ≤ length mid = e.no_fewer in let o2 : length mid ≤ length after = d.no_fewer in omega arith) x y z))))
+      let grown = grown_on s.objects now mid g e in
+      follows_then N F s mid (with_objects mid s, to_text mid v) (to_text s.objects w) (λ m b. acted go scope t b >>= λ x z. (z, Ok (m, x))) (λ m. evaluated s.objects so s.locals t >>? λ x. Ok (m, x))
+      (follows_result N s mid (to_text mid v) (to_text s.objects w) (names_by (to_text mid v) (to_text s.objects w) (text_same (length now) s.objects mid grown v w r)))
+      (λ after a b d m. follows_then (SeenAt n (length after)) F s after (acted go scope t (with_objects after s)) (evaluated s.objects so s.locals t) (λ x z. (z, Ok (a, x))) (λ x. Ok (b, x))
+      (tree_follows go scope s c t p.1 q.1 f.1 after (grown_on s.objects mid after grown d))
+      (λ last x y k z. follows_ok F s last (a, x) (b, y)
+      (m, seen_on n (length after) (length now) last last (extends_self last) (let o : length now ≤ length mid = e.no_fewer in let o2 : length mid ≤ length after = d.no_fewer in omega arith) x y z))))
 
   pairs_follow : (go : Doing) (scope : ℕ) (s : State) → Begins scope s → (ps : Pairs) → ArePurePairs ps → ArePairsKnown ps → ArePairsCovered ps → (now : List Object) → Grown s.objects now → (from : ℕ) → from ≤ length now
       → (fs gs : List Field) → FieldsSeen (length s.objects) from now fs gs → IsDistinct bytes_eq (keys_of gs)

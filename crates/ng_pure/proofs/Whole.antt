@@ -1,5 +1,5 @@
 -- Running a pure program is evaluating it.
-use Rattle.std.proofs.Common.{◌≡◌, ◌∙◌, ◌<◌, ◌≤◌, ℕ, List, length, refl, sym, ap, subst, arith, inl, inr}
+use Rattle.std.proofs.Common.{◌≡◌, ◌∙◌, ℕ, List, length, refl, sym, subst, arith}
 use Rattle.std.specs.Prelude.{Result, Ok, Err}
 use Rattle.ng_base.specs.Objects.{Object}
 use Rattle.ng_base.specs.Views.{ViewTree, prim, list, rec}
@@ -11,9 +11,8 @@ use Rattle.ng_write.specs.Making.{value_in}
 use Rattle.ng_behaviour.specs.Scopes.{object_at}
 use Rattle.ng_view.specs.Evaluation.{evaluated_program}
 use Rattle.ng_write.specs.Reading.{Extends}
-use Rattle.ng_pure.specs.Pure.{IsReady, IsEvaluation, Answers, PureLaw}
-use Rattle.ng_pure.proofs.Shown.{Seen}
-use Rattle.ng_pure.proofs.Running.{Ran, SeenAt}
+use Rattle.ng_pure.specs.Pure.{IsEvaluation, Answers, PureLaw}
+use Rattle.ng_pure.proofs.Running.{SeenAt}
 use Rattle.ng_pure.proofs.Storing.{Answered}
 use Rattle.ng_pure.proofs.Trees.{statements_follow}
 
