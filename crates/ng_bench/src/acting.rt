@@ -20,6 +20,7 @@ const APPLICATION: &[u8] = b"{\"functions\":{\"f\":{\"params\":[\"x\"],\"do\":\"
 
 /// How many scopes hear a broadcast, and how many stand one below another.
 const WIDE: u32 = 1_000;
+
 const HIGH: u32 = 60;
 
 /// A core with the root scope alone.
@@ -39,6 +40,19 @@ fn program(alloc: Global, text: &str) -> Option<Program> {
     parse(alloc, &tokens).ok()
 }
 
+/// A child more of a scope.
+fn child(core: &mut Core, parent: ScopeId) -> Option<ScopeId>
+    requires sound { IsSound core.old }
+    requires parent { parent.0 < length core.old.scopes }
+    ensures sound { IfSome result (λ s. IsSound core.new) }
+    ensures scopes { IfSome result (λ s. s.0 < length core.new.scopes) }
+{
+    match core.new_child(parent) {
+        Ok(scope) => Some(scope),
+        Err(_) => None,
+    }
+}
+
 /// A child more of a scope, with listeners.
 fn add(core: &mut Core, alloc: Global, parent: ScopeId, name: &Txt, count: u32) -> Option<ScopeId>
     requires sound { IsSound core.old }
@@ -47,7 +61,7 @@ fn add(core: &mut Core, alloc: Global, parent: ScopeId, name: &Txt, count: u32) 
     ensures scopes { IfSome result (λ s. s.0 < length core.new.scopes) }
     ensures root { IfSome result (λ s. 0 < length core.new.scopes) }
 {
-    let scope = core.new_child(parent).ok()?;
+    let scope = child(core, parent)?;
     let body = program(alloc, "0")?;
     hear(core, alloc, scope, name, &body, count)?;
     Some(scope)

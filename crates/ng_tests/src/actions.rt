@@ -18,8 +18,11 @@ use std::alloc::Global;
 use std::test::Fail;
 
 const ROOT: ScopeId = ScopeId(0);
+
 const FIRST: ScopeId = ScopeId(1);
+
 const MIDDLE: ScopeId = ScopeId(2);
+
 const LAST: ScopeId = ScopeId(3);
 
 /// A core over data, with three children of its root.
@@ -72,10 +75,20 @@ fn a_program_writes_until_its_first_fault(rt: HostRuntime) -> Result<(), Fail> {
     let Some(mut core) = family(alloc, "{\"b\":{\"c\":5},\"log\":[]}") else {
         panic!(rt; "no core");
     };
-    let count = ran(&mut core, alloc, ROOT, "log.push(1, b.c); log.push(log[1] + 2)");
+    let count = ran(
+        &mut core,
+        alloc,
+        ROOT,
+        "log.push(1, b.c); log.push(log[1] + 2)",
+    );
     assert!(rt; count == Ok(Value::Int(3)));
     assert!(rt; gives(&mut core, alloc, "log.join()", "1,5,7"));
-    let end = ran(&mut core, alloc, FIRST, "d = 'here'; d = 1 % 0; d = 'never'");
+    let end = ran(
+        &mut core,
+        alloc,
+        FIRST,
+        "d = 'here'; d = 1 % 0; d = 'never'",
+    );
     assert!(rt; end == Err(Fault::NotWhole));
     assert!(rt; ran(&mut core, alloc, ROOT, "d") == Ok(Value::Undefined));
     assert!(rt; ran(&mut core, alloc, FIRST, "d == 'here'") == Ok(Value::Bool(true)));
@@ -107,7 +120,8 @@ fn a_listener_destroys_the_scope_that_is_next(rt: HostRuntime) -> Result<(), Fai
         panic!(rt; "no core");
     };
     let first = "$on('ping', 'log.push(1); middle.$destroy()')";
-    let middle = "$parent.middle = this; $on('ping', 'log.push(2)'); $on('$destroy', 'log.push(9)')";
+    let middle =
+        "$parent.middle = this; $on('ping', 'log.push(2)'); $on('$destroy', 'log.push(9)')";
     assert!(rt; ran(&mut core, alloc, LAST, "$on('ping', 'log.push(3)')").is_ok());
     assert!(rt; ran(&mut core, alloc, MIDDLE, middle).is_ok());
     assert!(rt; ran(&mut core, alloc, FIRST, first).is_ok());
