@@ -27,6 +27,10 @@ ROWS = [
     ('commands of a script, read', 'script', 10_000),
     ('paragraphs of a document, built and shown, and the text of each written', 'texts', 9_999),
     ('a thousand groups, inserted in the middle of so many at an anchor', 'groups', 9_900),
+    ('one broadcast, to so many listeners on 1,000 scopes', 'broadcast', 10_000),
+    ('emits from the lowest of 60 scopes', 'emit', 10_000),
+    ('calls of a function', 'calls', 10_000),
+    ('scopes with a listener each, destroyed one after another', 'destroy', 10_000),
 ]
 
 

@@ -1,0 +1,26 @@
+//! A law above evaluation and actions: running a pure program is evaluating it.
+//!
+//! A hole and a watch evaluate a program (`ng_view`), a click or a listener runs one (`ng_act`). Evaluation gives views: a fresh list
+//! or record is a value in itself, and no object is made. A run makes an object for each of them where it arises, so `[a].slice(0)`
+//! makes two. The law says that for pure programs this is all the difference. A run gives a value that shows the view of
+//! evaluation: the same value where nothing fresh is in it, else an array or a plain object that was made on the way, with items
+//! and named values that show those of the view. Or it gives the same fault. The objects that stood stay as they were, those that
+//! were made stand behind them, and scopes, listeners, locals and all that waits for the digest are untouched. A run alone may
+//! find no room for an object, where a million stand.
+//!
+//! Two things are told apart by the run alone, and the law leaves them out. A method's name that stands for a function, as
+//! `a.slice()` on an object with a function under `slice`, is ImpureCall to evaluation, and the run calls the function. And a
+//! filter reads an array that has 4,294,967,296 items or more otherwise than a list of as many: so the pattern of `filter` is to
+//! be an expression that makes nothing, or a record of such. The input of `json` is to make nothing either; that is a bound of
+//! the proof alone.
+//!
+//! `specs/Showing.antt` says when a value shows a view, `specs/Pure.antt` has the law, `specs/Covered.antt` the bounds on filters.
+//! The proof goes by operation: `proofs/Texts`, `Members`, `Operators`, `Methods`, `Filters`, `Orders`, `Matching` and `Json` show that
+//! each asks no more of a value than of the view that it shows. Equality is the one that could (`proofs/Equal`): a fresh list
+//! equals nothing, and an object that was made equals no value that was evaluated before it. `Storing` makes the objects, `Running`
+//! puts steps in a row, `Trees` goes over programs.
+//!
+//! There is no code here, and nothing is built from this crate.
+#![tactic(auto)]
+
+pub mod laws;
