@@ -19,3 +19,4 @@ pub mod KeyOrder
 pub mod Matching
 pub mod Plainly
 pub mod Json
+pub mod Costs

@@ -223,10 +223,7 @@ first_no_list (v ∷ vs) a = a.0
 where_is : {A : Type 0} (P : A → Type 0) (r : Result A Fault) (a : A) → WhereOk P r → r ≡ Ok a → P a
 where_is P r a h e = subst (WhereOk P) e h
 
--- what a plain input gives, and the first of arguments that are patterns
-pub input_value : (objects : List Object) (scope : ℕ) (locals : List Local) (t : Tree) (v : ViewTree) → IsPlain t → evaluated objects scope locals t ≡ Ok v → IsValue v
-input_value objects scope locals t v h e = where_is IsValue (evaluated objects scope locals t) v (plain_value objects scope locals t h) e
-
+-- the first of arguments that are patterns
 pub pattern_given : (objects : List Object) (scope : ℕ) (locals : List Local) (ts : Trees) (vs : List ViewTree) → ArgumentsArePatterns ts → evaluated_all objects scope locals [] ts ≡ Ok vs → NoList (first_of (views_from vs))
 pattern_given objects scope locals ts vs h e =
     first_no_list vs (where_is (λ us. AllByRecursion NoList us) (evaluated_all objects scope locals [] ts) vs (arguments_no_list objects scope locals ts [] h tt) e)

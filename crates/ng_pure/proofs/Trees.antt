@@ -41,7 +41,7 @@ use Rattle.ng_pure.proofs.Operators.{sign_seen, operator_seen, whole_seen}
 use Rattle.ng_pure.proofs.Methods.{given_list, method_same, method_given}
 use Rattle.ng_filters.specs.Applied.{first_of}
 use Rattle.ng_pure.proofs.Matching.{NoList}
-use Rattle.ng_pure.proofs.Plainly.{IsValue, input_value, pattern_given}
+use Rattle.ng_pure.proofs.Plainly.{pattern_given}
 use Rattle.ng_pure.proofs.Applied.{applied_given}
 use Rattle.ng_pure.proofs.Called.{called_plainly}
 use Rattle.ng_pure.proofs.Named.{put_seen, put_distinct, nothing_distinct}
@@ -146,13 +146,13 @@ call_follows go s from mid name k u t args asked g a b pure e h =
         (method_given from (length mid) s.objects mid after (grown_on s.objects mid after g x) x a b (omega arith) m u t vs ws e q.0))
 
 filter_follows : (s : State) (from : ℕ) (now : List Object) (name : List ℕ) (k : ℕ) (u t : ViewTree) (vs ws : List ViewTree)
-    → Grown s.objects now → from ≤ length now → IsTrue (known name k) → (bytes_eq name (codes "json") ≡ true → IsValue t) → (bytes_eq name (codes "filter") ≡ true → NoList (first_of (views_from ws))) → Seen (length s.objects) from now u t → AllSeen (length s.objects) from now vs ws → length ws ≡ k
+    → Grown s.objects now → from ≤ length now → IsTrue (known name k) → (bytes_eq name (codes "filter") ≡ true → NoList (first_of (views_from ws))) → Seen (length s.objects) from now u t → AllSeen (length s.objects) from now vs ws → length ws ≡ k
     → Follows (SeenAt (length s.objects) from) s now (stores_result (filter_result now name u vs) (with_objects now s)) (applied s.objects name t (views_from ws))
-filter_follows s from now name k u t vs ws g h known_is plain pattern e r many =
+filter_follows s from now name k u t vs ws g h known_is pattern e r many =
     let n = length s.objects in
     let is : known name (length vs) ≡ true = ap (known name) (all_length (Seen n from now) vs ws r ∙ many) ∙ known_is in
     subst (λ b. Follows (SeenAt n from) s now (stores_result (if b then applied now name u (views_from vs) else Err Syntax) (with_objects now s)) (applied s.objects name t (views_from ws))) (sym is)
-    (follows_stored_result n from s now h (applied now name u (views_from vs)) (applied s.objects name t (views_from ws)) (applied_given from s.objects now name g (length vs) is u t vs ws plain pattern e r))
+    (follows_stored_result n from s now h (applied now name u (views_from vs)) (applied s.objects name t (views_from ws)) (applied_given from s.objects now name g (length vs) is u t vs ws pattern e r))
 
 mutual
   tree_follows : (go : Doing) (scope : ℕ) (s : State) → Begins scope s → (t : Tree) → IsPure t → IsKnown t → IsCovered t → (now : List Object) → Grown s.objects now
@@ -266,7 +266,7 @@ mutual
       (λ mid v w is e r. follows_then_is (AllAt n (length now) (count_of ts)) R s mid (acted_all go scope [] ts (with_objects mid s)) (evaluated_all s.objects so s.locals [] ts) (λ vs b. stores_result (filter_result b.objects name v vs) b) (λ vs. applied s.objects name w (views_from vs))
       (trees_follow go scope s c ts p.1 q.1.1 f.1.1 mid (grown_on s.objects now mid g e) (length now) e.no_fewer [] [] tt (count_of ts) (omega arith))
       (λ after vs ws are d m. filter_follows s (length now) after name (count_of ts) v w vs ws (grown_on s.objects mid after (grown_on s.objects now mid g e) d) (let k : length now ≤ length mid = e.no_fewer in let l : length mid ≤ length after = d.no_fewer in omega arith) q.0
-      (λ j. input_value s.objects so s.locals t w (f.0.0 j) is) (λ j. pattern_given s.objects so s.locals ts ws (f.0.1 j) are)
+      (λ j. pattern_given s.objects so s.locals ts ws (f.0 j) are)
       (seen_on n (length now) (length now) mid after d (omega arith) v w r) m.0 m.1))
 
   trees_follow : (go : Doing) (scope : ℕ) (s : State) → Begins scope s → (ts : Trees) → ArePure ts → FiltersKnown ts → AreCovered ts → (now : List Object) → Grown s.objects now → (from : ℕ) → from ≤ length now

@@ -1,5 +1,4 @@
--- Programs whose filters read nothing that is fresh but by its items and its members: `json` has a plain input, and `filter` a
--- pattern that is plain or a record of such.
+-- Programs in which the pattern of the filter `filter` makes nothing, or is a record of such.
 use Rattle.std.specs.Prelude.{ℕ, ◌≡◌, ⊤, true, List, codes}
 use Rattle.std.specs.Str.{bytes_eq}
 use Rattle.ng_language.specs.Trees.{Tree, Trees, PairTree, Pairs, a_number, a_text, a_name, the_scope, a_constant, member_of, item_of, call_of, a_list, a_record, in_brackets, signed, combined, both_of, either_of, choice_of, assigned, filtered, no_trees, tree_then, labelled, shorthand, computed, no_pairs, pair_then}
@@ -25,9 +24,9 @@ abbrev pub ArgumentsArePatterns : Trees → Type 0
 ArgumentsArePatterns no_trees = ⊤
 ArgumentsArePatterns (tree_then t ts) = IsPattern t × ArgumentsArePatterns ts
 
--- a filter with its input and its arguments
-abbrev pub IsCoveredFilter : List ℕ → Tree → Trees → Type 0
-IsCoveredFilter name t ts = (bytes_eq name (codes "json") ≡ true → IsPlain t) × (bytes_eq name (codes "filter") ≡ true → ArgumentsArePatterns ts)
+-- a filter with its arguments
+abbrev pub IsCoveredFilter : List ℕ → Trees → Type 0
+IsCoveredFilter name ts = bytes_eq name (codes "filter") ≡ true → ArgumentsArePatterns ts
 
 abbrev mutual
   pub IsCovered : Tree → Type 0
@@ -48,7 +47,7 @@ abbrev mutual
   IsCovered (either_of a b) = IsCovered a × IsCovered b
   IsCovered (choice_of c a b) = IsCovered c × (IsCovered a × IsCovered b)
   IsCovered (assigned a b) = IsCovered a × IsCovered b
-  IsCovered (filtered t s ts) = IsCoveredFilter s t ts × (IsCovered t × AreCovered ts)
+  IsCovered (filtered t s ts) = IsCoveredFilter s ts × (IsCovered t × AreCovered ts)
 
   pub AreCovered : Trees → Type 0
   AreCovered no_trees = ⊤

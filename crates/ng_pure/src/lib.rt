@@ -9,14 +9,15 @@
 //! find no room for an object, where a million stand.
 //!
 //! Two things are told apart by the run alone, and the law leaves them out. A method's name that stands for a function, as
-//! `a.slice()` on an object with a function under `slice`, is ImpureCall to evaluation, and the run calls the function. And a
-//! filter reads an array that has 4,294,967,296 items or more otherwise than a list of as many: so the pattern of `filter` is to
-//! be an expression that makes nothing, or a record of such. The input of `json` is to make nothing either; that is a bound of
-//! the proof alone.
+//! `a.slice()` on an object with a function under `slice`, is ImpureCall to evaluation, and the run calls the function. And the
+//! filter `filter` reads an array of 4,294,967,296 items or more, where it stands as a pattern, otherwise than a list of as many:
+//! so its pattern is to be an expression that makes nothing, or a record of such. No list comes near that length; that
+//! the bound is on the form of the pattern is the law's own.
 //!
-//! `specs/Showing.antt` says when a value shows a view, `specs/Pure.antt` has the law, `specs/Covered.antt` the bounds on filters.
+//! `specs/Showing.antt` says when a value shows a view, `specs/Pure.antt` has the law, `specs/Covered.antt` the bound on `filter`.
 //! The proof goes by operation: `proofs/Texts`, `Members`, `Operators`, `Methods`, `Filters`, `Orders`, `Matching` and `Json` show that
-//! each asks no more of a value than of the view that it shows. Equality is the one that could (`proofs/Equal`): a fresh list
+//! each asks no more of a value than of the view that it shows. A record is unfolded for JSON in its own order and an object in that
+//! of keys: `proofs/Costs` shows that this costs the same. Equality is the one that could (`proofs/Equal`): a fresh list
 //! equals nothing, and an object that was made equals no value that was evaluated before it. `Storing` makes the objects, `Running`
 //! puts steps in a row, `Trees` goes over programs.
 //!
