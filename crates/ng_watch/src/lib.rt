@@ -24,8 +24,13 @@
 #![tactic(auto)]
 
 mod bindings;
+mod chunk;
+mod edits;
 mod ended;
 pub mod laws;
+mod paths;
+mod places;
+mod table;
 mod testing;
 pub mod watch;
 pub mod watched;
