@@ -1,15 +1,15 @@
 -- Chunks of rows, one after another, and what stands before and after a place in them.
 use Rattle.std.proofs.Common.{◌≡◌, ◌<◌, ◌≤◌, ◌+◌, ◌-◌, ℕ, suc, zero, Bool, true, false, List, [], ◌∷◌, ◌++◌, Option, Some, None, Result, Ok, Err, refl, ap, sym, subst, ◌∙◌, length, take, drop, get_or, append_assoc, append-nil, arith}
-use Rattle.std.specs.Prelude.{slice_get, find, option_map, is_some, IsSome, OnOk}
-use Rattle.std.specs.Map.{lookup, lookup_key, remove_entry, set_value}
+use Rattle.std.specs.Prelude.{slice_get, IsSome, OnOk}
+use Rattle.std.specs.Map.{lookup}
 use Rattle.std.specs.BTreeMap.{insert_entry}
 use Rattle.std.specs.List.{AllByRecursion, insert, remove, slice_set}
 use Rattle.std.proofs.lemmas.List.{take-append-drop, take_all, drop_all, get_or_default, set_split}
 use Rattle.ng_base.specs.declared.path.Key.{Key}
 use Rattle.ng_watch.specs.Chunks.{Rows, joined, chunk_at, front, back, before, after, row_at, has_key, has_below, is_below, is_passed, AllBelow, NoneBelow, AllAbove, IsGap, IsEdge}
-use Rattle.ng_watch.specs.Keys.{key_cmp, is_key, is_above}
+use Rattle.ng_watch.specs.Keys.{key_cmp, is_key}
 use Rattle.ng_watch.specs.declared.watched.Watched.{Watched}
-use Rattle.ng_watch.proofs.Rows.{Sorted, below_append, below_less, below_through, front_below, gap_above, sorted_first, sorted_second, lookup_hit, lookup_gap, insert_gap, find_hit, find_gap}
+use Rattle.ng_watch.proofs.Rows.{Sorted, below_append, below_less, below_through, front_below, gap_above, sorted_first, sorted_second, lookup_hit, lookup_gap, insert_gap}
 
 abbrev Row : Type 0
 Row = Key × Watched
@@ -155,10 +155,11 @@ stops_within k c j some n l a = by_test (get_there c (length c - 1) (omega arith
         let all : AllBelow k c = subst (AllBelow k) (take_all j c m) a in
         let yes : is_passed k c ≡ true = ended k c e h (all_get (λ e. is_below k e ≡ true) c (length c - 1) e all h) in
         cc
+
     by_test : (e : Row) × (slice_get c (length c - 1) ≡ Some e) → j < length c
     by_test p = let no : length c ≤ j → ⊥ = λ m. full m p.0 p.1 in omega arith
 
-none_after : (xs : Rows) → slice_get xs 0 ≡ None → xs ≡ []
+pub none_after : (xs : Rows) → slice_get xs 0 ≡ None → xs ≡ []
 none_after [] h = refl
 none_after (x ∷ xs) h = absurd (cc)
 
@@ -191,11 +192,8 @@ row_within cs i j r h is =
     let p = some_of (row_at cs i j) h in
     subst (λ (c : Rows). j < length c) (sym (read_at cs i r (chunk_within cs i j p.0 p.1) is)) (get_within (chunk_at cs i) j p.0 p.1)
 
-pub row_within_read : (cs : List Rows) (i j : ℕ) (r : Rows) → IsSome (row_at cs i j) → r ≡ get_or cs i r → j < length (get_or cs i r)
-row_within_read cs i j r h is = subst (λ (c : Rows). j < length c) is (row_within cs i j r h is)
-
-pub read_get : (cs : List Rows) (i j : ℕ) (r : Rows) (e : Row) → row_at cs i j ≡ Some e → r ≡ get_or cs i r → slice_get (get_or cs i r) j ≡ Some e
-read_get cs i j r e h is = ap (λ (c : Rows). slice_get c j) (sym is ∙ read_at cs i r (chunk_within cs i j e h) is) ∙ h
+pub read_row : (cs : List Rows) (i j : ℕ) (r : Rows) (e : Row) → row_at cs i j ≡ Some e → r ≡ get_or cs i r → slice_get r j ≡ Some e
+read_row cs i j r e h is = ap (λ (c : Rows). slice_get c j) (read_at cs i r (chunk_within cs i j e h) is) ∙ h
 
 pub on_ok : {T E : Type 0} {P Q : Type 0} (r : Result T E) → (P → Q) → OnOk r P → OnOk r Q
 on_ok (Ok x) f p = f p
@@ -302,8 +300,7 @@ end_is cs r n h same =
     let l : i < length cs = get_within cs i r (sym h) in
     let is : chunk_at cs i ≡ r = get_is cs i r [] h in
     let long : length (chunk_at cs i) ≤ n = omega (arith, same, ap (length {A = Row}) is) in
-    let over : length cs ≤ suc i = omega arith in
-    (
+    let over : length cs ≤ suc i = omega arith in (
       ap (λ (xs : Rows). front cs i ++ xs) (take_all n (chunk_at cs i) long) ∙ sym (front_more cs i l) ∙ front_all cs (suc i) over,
       ap (λ (xs : Rows). xs ++ back cs i) (drop_all n (chunk_at cs i) long) ∙ back_next cs i ∙ after_past cs (suc i) zero over,
     )
@@ -368,8 +365,10 @@ gap_kept k cs i j ds m n s g same edge = by_test (has_key k (row_at ds m n)) ref
   where
     sorted : Sorted (joined ds)
     sorted = subst Sorted (sym same) s
+
     none : lookup (is_key k) (joined ds) ≡ None
     none = ap (lookup (is_key k)) (same ∙ parts cs i j) ∙ lookup_gap k (before cs i j) (after cs i j) g
+
     by_test : (b : Bool) → has_key k (row_at ds m n) ≡ b → IsGap k (before ds m n) (after ds m n)
     by_test false is = gap k ds m n sorted edge is
     by_test true is =
@@ -377,21 +376,3 @@ gap_kept k cs i j ds m n s g same edge = by_test (has_key k (row_at ds m n)) ref
         let there : joined ds ≡ before ds m n ++ r.0 ∷ after ds m (suc n) = parts_row ds m n r.0 r.1 in
         let some : lookup (is_key k) (joined ds) ≡ Some r.0.1 = ap (lookup (is_key k)) there ∙ lookup_hit k (before ds m n) (after ds m (suc n)) r.0 (subst Sorted there sorted) r.2 in
         absurd (cc (some, none))
-
-pub found_at : (k : Key) (cs : List Rows) (i j : ℕ) → Sorted (joined cs) → has_key k (row_at cs i j) ≡ true → lookup (is_key k) (joined cs) ≡ option_map (λ (e : Row). e.1) (row_at cs i j)
-found_at k cs i j s h =
-    let r = row_of k (row_at cs i j) h in
-    let there : joined cs ≡ before cs i j ++ r.0 ∷ after cs i (suc j) = parts_row cs i j r.0 r.1 in
-    ap (lookup (is_key k)) there ∙ lookup_hit k (before cs i j) (after cs i (suc j)) r.0 (subst Sorted there s) r.2 ∙ sym (ap (option_map (λ (e : Row). e.1)) r.1)
-
-pub found_none : (k : Key) (cs : List Rows) (i j : ℕ) → IsGap k (before cs i j) (after cs i j) → lookup (is_key k) (joined cs) ≡ None
-found_none k cs i j g = ap (lookup (is_key k)) (parts cs i j) ∙ lookup_gap k (before cs i j) (after cs i j) g
-
-pub next_of_row : (k : Key) (cs : List Rows) (i j : ℕ) → Sorted (joined cs) → has_key k (row_at cs i j) ≡ true → find (λ (f : Row). is_above k f.0) (joined cs) ≡ slice_get (after cs i (suc j)) 0
-next_of_row k cs i j s h =
-    let r = row_of k (row_at cs i j) h in
-    let there : joined cs ≡ before cs i j ++ r.0 ∷ after cs i (suc j) = parts_row cs i j r.0 r.1 in
-    ap (find (λ (f : Row). is_above k f.0)) there ∙ find_hit k (before cs i j) (after cs i (suc j)) r.0 (subst Sorted there s) r.2
-
-pub next_of_gap : (k : Key) (cs : List Rows) (i j : ℕ) → IsGap k (before cs i j) (after cs i j) → find (λ (f : Row). is_above k f.0) (joined cs) ≡ slice_get (after cs i j) 0
-next_of_gap k cs i j g = ap (find (λ (f : Row). is_above k f.0)) (parts cs i j) ∙ find_gap k (before cs i j) (after cs i j) g

@@ -1,17 +1,16 @@
 -- Rows in key order, parted at a key.
-use Rattle.std.proofs.Common.{◌≡◌, ◌<◌, ◌≤◌, ◌+◌, ℕ, suc, zero, Bool, true, false, cond, List, [], ◌∷◌, ◌++◌, Option, Some, None, refl, ap, sym, subst, ◌∙◌, map, length, take, drop, get_or, append_assoc, arith}
+use Rattle.std.proofs.Common.{◌≡◌, ◌<◌, ◌≤◌, ◌+◌, ℕ, suc, zero, true, false, List, [], ◌∷◌, ◌++◌, Some, None, refl, ap, subst, ◌∙◌, length, take, drop, get_or, arith}
 use Rattle.std.specs.Prelude.{find, slice_get}
 use Rattle.std.specs.List.{AllByRecursion, AllWithin}
 use Rattle.std.specs.List.Sorted.{IsStrictlySortedBy}
 use Rattle.std.specs.Map.{lookup, lookup_key, remove_entry, set_value, keys_of}
 use Rattle.std.specs.BTreeMap.{insert_entry}
-use Rattle.std.specs.Ordering.{is_eq, is_lt, ordering_reverse, match_ordering}
+use Rattle.std.specs.Ordering.{is_eq, is_lt, ordering_reverse}
 use Rattle.std.specs.declared.cmp.Ordering.{Ordering}
 use Rattle.std.specs.declared.cmp.Ordering.TheVariants.{Less, Equal, Greater}
 use Rattle.std.proofs.lemmas.Map.Keys.{sorted_head, sorted_tail}
-use Rattle.std.proofs.lemmas.Cmp.{tied_back}
 use Rattle.ng_base.specs.declared.path.Key.{Key}
-use Rattle.ng_watch.specs.Chunks.{Rows, is_below, AllBelow, NoneBelow, AllAbove, IsGap}
+use Rattle.ng_watch.specs.Chunks.{Rows, is_below, AllBelow, AllAbove, IsGap}
 use Rattle.ng_watch.specs.Keys.{key_cmp, key_cmp_total, is_key, is_above}
 use Rattle.ng_watch.specs.declared.watched.Watched.{Watched}
 

@@ -6,6 +6,7 @@ use Rattle.std.specs.Map.{keys_of}
 use Rattle.std.specs.Option.{ForSome}
 use Rattle.std.specs.Ordering.{is_lt}
 use Rattle.std.specs.declared.cmp.Ordering.TheVariants.{Less}
+use Rattle.ng_base.specs.declared.name.Serial.{Serial}
 use Rattle.ng_base.specs.declared.path.Key.{Key}
 use Rattle.ng_watch.specs.Keys.{key_cmp, is_key}
 use Rattle.ng_watch.specs.declared.watched.Watched.{Watched}
@@ -13,6 +14,9 @@ use Rattle.ng_watch.specs.declared.watched.Watched.{Watched}
 -- keys with their watchers, as the code has them
 abbrev pub Rows : Type 0
 Rows = List (Key × Watched)
+
+abbrev pub key_from : List ℕ → Serial → Key
+key_from p n = record { path = p; serial = n }
 
 -- the rows of all chunks
 abbrev pub joined : List Rows → Rows

@@ -5,11 +5,12 @@ ghost use Rattle.std.specs.List.Sorted.{IsStrictlySortedBy};
 ghost use Rattle.std.specs.Map.{keys_of};
 ghost use Rattle.ng_base.specs.declared.path.Key.{Key as Name};
 ghost use Rattle.ng_watch.specs.declared.watched.Watched.{Watched as Row};
-ghost use Rattle.ng_watch.specs.Chunks.{AllBelow, NoneBelow, is_below};
+ghost use Rattle.ng_watch.specs.Chunks.{AllBelow, NoneBelow, is_below, key_from};
 ghost use Rattle.ng_watch.specs.Keys.{key_cmp};
 
 use crate::watched::Watched;
-use ng_base::path::Key;
+use ng_base::name::Serial;
+use ng_base::path::{Key, Path};
 use ng_value::snapshot::Snap;
 use std::alloc::{AllocError, Global};
 use std::marker::Model;
@@ -41,11 +42,12 @@ impl Model for Chunk {
     ghost invariant = { λ c. 0 < length c.rows.items };
 }
 
-/// Whether a row is below a key.
-pub(crate) fn is_below(row: &(Key, Watched), key: &Key) -> bool
-    ensures { result ≡ is_below key.now row.now }
+/// Whether a row is below the key of a path and a number.
+pub(crate) fn is_below(row: &(Key, Watched), path: &Path, serial: Serial) -> bool
+    ensures { result ≡ is_below (key_from path.now serial) row.now }
 {
-    row.0.cmp(key).is_lt()
+    let key = &row.0;
+    key.path.cmp(path).then(key.serial.cmp(&serial)).is_lt()
 }
 
 impl Chunk {
@@ -103,15 +105,15 @@ impl Chunk {
         &self.rows[self.rows.len() - 1]
     }
 
-    /// How many rows are below a key.
-    pub(crate) fn below(&self, key: &Key) -> usize
+    /// How many rows are below the key of a path and a number.
+    pub(crate) fn below(&self, path: &Path, serial: Serial) -> usize
         requires { IsStrictlySortedBy key_cmp (keys_of self.now) }
         ensures bound { result ≤ length self.now }
-        ensures lower { AllBelow key.now (take result self.now) }
-        ensures upper { NoneBelow key.now (drop result self.now) }
+        ensures lower { AllBelow (key_from path.now serial) (take result self.now) }
+        ensures upper { NoneBelow (key_from path.now serial) (drop result self.now) }
         ensures some { 0 < length self.now }
     {
-        self.rows.partition_point(|row| is_below(row, key))
+        self.rows.partition_point(|row| is_below(row, path, serial))
     }
 
     /// Puts a row in at a place.

@@ -1,32 +1,33 @@
 //! Changes of the chunks of the watchers' table at a place.
-ghost use Rattle.std.specs.Prelude.{◌≡◌, ◌<◌, ◌≤◌, ◌++◌, ◌∷◌, [], suc, Some, length, IsSome, IfSome, IsTrue, OnOk, OnErr};
+ghost use Rattle.std.specs.Prelude.{◌≡◌, ◌<◌, ◌≤◌, ◌++◌, ◌∷◌, [], suc, Some, length, IsSome, IfSome, IsTrue, not, OnOk, OnErr};
 ghost use Rattle.std.specs.BTreeMap.{insert_entry};
+ghost use Rattle.std.specs.List.{filter};
 ghost use Rattle.std.specs.List.Sorted.{IsStrictlySortedBy};
 ghost use Rattle.std.specs.Map.{keys_of};
 ghost use Rattle.std.specs.Option.{ForSome};
-ghost use Rattle.ng_watch.specs.Chunks.{joined, before, after, chunk_at, row_at, IsGap};
-ghost use Rattle.ng_watch.specs.Keys.{key_cmp};
+ghost use Rattle.ng_watch.specs.Chunks.{joined, before, after, chunk_at, row_at, IsCounted, IsGap};
+ghost use Rattle.ng_watch.specs.Keys.{begins, key_cmp};
 
 use crate::chunk::Chunk;
-use crate::places::{Place, edge};
+use crate::places::{Place, edge, place_under};
 use crate::watched::Watched;
-use ng_base::path::Key;
+use ng_base::path::{Key, Path};
 use ng_value::snapshot::Snap;
 use std::alloc::{AllocError, Global};
 
 /// The row of a place has another watcher.
-pub(crate) fn set_watched(chunks: &mut [Chunk], at: Place, watched: Watched)
-    requires { IsSome (row_at chunks.old at.chunk at.row) }
-    ensures { ForSome (row_at chunks.old at.chunk at.row) (λ e. joined chunks.new ≡ before chunks.old at.chunk at.row ++ (e.0, watched) ∷ after chunks.old at.chunk (suc at.row)) }
+pub(crate) fn set_watched(chunks: &mut Vec<Chunk>, at: Place, watched: Watched)
+    requires { IsSome (row_at chunks.old.items at.chunk at.row) }
+    ensures { ForSome (row_at chunks.old.items at.chunk at.row) (λ e. joined chunks.new.items ≡ before chunks.old.items at.chunk at.row ++ (e.0, watched) ∷ after chunks.old.items at.chunk (suc at.row)) }
 {
     chunks[at.chunk].set_watched(at.row, watched);
 }
 
 /// The watcher of a place's row keeps a snapshot or nothing, and what it had kept is handed back.
-pub(crate) fn set_kept(chunks: &mut [Chunk], at: Place, kept: Option<Snap>) -> Option<Snap>
-    requires { IsSome (row_at chunks.old at.chunk at.row) }
-    ensures former { ForSome (row_at chunks.old at.chunk at.row) (λ e. result ≡ e.1.kept) }
-    ensures kept { ForSome (row_at chunks.old at.chunk at.row) (λ e. joined chunks.new ≡ before chunks.old at.chunk at.row ++ (e.0, record { watch = e.1.watch; kept = kept }) ∷ after chunks.old at.chunk (suc at.row)) }
+pub(crate) fn set_kept(chunks: &mut Vec<Chunk>, at: Place, kept: Option<Snap>) -> Option<Snap>
+    requires { IsSome (row_at chunks.old.items at.chunk at.row) }
+    ensures former { ForSome (row_at chunks.old.items at.chunk at.row) (λ e. result ≡ e.1.kept) }
+    ensures kept { ForSome (row_at chunks.old.items at.chunk at.row) (λ e. joined chunks.new.items ≡ before chunks.old.items at.chunk at.row ++ (e.0, record { watch = e.1.watch; kept = kept }) ∷ after chunks.old.items at.chunk (suc at.row)) }
 {
     chunks[at.chunk].set_kept(at.row, kept)
 }
@@ -42,6 +43,28 @@ pub(crate) fn take_row(chunks: &mut Vec<Chunk>, at: Place) -> (Key, Watched)
     } else {
         chunks.remove(at.chunk).into_only()
     }
+}
+
+/// Takes the row of a place out, and lets go of it.
+fn drop_row(chunks: &mut Vec<Chunk>, at: Place)
+    requires { IsSome (row_at chunks.old.items at.chunk at.row) }
+    ensures { joined chunks.new.items ≡ before chunks.old.items at.chunk at.row ++ after chunks.old.items at.chunk (suc at.row) }
+{
+    let _row = take_row(chunks, at);
+}
+
+/// Takes the rows under a path out, of so many rows. How many are left.
+pub(crate) fn drop_under(chunks: &mut Vec<Chunk>, count: u64, p: &Path) -> u64
+    requires { IsCounted count (joined chunks.old.items) }
+    ensures counted { IsCounted result (joined chunks.new.items) }
+    ensures rows { joined chunks.new.items ≡ filter (λ e. not (begins p.now e.0.path)) (joined chunks.old.items) }
+{
+    let mut left = count;
+    while let Some(at) = place_under(chunks, p) {
+        drop_row(chunks, at);
+        left -= 1;
+    }
+    left
 }
 
 /// Puts a row into the chunk of a place.
@@ -71,11 +94,7 @@ fn room_at_end(chunks: &[Chunk]) -> Option<Place>
 }
 
 /// Puts a row in after all others.
-fn put_last(
-    chunks: &mut Vec<Chunk>,
-    alloc: Global,
-    row: (Key, Watched),
-) -> Result<(), AllocError>
+fn put_last(chunks: &mut Vec<Chunk>, alloc: Global, row: (Key, Watched)) -> Result<(), AllocError>
     ensures ok { OnOk result (joined chunks.new.items ≡ joined chunks.old.items ++ row ∷ []) }
     ensures err { OnErr result (joined chunks.new.items ≡ joined chunks.old.items) }
 {
@@ -146,6 +165,6 @@ pub(crate) fn put_in(
         return put_at(chunks, alloc, at, row);
     }
     split(chunks, at.chunk)?;
-    let at = edge(chunks, &row.0);
+    let at = edge(chunks, &row.0.path, row.0.serial);
     put_at(chunks, alloc, at, row)
 }

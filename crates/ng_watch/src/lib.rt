@@ -18,7 +18,8 @@
 //! - each other call is the one change of the list that its name says.
 //!
 //! In reading order: `watch` has the types, `watchers` the list, `testing` and `bindings` the verdict, and `laws` what a
-//! reader may take from the definitions.
+//! reader may take from the definitions. Below `watchers`: `table` keeps its rows, in chunks of neighbours (`chunk`), in
+//! which `places` finds a key and `edits` changes a row.
 //!
 //! Not here: what a listener does (`ng_link`), the rounds of a digest (`ng_digest`), and which watcher a page needs.
 #![tactic(auto)]

@@ -1,13 +1,17 @@
 //! Places in the chunks of the watchers' table: what stands there, and where a key stands.
-ghost use Rattle.std.specs.Prelude.{◌≡◌, ◌+◌, ◌<◌, ◌≤◌, suc, Some, None, true, false, length, IfOk, IfErr, IsTrue, MatchOption, option_copied, option_map, slice_get};
+ghost use Rattle.std.specs.Prelude.{◌≡◌, ◌+◌, ◌<◌, ◌≤◌, suc, Some, None, true, false, length, IfOk, IfErr, IfSome, IsNone, not, option_copied, option_map, slice_get};
+ghost use Rattle.std.specs.List.{filter};
 ghost use Rattle.std.specs.List.Sorted.{IsStrictlySortedBy};
 ghost use Rattle.std.specs.Map.{keys_of};
-ghost use Rattle.ng_watch.specs.Chunks.{joined, before, after, front, chunk_at, row_at, has_key, has_below, is_passed, AllBelow, IsEdge, IsGap};
-ghost use Rattle.ng_watch.specs.Keys.{key_cmp};
+ghost use Rattle.std.specs.Option.{IsSomeAnd};
+ghost use Rattle.ng_watch.specs.Chunks.{joined, before, after, front, chunk_at, row_at, has_key, key_from, is_passed, AllBelow, IsEdge, IsGap};
+ghost use Rattle.ng_watch.specs.Keys.{begins, key_cmp};
 
 use crate::chunk::{Chunk, is_below};
+use crate::paths::begins;
 use crate::watched::Watched;
-use ng_base::path::Key;
+use ng_base::name::Serial;
+use ng_base::path::{Key, Path};
 
 /// A chunk, and a row of it.
 #[derive(Clone, Copy)]
@@ -93,24 +97,25 @@ pub(crate) fn is_at(chunks: &[Chunk], at: Place, key: &Key) -> bool
     }
 }
 
-/// Whether all rows of a chunk are below a key.
-fn is_passed(chunk: &Chunk, key: &Key) -> bool
-    ensures passed { result ≡ is_passed key.now chunk.now }
+/// Whether all rows of a chunk are below the key of a path and a number.
+fn is_passed(chunk: &Chunk, path: &Path, serial: Serial) -> bool
+    ensures passed { result ≡ is_passed (key_from path.now serial) chunk.now }
 {
-    is_below(chunk.last(), key)
+    is_below(chunk.last(), path, serial)
 }
 
-/// The first chunk that is not wholly below a key, or their number. A key above all is told by one comparison.
-fn chunk_for(chunks: &[Chunk], key: &Key) -> usize
+/// The first chunk that is not wholly below the key of a path and a number, or how many chunks there are. A key above
+/// all is told by one comparison.
+fn chunk_for(chunks: &[Chunk], path: &Path, serial: Serial) -> usize
     requires { IsStrictlySortedBy key_cmp (keys_of (joined chunks.now)) }
-    ensures lower { AllBelow key.now (front chunks.now result) }
-    ensures upper { is_passed key.now (chunk_at chunks.now result) ≡ false }
+    ensures lower { AllBelow (key_from path.now serial) (front chunks.now result) }
+    ensures upper { is_passed (key_from path.now serial) (chunk_at chunks.now result) ≡ false }
 {
     let mut low = 0;
     let mut high = chunks.len();
     let mut middle = high.saturating_sub(1);
     while low < high {
-        if is_passed(&chunks[middle], key) {
+        if is_passed(&chunks[middle], path, serial) {
             low = middle + 1;
         } else {
             high = middle;
@@ -120,18 +125,18 @@ fn chunk_for(chunks: &[Chunk], key: &Key) -> usize
     low
 }
 
-/// Where the rows that are not below a key begin.
-pub(crate) fn edge(chunks: &[Chunk], key: &Key) -> Place
+/// Where the rows that are not below the key of a path and a number begin.
+pub(crate) fn edge(chunks: &[Chunk], path: &Path, serial: Serial) -> Place
     requires { IsStrictlySortedBy key_cmp (keys_of (joined chunks.now)) }
-    ensures edge { IsEdge key.now chunks.now result.chunk result.row }
+    ensures edge { IsEdge (key_from path.now serial) chunks.now result.chunk result.row }
     ensures row { result.row ≤ length (chunk_at chunks.now result.chunk) }
 {
-    let at = chunk_for(chunks, key);
+    let at = chunk_for(chunks, path, serial);
     match chunks.get(at) {
         None => Place { chunk: at, row: 0 },
         Some(chunk) => Place {
             chunk: at,
-            row: chunk.below(key),
+            row: chunk.below(path, serial),
         },
     }
 }
@@ -146,6 +151,29 @@ pub(crate) fn find(chunks: &[Chunk], at: Place, key: &Key) -> Result<Place, Plac
     if is_at(chunks, at, key) {
         return Ok(at);
     }
-    let at = edge(chunks, key);
-    if is_at(chunks, at, key) { Ok(at) } else { Err(at) }
+    let at = edge(chunks, &key.path, key.serial);
+    if is_at(chunks, at, key) {
+        Ok(at)
+    } else {
+        Err(at)
+    }
+}
+
+/// The place of a row that is under a path, if there is one.
+pub(crate) fn place_under(chunks: &[Chunk], p: &Path) -> Option<Place>
+    requires { IsStrictlySortedBy key_cmp (keys_of (joined chunks.now)) }
+    ensures there { IfSome result (λ at. IsSomeAnd (row_at chunks.now at.chunk at.row) (λ e. begins p.now e.0.path ≡ true)) }
+    ensures none { IsNone result → filter (λ e. not (begins p.now e.0.path)) (joined chunks.now) ≡ joined chunks.now }
+{
+    let at = edge(chunks, p, Serial(0));
+    match row_at(chunks, at) {
+        None => None,
+        Some(row) => {
+            if begins(p.as_slice(), row.0.path.as_slice()) {
+                Some(at)
+            } else {
+                None
+            }
+        }
+    }
 }

@@ -1,6 +1,6 @@
 //! The rows of the watchers in key order, in chunks, so that a row comes and goes at the cost of its chunk, with the
 //! place where a walk stands, so that a walk finds its rows without a search.
-ghost use Rattle.std.specs.Prelude.{◌≡◌, [], Some, find, length, not, MatchOption, OnOk, OnErr, option_copied, option_map, slice_get};
+ghost use Rattle.std.specs.Prelude.{◌≡◌, [], Some, find, length, not, IfErr, MatchOption, OnOk, OnErr, option_copied, option_map, slice_get};
 ghost use Rattle.std.specs.BTreeMap.{insert_entry};
 ghost use Rattle.std.specs.List.{filter};
 ghost use Rattle.std.specs.List.Sorted.{IsStrictlySortedBy};
@@ -11,13 +11,13 @@ ghost use Rattle.ng_watch.specs.Chunks.{joined};
 ghost use Rattle.ng_watch.specs.Keys.{key_cmp, is_key, is_above, begins};
 
 use crate::chunk::Chunk;
-use crate::edits::{put_in, set_kept, set_watched, take_row};
+use crate::edits::{drop_under, put_in, set_kept, set_watched, take_row};
 use crate::places::{Place, edge, find, first_row, is_at, row_after, row_at, step};
 use crate::watched::Watched;
 use ng_base::fault::Memory;
-use ng_base::path::Key;
+use ng_base::path::{Key, Path};
 use ng_value::snapshot::Snap;
-use std::alloc::{AllocError, Global};
+use std::alloc::Global;
 use std::marker::Model;
 
 /// Rows in key order. Contracts see them as one list.
@@ -45,6 +45,14 @@ impl Model for RowTable {
     ghost view = { λ t. joined t.chunks.items };
 
     ghost invariant = { λ t. IsCounted t.count (joined t.chunks.items) };
+}
+
+/// The key of a row.
+fn key_of(row: Option<&(Key, Watched)>) -> Option<&Key>
+    ensures { option_copied result ≡ option_map (λ e. e.0) (option_copied row.entry) }
+{
+    let row = row?;
+    Some(&row.0)
 }
 
 impl RowTable {
@@ -88,11 +96,10 @@ impl RowTable {
     pub(crate) fn next_after(&self, key: &Key) -> Option<&Key>
         ensures { option_copied result ≡ option_map (λ e. e.0) (find (λ e. is_above key.now e.0) self.now) }
     {
-        let row = match find(&self.chunks, self.at, key) {
-            Ok(at) => row_after(&self.chunks, at),
-            Err(at) => row_at(&self.chunks, at),
-        }?;
-        Some(&row.0)
+        match find(&self.chunks, self.at, key) {
+            Ok(at) => key_of(row_after(&self.chunks, at)),
+            Err(at) => key_of(row_at(&self.chunks, at)),
+        }
     }
 
     /// The watcher of a key.
@@ -121,8 +128,9 @@ impl RowTable {
     pub(crate) fn insert(&mut self, key: Key, watched: Watched) -> Result<(), Memory>
         ensures ok { OnOk result (self.new ≡ insert_entry key_cmp self.old key watched) }
         ensures err { OnErr result (self.new ≡ self.old) }
+        ensures refused { IfErr result (λ e. e ≡ Memory.Refused) }
     {
-        let at = edge(&self.chunks, &key);
+        let at = edge(&self.chunks, &key.path, key.serial);
         if is_at(&self.chunks, at, &key) {
             set_watched(&mut self.chunks, at, watched);
             return Ok(());
@@ -150,11 +158,20 @@ impl RowTable {
         Some(take_row(&mut self.chunks, at))
     }
 
+    /// Takes the row of a key out. Its watcher is handed over.
+    pub(crate) fn remove(&mut self, key: &Key) -> Option<Watched>
+        ensures value { result ≡ lookup (is_key key.now) self.old }
+        ensures entries { self.new ≡ remove_entry (is_key key.now) self.old }
+    {
+        let (_, watched) = self.remove_entry(key)?;
+        Some(watched)
+    }
+
     /// Takes the rows of a path, and of those below it, out.
-    pub(crate) fn remove_under(&mut self, p: &[u32])
+    pub(crate) fn remove_under(&mut self, p: &Path)
         ensures { self.new ≡ filter (λ e. not (begins p.now e.0.path)) self.old }
     {
-        let _ = p;
+        self.count = drop_under(&mut self.chunks, self.count, p);
     }
 
     /// The watcher of a key keeps a snapshot or nothing. Where there is one, what it had kept is handed back.

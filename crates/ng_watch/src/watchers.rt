@@ -1,6 +1,6 @@
 //! The watchers of a page, by their keys.
 ghost use Rattle.std.specs.Prelude.{◌≡◌, ◌++◌, [], Some, None, IsSome, is_some, option_map, length, OnOk, OnErr, IfErr, IfOk, IfSome, option_copied, not, Bool};
-ghost use Rattle.std.specs.List.{All, filter};
+ghost use Rattle.std.specs.List.{All, AllByRecursion, filter};
 ghost use Rattle.ng_base.specs.declared.path.Key.{Key as Name};
 ghost use Rattle.ng_watch.specs.declared.watched.Watched.{Watched as Row};
 ghost use Rattle.std.specs.List.Sorted.{IsStrictlySortedBy};
@@ -105,7 +105,7 @@ fn add_over(
 
 /// The keys of the one-time watchers whose binding has ended.
 fn keys_over(alloc: Global, store: &Store, chunks: &[Chunk]) -> Result<Vec<Key>, Memory>
-    requires { All (λ e. WatchStands (length store.now) (watching_of e.1.watch)) (joined chunks.now) }
+    requires { AllByRecursion (λ e. WatchStands (length store.now) (watching_of e.1.watch)) (joined chunks.now) }
     ensures { IfOk result (λ ks. ks.items ≡ keys_of (filter (λ e. is_over store.now (watcher_of e.1)) (joined chunks.now))) }
 {
     let mut keys = Vec::new(alloc);
@@ -165,7 +165,7 @@ impl Watchers {
         ensures there { result ≡ is_some (found key.now (watchers_of self.old)) }
         ensures removed { watchers_of self.new ≡ without_watch key.now (watchers_of self.old) }
     {
-        self.table.remove_entry(key).is_some()
+        self.table.remove(key).is_some()
     }
 
     /// Takes a watcher out and hands it over.
@@ -173,15 +173,14 @@ impl Watchers {
         ensures taken { option_map watcher_of result ≡ found key.now (watchers_of self.old) }
         ensures removed { watchers_of self.new ≡ without_watch key.now (watchers_of self.old) }
     {
-        let (_, watched) = self.table.remove_entry(key)?;
-        Some(watched)
+        self.table.remove(key)
     }
 
     /// Takes the watches of a scope, and of those below it, out.
     pub fn remove_under(&mut self, p: &Path)
         ensures { watchers_of self.new ≡ without_under p.now (watchers_of self.old) }
     {
-        self.table.remove_under(p.as_slice());
+        self.table.remove_under(p);
     }
 
     /// Takes the watchers of a scope, and of those below it, out, and hands them over in key order.

@@ -1,4 +1,4 @@
-use Rattle.std.proofs.Common.{arith, subst, ◌≤◌, length}
+use Rattle.std.proofs.Common.{arith}
 use Rattle.ng_watch.proofs.Chunks.{row_within, taken_from_chunk, taken_with_chunk}
 use Rattle.ng_watch.proofs.edits.take_row.Goals as goal
 

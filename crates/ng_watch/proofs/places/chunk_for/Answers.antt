@@ -1,5 +1,5 @@
-use Rattle.std.proofs.Common.{◌≡◌, ◌<◌, ◌≤◌, ◌+◌, ◌-◌, ◌/◌, ℕ, true, false, length, arith, sym, subst, ◌∙◌}
-use Rattle.ng_watch.specs.Chunks.{AllBelow, chunk_at, front, is_passed}
+use Rattle.std.proofs.Common.{◌≡◌, ◌<◌, ◌+◌, ℕ, true, false, length, arith, sym, subst}
+use Rattle.ng_watch.specs.Chunks.{AllBelow, key_from, chunk_at, front, is_passed}
 use Rattle.ng_watch.proofs.Chunks.{front_zero, nothing_passed, passed_chunk, read_at}
 use Rattle.ng_watch.proofs.places.chunk_for.Goals.{then-is_passed, else-is_passed}
 use Rattle.ng_watch.proofs.places.chunk_for.Goals as goal
@@ -10,8 +10,8 @@ loop-low-init c = record {
   bounded = omega arith;
   from_low = λ h. omega arith;
   below_high = λ h. omega arith;
-  lower = subst (AllBelow c.args.key.now) (sym (front_zero c.args.chunks.now)) tt;
-  upper = nothing_passed c.args.key.now c.args.chunks.now (length c.args.chunks.now) (omega arith);
+  lower = subst (AllBelow (key_from c.args.path.now c.args.serial)) (sym (front_zero c.args.chunks.now)) tt;
+  upper = nothing_passed (key_from c.args.path.now c.args.serial) c.args.chunks.now (length c.args.chunks.now) (omega arith);
 }
 
 pub loop-low-preserved : goal.loop-low-preserved
@@ -23,25 +23,25 @@ loop-low-preserved c =
       | then-is_passed w ↦
           let low : c.if-is_passed.low ≡ m + 1 = w.low-is in
           let high : c.if-is_passed.high ≡ c.loop-low.high = w.high-is in
-          let t : is_passed c.args.key.now (chunk_at c.args.chunks.now m) ≡ true = cc (c.is_passed.ensures.passed, w.if-is_passed.true, same) in
+          let t : is_passed (key_from c.args.path.now c.args.serial) (chunk_at c.args.chunks.now m) ≡ true = cc (c.is_passed.ensures.passed, w.if-is_passed.true, same) in
           record {
             ordered = omega (arith, c.loop-low.invariant.below_high c.loop-low-test.true);
             bounded = omega (arith, c.loop-low.invariant.bounded);
             from_low = λ h. omega arith;
             below_high = λ h. omega arith;
-            lower = subst (λ (n : ℕ). AllBelow c.args.key.now (front c.args.chunks.now n)) (sym low) (passed_chunk c.args.key.now c.args.chunks.now m c.requires inside t);
-            upper = subst (λ (n : ℕ). is_passed c.args.key.now (chunk_at c.args.chunks.now n) ≡ false) (sym high) c.loop-low.invariant.upper;
+            lower = subst (λ (n : ℕ). AllBelow (key_from c.args.path.now c.args.serial) (front c.args.chunks.now n)) (sym low) (passed_chunk (key_from c.args.path.now c.args.serial) c.args.chunks.now m c.requires inside t);
+            upper = subst (λ (n : ℕ). is_passed (key_from c.args.path.now c.args.serial) (chunk_at c.args.chunks.now n) ≡ false) (sym high) c.loop-low.invariant.upper;
           }
       | else-is_passed w ↦
           let low : c.if-is_passed.low ≡ c.loop-low.low = w.low-is in
           let high : c.if-is_passed.high ≡ m = w.high-is in
-          let f : is_passed c.args.key.now (chunk_at c.args.chunks.now m) ≡ false = cc (c.is_passed.ensures.passed, w.if-is_passed.false, same) in
+          let f : is_passed (key_from c.args.path.now c.args.serial) (chunk_at c.args.chunks.now m) ≡ false = cc (c.is_passed.ensures.passed, w.if-is_passed.false, same) in
           record {
             ordered = omega (arith, c.loop-low.invariant.from_low c.loop-low-test.true);
             bounded = omega (arith, inside);
             from_low = λ h. omega arith;
             below_high = λ h. omega arith;
-            lower = subst (λ (n : ℕ). AllBelow c.args.key.now (front c.args.chunks.now n)) (sym low) c.loop-low.invariant.lower;
-            upper = subst (λ (n : ℕ). is_passed c.args.key.now (chunk_at c.args.chunks.now n) ≡ false) (sym high) f;
+            lower = subst (λ (n : ℕ). AllBelow (key_from c.args.path.now c.args.serial) (front c.args.chunks.now n)) (sym low) c.loop-low.invariant.lower;
+            upper = subst (λ (n : ℕ). is_passed (key_from c.args.path.now c.args.serial) (chunk_at c.args.chunks.now n) ≡ false) (sym high) f;
           }
     ]

@@ -1,5 +1,5 @@
 use Rattle.std.proofs.Common.{◌≡◌, ◌<◌, ◌≤◌, ◌-◌, false, length}
-use Rattle.ng_watch.specs.Chunks.{front, chunk_at, is_passed, AllBelow}
+use Rattle.ng_watch.specs.Chunks.{front, chunk_at, key_from, is_passed, AllBelow}
 use Rattle.ng_watch.proofs.places.chunk_for.Given as goal
 
 abbrev pub invariant-loop-low : goal.invariant-loop-low
@@ -8,8 +8,8 @@ invariant-loop-low l = record {
   bounded : l.high ≤ length l.chunks;
   from_low : l.low < l.high → l.low ≤ l.middle;
   below_high : l.low < l.high → l.middle < l.high;
-  lower : AllBelow l.key (front l.chunks l.low);
-  upper : is_passed l.key (chunk_at l.chunks l.high) ≡ false;
+  lower : AllBelow (key_from l.path l.serial) (front l.chunks l.low);
+  upper : is_passed (key_from l.path l.serial) (chunk_at l.chunks l.high) ≡ false;
 }
 
 abbrev pub decreases-loop-low : goal.decreases-loop-low
