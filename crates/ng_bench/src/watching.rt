@@ -77,11 +77,12 @@ fn verdict(alloc: Global, store: &Store, watchers: &Watchers, key: &Key) -> Opti
     }
 }
 
-/// Keeps what the tests of so many watchers hand on; how many were dirty.
+/// Keeps what the tests of so many watchers hand on; how many were dirty. The walk is that of a digest.
 fn settled(alloc: Global, store: &Store, watchers: &mut Watchers, size: u64) -> Option<u64> {
     let mut at = copied(watchers.first()?)?;
     let mut count: u64 = 0;
     for _ in 0..size {
+        watchers.seek(&at);
         if let Verdict::Dirty(snap) = verdict(alloc, store, watchers, &at)? {
             let _former = watchers.keep(&at, snap);
             count = count.saturating_add(1);
@@ -94,18 +95,19 @@ fn settled(alloc: Global, store: &Store, watchers: &mut Watchers, size: u64) -> 
     Some(count)
 }
 
-/// How many of so many watchers are clean, one after another.
-fn clean(alloc: Global, store: &Store, watchers: &Watchers, size: u64) -> Option<u64> {
-    let mut at = watchers.first()?;
+/// How many of so many watchers are clean, one after another. The walk is that of a digest.
+fn clean(alloc: Global, store: &Store, watchers: &mut Watchers, size: u64) -> Option<u64> {
+    let mut at = copied(watchers.first()?)?;
     let mut count: u64 = 0;
     for _ in 0..size {
-        if let Verdict::Clean = verdict(alloc, store, watchers, at)? {
+        watchers.seek(&at);
+        if let Verdict::Clean = verdict(alloc, store, watchers, &at)? {
             count = count.saturating_add(1);
         }
-        let Some(next) = watchers.next_after(at) else {
+        let Some(next) = watchers.next_after(&at) else {
             return Some(count);
         };
-        at = next;
+        at = copied(next)?;
     }
     Some(count)
 }
@@ -119,5 +121,5 @@ pub(crate) fn tested(alloc: Global, size: u64) -> Option<u64> {
     };
     let mut watchers = watched(alloc, scope, size)?;
     let _dirty = settled(alloc, &store, &mut watchers, size)?;
-    clean(alloc, &store, &watchers, size)
+    clean(alloc, &store, &mut watchers, size)
 }

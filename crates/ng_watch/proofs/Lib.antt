@@ -1,5 +1,9 @@
 pub mod Judging
 pub mod Literals
+pub mod Rows
+pub mod Chunks
+pub mod AtPlaces
 pub mod Tables
 pub mod Taking
+pub mod Under
 pub mod Words

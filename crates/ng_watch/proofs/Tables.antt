@@ -1,11 +1,9 @@
 -- A table of watches and what contracts see of it change alike.
 use Rattle.std.proofs.Common.{◌≡◌, ℕ, Bool, true, false, cond, Bor, List, [], ◌∷◌, Option, Some, None, refl, ap, sym, ◌∙◌, map}
-use Rattle.std.specs.Prelude.{IsSome, is_some, IfSome, not, ◌&&◌, option_copied, find, option_map, slice_get}
+use Rattle.std.specs.Prelude.{IsSome, is_some, IfSome, MatchOption, not, option_copied, find, option_map, slice_get}
 use Rattle.std.specs.List.{filter}
 use Rattle.std.specs.Map.{lookup, remove_entry, set_value, keys_of}
 use Rattle.std.specs.BTreeMap.{insert_entry}
-use Rattle.std.specs.BTreeMap.Range.{entries_between}
-use Rattle.std.specs.declared.ops.Bound.TheVariants.{Excluded, Unbounded}
 use Rattle.std.specs.List.Sorted.{IsStrictlySortedBy}
 use Rattle.std.specs.Ordering.{is_eq, match_ordering}
 use Rattle.std.specs.declared.cmp.Ordering.{Ordering}
@@ -66,12 +64,11 @@ pub keys-seen : (es : Rows) → keys_of (map entry_of es) ≡ keys_of es
 keys-seen [] = refl
 keys-seen (e ∷ es) = ap (λ ks. e.0 ∷ ks) (keys-seen es)
 
--- the first of a part is the first that passes
-pub find-filter : (p : Key → Bool) (es : Rows) → option_map (λ e. e.0) (find (λ e. p e.0) (map entry_of es)) ≡ option_map (λ e. e.0) (slice_get (filter (λ e. p e.0) es) 0)
-find-filter p [] = refl
-find-filter p (e ∷ es) = by_test (p e.0) (find-filter p es)
+find-seen : (p : Key → Bool) (es : Rows) → option_map {T = Key × Watcher} {U = Key} (λ e. e.0) (find (λ e. p e.0) (map entry_of es)) ≡ option_map {T = Key × Watched} {U = Key} (λ e. e.0) (find (λ e. p e.0) es)
+find-seen p [] = refl
+find-seen p (e ∷ es) = by_test (p e.0) (find-seen p es)
   where
-    by_test : (b : Bool) → option_map (λ e. e.0) (find (λ e. p e.0) (map entry_of es)) ≡ option_map (λ e. e.0) (slice_get (filter (λ e. p e.0) es) 0) → option_map {T = Key × Watcher} {U = Key} (λ e. e.0) (cond b (Some (entry_of e)) (find (λ e. p e.0) (map entry_of es))) ≡ option_map {T = Key × Watched} {U = Key} (λ e. e.0) (slice_get (cond b (e ∷ filter (λ e. p e.0) es) (filter (λ e. p e.0) es)) 0)
+    by_test : (b : Bool) → option_map {T = Key × Watcher} {U = Key} (λ e. e.0) (find (λ e. p e.0) (map entry_of es)) ≡ option_map {T = Key × Watched} {U = Key} (λ e. e.0) (find (λ e. p e.0) es) → option_map {T = Key × Watcher} {U = Key} (λ e. e.0) (cond b (Some (entry_of e)) (find (λ e. p e.0) (map entry_of es))) ≡ option_map {T = Key × Watched} {U = Key} (λ e. e.0) (cond b (Some e) (find (λ e. p e.0) es))
     by_test true h = refl
     by_test false h = h
 
@@ -111,20 +108,28 @@ there k es t o l s = ap (found k) (sym s) ∙ lookup-seen (is_key k) es ∙ ap (
 pub ordered_keys : (es : Rows) (t : Table) → IsStrictlySortedBy key_cmp (keys_of es) → map entry_of es ≡ t → IsStrictlySortedBy key_cmp (keys_of t)
 ordered_keys es t o s = rw (← s, keys-seen) o
 
-pub rewritten : (k : Key) (v : Option Snap) (w : Watched) (es new : Rows) (t : Table) → Some w ≡ lookup (is_key k) es → new ≡ set_value (is_key k) es (record { watch = w.watch; kept = v }) → map entry_of es ≡ t → map entry_of new ≡ with_kept k (option_map snap_of v) t
-rewritten k v w es new t l n s = ap (map entry_of) n ∙ set-seen k v w es (sym l) ∙ ap (with_kept k (option_map snap_of v)) s
-
-pub after_key : (k : Key) (es part : Rows) (t : Table) → part ≡ entries_between key_cmp (Excluded k) Unbounded es → map entry_of es ≡ t → key_after k t ≡ option_map (λ e. e.0) (slice_get part 0)
-after_key k es part t n s = ap (key_after k) (sym s) ∙ find-filter (is_above k) es ∙ ap (λ (xs : Rows). option_map (λ e. e.0) (slice_get xs 0)) (sym (n ∙ upto_end k es))
+-- the watcher of a key keeps something else, where there is one
+pub kept_written : (k : Key) (v : Option Snap) (es new : Rows) (t : Table) → MatchOption (lookup (is_key k) es) (new ≡ es) (λ w. new ≡ set_value (is_key k) es (record { watch = w.watch; kept = v })) → map entry_of es ≡ t → map entry_of new ≡ with_kept k (option_map snap_of v) t
+kept_written k v es new t m s = by_row (lookup (is_key k) es) refl m
   where
-    -- there is no end
-    upto_end : (k : Key) (es : Rows) → entries_between key_cmp (Excluded k) Unbounded es ≡ filter (λ e. is_above k e.0) es
-    upto_end k [] = refl
-    upto_end k (e ∷ es) = by_test (is_above k e.0) (upto_end k es)
-      where
-        by_test : (b : Bool) → entries_between key_cmp (Excluded k) Unbounded es ≡ filter (λ e. is_above k e.0) es → cond (b && not false) (e ∷ entries_between key_cmp (Excluded k) Unbounded es) (entries_between key_cmp (Excluded k) Unbounded es) ≡ cond b (e ∷ filter (λ e. is_above k e.0) es) (filter (λ e. is_above k e.0) es)
-        by_test true h = ap (λ xs. e ∷ xs) h
-        by_test false h = h
+    by_row : (o : Option Watched) → lookup (is_key k) es ≡ o → MatchOption o (new ≡ es) (λ w. new ≡ set_value (is_key k) es (record { watch = w.watch; kept = v })) → map entry_of new ≡ with_kept k (option_map snap_of v) t
+    by_row None l n = ap (map entry_of) n ∙ sym (unset-none k (option_map snap_of v) es l) ∙ ap (with_kept k (option_map snap_of v)) s
+    by_row (Some w) l n = ap (map entry_of) n ∙ set-seen k v w es l ∙ ap (with_kept k (option_map snap_of v)) s
+
+pub key_first : (es : Rows) (t : Table) → map entry_of es ≡ t → option_map {T = Key × Watched} {U = Key} (λ e. e.0) (slice_get es 0) ≡ first_key t
+key_first es t s = sym (first-seen es) ∙ ap first_key s
+
+pub key_next : (k : Key) (es : Rows) (t : Table) → map entry_of es ≡ t → option_map {T = Key × Watched} {U = Key} (λ e. e.0) (find (λ e. is_above k e.0) es) ≡ key_after k t
+key_next k es t s = sym (find-seen (is_above k) es) ∙ ap (key_after k) s
+
+pub none_kept : (r : Option Watched) → None ≡ option_map {T = Watched} {U = Option Snap} (λ w. w.kept) r → r ≡ None
+none_kept None h = refl
+none_kept (Some w) h = absurd (cc)
+
+-- what is handed back is what was kept
+pub former-seen : (r : Option Watched) (former : Option Snap) → Some former ≡ option_map (λ w. w.kept) r → option_map {T = Watcher} {U = Option ViewTree} (λ w. w.kept) (option_map watcher_of r) ≡ Some (option_map snap_of former)
+former-seen None former h = absurd (cc)
+former-seen (Some w) former h = let same : former ≡ w.kept = cc in ap (λ (o : Option Snap). Some (option_map snap_of o)) (sym same)
 
 -- a watch that is there is found
 pub never_none : {X Y : Type 0} (f : X → Y) (o : Option Y) (r : Option X) → IsSome o → o ≡ option_map f r → r ≡ None → ⊥

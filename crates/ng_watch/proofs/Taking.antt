@@ -1,5 +1,5 @@
 -- Rows are taken out by their keys, one after another.
-use Rattle.std.proofs.Common.{◌≡◌, ℕ, Bool, true, false, cond, List, [], ◌∷◌, ◌++◌, Option, Some, None, refl, ap, sym, subst, ◌∙◌, map, append_assoc, append-nil}
+use Rattle.std.proofs.Common.{◌≡◌, ◌<◌, ◌+◌, ℕ, suc, zero, length, drop, get_or, arith, Bool, true, false, cond, List, [], ◌∷◌, ◌++◌, Option, Some, None, refl, ap, sym, subst, ◌∙◌, map, append_assoc, append-nil}
 use Rattle.std.specs.Prelude.{not, option_map}
 use Rattle.std.specs.List.{filter, AllByRecursion, All}
 use Rattle.std.specs.List.Sorted.{IsStrictlySortedBy}
@@ -8,13 +8,15 @@ use Rattle.std.specs.Option.{option_to_list}
 use Rattle.std.specs.Ordering.{is_eq, ordering_reverse}
 use Rattle.std.specs.declared.cmp.Ordering.TheVariants.{Less}
 use Rattle.std.proofs.lemmas.Cmp.{tied_itself}
-use Rattle.std.proofs.lemmas.List.Elements.{All-weaker}
 use Rattle.std.proofs.lemmas.Map.Keys.{sorted_head, sorted_tail}
 use Rattle.ng_base.specs.declared.path.Key.{Key}
 use Rattle.ng_watch.specs.Keys.{key_cmp, key_cmp_total, is_key}
 use Rattle.ng_watch.specs.Seen.{Watcher, watcher_of, watching_of, WatchStands}
 use Rattle.ng_watch.specs.Table.{Table, entry_of, AllStand}
 use Rattle.ng_watch.specs.declared.watched.Watched.{Watched}
+use Rattle.ng_watch.specs.Chunks.{joined, chunk_at, front, back}
+use Rattle.ng_watch.proofs.Chunks.{read_at, whole}
+use Rattle.ng_watch.proofs.Rows.{lookup_hit}
 use Rattle.ng_watch.proofs.Tables.{lookup-seen}
 
 abbrev pub Rows : Type 0
@@ -90,21 +92,48 @@ has_taken_all passes rows first now h =
     (sym (append-nil rows) ∙ ap (λ xs. rows ++ xs) (sym none.0) ∙ h.taken, sym none.1 ∙ h.left)
 
 -- where all watchers stand, each row's does
-pub rows_stand : (count : ℕ) (es : Rows) → All (λ e. lookup (is_key e.0) es ≡ Some e.1) es → AllStand count (map entry_of es) → All (λ e. WatchStands count (watching_of e.1.watch)) es
-rows_stand count es f s = All-weaker (λ e. lookup (is_key e.0) es ≡ Some e.1) (λ e. WatchStands count (watching_of e.1.watch)) (λ e h. s e.0 (watcher_of e.1) (lookup-seen (is_key e.0) es ∙ ap (option_map watcher_of) h)) es f
+pub all_stand : (count : ℕ) (es : Rows) → IsStrictlySortedBy key_cmp (keys_of es) → AllStand count (map entry_of es) → AllByRecursion (λ e. WatchStands count (watching_of e.1.watch)) es
+all_stand count es o s = from [] es o s
+  where
+    from : (es fs : Rows) → IsStrictlySortedBy key_cmp (keys_of (es ++ fs)) → AllStand count (map entry_of (es ++ fs)) → AllByRecursion (λ e. WatchStands count (watching_of e.1.watch)) fs
+    from es [] o s = tt
+    from es (e ∷ fs) o s =
+        let all : (es ++ e ∷ []) ++ fs ≡ es ++ e ∷ fs = append_assoc es (e ∷ []) fs in
+        let hit : is_key e.0 e.0 ≡ true = ap is_eq (tied_itself key_cmp_total e.0) in (
+          s e.0 (watcher_of e.1) (lookup-seen (is_key e.0) (es ++ e ∷ fs) ∙ ap (option_map watcher_of) (lookup_hit e.0 es fs e o hit)),
+          from (es ++ e ∷ []) fs (subst (λ (xs : Rows). IsStrictlySortedBy key_cmp (keys_of xs)) (sym all) o) (subst (λ (xs : Rows). AllStand count (map entry_of xs)) (sym all) s),
+        )
+
+all_get : (P : Key × Watched → Type 0) (es : Rows) → AllByRecursion P es → All P es
+all_get P [] a k d l = absurd (omega arith)
+all_get P (e ∷ es) a zero d l = a.0
+all_get P (e ∷ es) a (suc k) d l = all_get P es a.1 k d (omega arith)
+
+all_first : (P : Key × Watched → Type 0) (es fs : Rows) → AllByRecursion P (es ++ fs) → AllByRecursion P es
+all_first P [] fs a = tt
+all_first P (e ∷ es) fs a = (a.0, all_first P es fs a.1)
+
+all_second : (P : Key × Watched → Type 0) (es fs : Rows) → AllByRecursion P (es ++ fs) → AllByRecursion P fs
+all_second P [] fs a = a
+all_second P (e ∷ es) fs a = all_second P es fs a.1
+
+-- what holds of all rows holds of a chunk's
+pub all_chunk : (P : Key × Watched → Type 0) (cs : List Rows) (i : ℕ) (r : Rows) → AllByRecursion P (joined cs) → i < length cs → r ≡ get_or cs i r → All P r
+all_chunk P cs i r a l is = all_get P r (subst (AllByRecursion P) (sym (read_at cs i r l is)) (all_first P (chunk_at cs i) (back cs i) (all_second P (front cs i) (chunk_at cs i ++ back cs i) (subst (AllByRecursion P) (whole cs i) a))))
 
 -- The keys of the rows that pass, found one after another.
 
-pub key_more : (passes : Key × Watched → Bool) (ks more : List Key) (k : Key) (e : Key × Watched) (ahead rest all : Rows) → ks ++ keys_of (filter passes ahead) ≡ keys_of (filter passes all) → ahead ≡ e ∷ rest → passes e ≡ true → k ≡ e.0 → more ≡ ks ++ k ∷ [] → more ++ keys_of (filter passes rest) ≡ keys_of (filter passes all)
-key_more passes ks more k e ahead rest all h i t s n =
-    let g : ks ++ (e.0 ∷ keys_of (filter passes rest)) ≡ keys_of (filter passes all) = rw (i, t) at h in
-    rw (n, s) (append_assoc ks (e.0 ∷ []) (keys_of (filter passes rest)) ∙ g)
+keys_append : (passes : Key × Watched → Bool) (es fs : Rows) → keys_of (filter passes (es ++ fs)) ≡ keys_of (filter passes es) ++ keys_of (filter passes fs)
+keys_append passes [] fs = refl
+keys_append passes (e ∷ es) fs = by_test (passes e) (keys_append passes es fs)
+  where
+    by_test : (b : Bool) → keys_of (filter passes (es ++ fs)) ≡ keys_of (filter passes es) ++ keys_of (filter passes fs) → keys_of (cond b (e ∷ filter passes (es ++ fs)) (filter passes (es ++ fs))) ≡ keys_of (cond b (e ∷ filter passes es) (filter passes es)) ++ keys_of (filter passes fs)
+    by_test true h = ap (λ ks. e.0 ∷ ks) h
+    by_test false h = h
 
-pub key_less : (passes : Key × Watched → Bool) (ks : List Key) (e : Key × Watched) (ahead rest all : Rows) → ks ++ keys_of (filter passes ahead) ≡ keys_of (filter passes all) → ahead ≡ e ∷ rest → passes e ≡ false → ks ++ keys_of (filter passes rest) ≡ keys_of (filter passes all)
-key_less passes ks e ahead rest all h i t = rw (i, t) at h
-
-pub keys_begun : (passes : Key × Watched → Bool) (ks : List Key) (ahead all : Rows) → ks ≡ [] → ahead ≡ all → ks ++ keys_of (filter passes ahead) ≡ keys_of (filter passes all)
-keys_begun passes ks ahead all n i = rw (n, i) refl
+-- one chunk more
+pub chunk_more : (passes : Key × Watched → Bool) (ks more : List Key) (c : Rows) (cs : List Rows) (i : ℕ) → keys_of (filter passes (joined cs)) ≡ ks ++ keys_of (filter passes (joined (drop i cs))) → drop i cs ≡ c ∷ drop (i + 1) cs → more ≡ ks ++ keys_of (filter passes c) → keys_of (filter passes (joined cs)) ≡ more ++ keys_of (filter passes (joined (drop (i + 1) cs)))
+chunk_more passes ks more c cs i h d n = h ∙ ap (λ (ds : List Rows). ks ++ keys_of (filter passes (joined ds))) d ∙ ap (λ (xs : List Key). ks ++ xs) (keys_append passes c (joined (drop (i + 1) cs))) ∙ sym (append_assoc ks (keys_of (filter passes c)) (keys_of (filter passes (joined (drop (i + 1) cs))))) ∙ ap (λ (xs : List Key). xs ++ keys_of (filter passes (joined (drop (i + 1) cs)))) (sym n)
 
 -- What contracts see of the rows that pass.
 

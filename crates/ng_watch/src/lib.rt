@@ -18,14 +18,20 @@
 //! - each other call is the one change of the list that its name says.
 //!
 //! In reading order: `watch` has the types, `watchers` the list, `testing` and `bindings` the verdict, and `laws` what a
-//! reader may take from the definitions.
+//! reader may take from the definitions. Below `watchers`: `table` keeps its rows, in chunks of neighbours (`chunk`), in
+//! which `places` finds a key and `edits` changes a row.
 //!
 //! Not here: what a listener does (`ng_link`), the rounds of a digest (`ng_digest`), and which watcher a page needs.
 #![tactic(auto)]
 
 mod bindings;
+mod chunk;
+mod edits;
 mod ended;
 pub mod laws;
+mod paths;
+mod places;
+mod table;
 mod testing;
 pub mod watch;
 pub mod watched;

@@ -1,6 +1,6 @@
 //! The watchers of a page, by their keys.
-ghost use Rattle.std.specs.Prelude.{◌≡◌, [], Some, None, IsSome, is_some, option_map, length, OnOk, OnErr, IfErr, IfOk, IfSome, option_copied, not, Bool};
-ghost use Rattle.std.specs.List.{filter};
+ghost use Rattle.std.specs.Prelude.{◌≡◌, ◌++◌, [], Some, None, IsSome, is_some, option_map, length, OnOk, OnErr, IfErr, IfOk, IfSome, option_copied, not, Bool};
+ghost use Rattle.std.specs.List.{All, AllByRecursion, filter};
 ghost use Rattle.ng_base.specs.declared.path.Key.{Key as Name};
 ghost use Rattle.ng_watch.specs.declared.watched.Watched.{Watched as Row};
 ghost use Rattle.std.specs.List.Sorted.{IsStrictlySortedBy};
@@ -9,29 +9,31 @@ ghost use Rattle.std.specs.Option.{ForSome};
 ghost use Rattle.ng_base.specs.Faults.{is_memory};
 ghost use Rattle.ng_base.specs.Meets.{Gives};
 ghost use Rattle.ng_value.specs.Snaps.{snap_of};
+ghost use Rattle.ng_watch.specs.Chunks.{joined};
 ghost use Rattle.ng_watch.specs.Keys.{key_cmp, begins};
 ghost use Rattle.ng_watch.specs.Ended.{is_over, over, without_over};
 ghost use Rattle.ng_watch.specs.Seen.{watching_of, watcher_of, WatchStands};
 ghost use Rattle.ng_watch.specs.Table.{watchers_of, found, kept_at, with_watch, without_watch, under, without_under, first_key, key_after, with_kept, AllStand};
 ghost use Rattle.ng_watch.specs.Verdicts.{judged_of, verdict};
 
+use crate::chunk::Chunk;
 use crate::ended::is_over;
+use crate::paths::begins;
+use crate::table::RowTable;
 use crate::testing::verdict;
 use crate::watch::{Verdict, Watch};
-use crate::watched::{Watched, forget};
+use crate::watched::Watched;
 use ng_base::fault::{Fault, Memory};
 use ng_base::path::{Key, Path};
 use ng_store::store::Store;
 use ng_value::snapshot::Snap;
 use std::alloc::{AllocError, Global};
-use std::collections::BTreeMap;
 use std::marker::Model;
-use std::ops::Bound;
 
 /// The watchers of a page. Contracts see a list of keys with their watchers, in key order.
 #[derive(Drop)]
 pub struct Watchers {
-    table: BTreeMap<Key, Watched>,
+    table: RowTable,
 }
 
 impl Model for Watchers {
@@ -46,37 +48,7 @@ impl Model for Watchers {
 
     ghost coded = { Prim.hlevel (codes, key.the_row.coded, watched.the_row.coded) };
 
-    ghost view = { λ w. w.table.entries };
-}
-
-/// Whether a path begins with another.
-fn begins(u: &[u32], p: &[u32]) -> bool
-    ensures { result ≡ begins u.now p.now }
-{
-    match u.split_first() {
-        None => true,
-        Some((x, xs)) => match p.split_first() {
-            None => false,
-            Some((y, ys)) => *x == *y && begins(xs, ys),
-        },
-    }
-}
-
-/// The least key.
-fn least(table: &BTreeMap<Key, Watched>) -> Option<&Key>
-    ensures { option_copied result ≡ first_key (watchers_of table.now.entries) }
-{
-    let (key, _) = table.iter().next()?;
-    Some(key)
-}
-
-/// The least key above one.
-fn least_above<'a>(table: &'a BTreeMap<Key, Watched>, key: &Key) -> Option<&'a Key>
-    ensures { option_copied result ≡ key_after key.now (watchers_of table.now.entries) }
-{
-    let start = Bound::Excluded(key);
-    let (next, _) = table.range((start, Bound::Unbounded)).next()?;
-    Some(next)
+    ghost view = { λ w. w.table };
 }
 
 /// A copy of a key.
@@ -90,39 +62,55 @@ fn copied(key: &Key) -> Result<Key, AllocError>
     })
 }
 
-/// The keys of a scope and of those below it.
-fn keys_under(
-    alloc: Global,
-    table: &BTreeMap<Key, Watched>,
-    p: &Path,
-) -> Result<Vec<Key>, AllocError>
-    ensures keys { IfOk result (λ ks. ks.items ≡ keys_of (filter (λ e. begins p.now e.0.path) table.now.entries)) }
-    ensures ordered { OnOk result (IsStrictlySortedBy key_cmp (keys_of table.now.entries)) }
+/// Adds the keys of those of some rows that are under a path.
+fn add_under(keys: &mut Vec<Key>, rows: &[(Key, Watched)], p: &Path) -> Result<(), AllocError>
+    ensures { OnOk result (keys.new.items ≡ keys.old.items ++ keys_of (filter (λ e. begins p.now e.0.path) rows.now)) }
 {
-    let mut keys = Vec::new(alloc);
-    for (key, _) in table.iter() {
+    for (key, _) in rows {
         if begins(p.as_slice(), key.path.as_slice()) {
             keys.push(copied(key)?)?;
         }
     }
+    Ok(())
+}
+
+/// The keys of a scope and of those below it.
+fn keys_under(alloc: Global, chunks: &[Chunk], p: &Path) -> Result<Vec<Key>, AllocError>
+    ensures { IfOk result (λ ks. ks.items ≡ keys_of (filter (λ e. begins p.now e.0.path) (joined chunks.now))) }
+{
+    let mut keys = Vec::new(alloc);
+    for chunk in chunks {
+        add_under(&mut keys, chunk.rows(), p)?;
+    }
     Ok(keys)
 }
 
-/// The keys of the one-time watchers whose binding has ended.
-fn keys_over(
+/// Adds the keys of the one-time watchers of some rows whose binding has ended.
+fn add_over(
     alloc: Global,
+    keys: &mut Vec<Key>,
     store: &Store,
-    table: &BTreeMap<Key, Watched>,
-) -> Result<Vec<Key>, Memory>
-    requires { AllStand (length store.now) (watchers_of table.now.entries) }
-    ensures keys { IfOk result (λ ks. ks.items ≡ keys_of (filter (λ e. is_over store.now (watcher_of e.1)) table.now.entries)) }
-    ensures ordered { OnOk result (IsStrictlySortedBy key_cmp (keys_of table.now.entries)) }
+    rows: &[(Key, Watched)],
+) -> Result<(), Memory>
+    requires { All (λ e. WatchStands (length store.now) (watching_of e.1.watch)) rows.now }
+    ensures { OnOk result (keys.new.items ≡ keys.old.items ++ keys_of (filter (λ e. is_over store.now (watcher_of e.1)) rows.now)) }
 {
-    let mut keys = Vec::new(alloc);
-    for (key, watched) in table.iter() {
+    for (key, watched) in rows {
         if is_over(alloc, store, watched)? {
             keys.push(copied(key)?)?;
         }
+    }
+    Ok(())
+}
+
+/// The keys of the one-time watchers whose binding has ended.
+fn keys_over(alloc: Global, store: &Store, chunks: &[Chunk]) -> Result<Vec<Key>, Memory>
+    requires { AllByRecursion (λ e. WatchStands (length store.now) (watching_of e.1.watch)) (joined chunks.now) }
+    ensures { IfOk result (λ ks. ks.items ≡ keys_of (filter (λ e. is_over store.now (watcher_of e.1)) (joined chunks.now))) }
+{
+    let mut keys = Vec::new(alloc);
+    for chunk in chunks {
+        add_over(alloc, &mut keys, store, chunk.rows())?;
     }
     Ok(keys)
 }
@@ -130,12 +118,12 @@ fn keys_over(
 /// Takes the rows of some keys out, and hands them over in order. The keys are those of the rows that pass a test.
 fn taken_out(
     alloc: Global,
-    table: &mut BTreeMap<Key, Watched>,
+    table: &mut RowTable,
     keys: &[Key],
 ) -> Result<Vec<(Key, Watched)>, AllocError>
-    requires { IsStrictlySortedBy key_cmp (keys_of table.old.entries) }
-    ensures taken { IfOk result (λ rows. (passes : Name × Row → Bool) → keys.now ≡ keys_of (filter passes table.old.entries) → (rows.items ≡ filter passes table.old.entries) × (table.new.entries ≡ filter (λ e. not (passes e)) table.old.entries)) }
-    ensures unchanged { OnErr result (table.new.entries ≡ table.old.entries) }
+    requires { IsStrictlySortedBy key_cmp (keys_of table.old) }
+    ensures taken { IfOk result (λ rows. (passes : Name × Row → Bool) → keys.now ≡ keys_of (filter passes table.old) → (rows.items ≡ filter passes table.old) × (table.new ≡ filter (λ e. not (passes e)) table.old)) }
+    ensures unchanged { OnErr result (table.new ≡ table.old) }
 {
     let mut rows = Vec::with_capacity(alloc, keys.len())?;
     for key in keys {
@@ -152,7 +140,7 @@ impl Watchers {
         ensures { result ≡ [] }
     {
         Watchers {
-            table: BTreeMap::new(alloc),
+            table: RowTable::new(alloc),
         }
     }
 
@@ -192,8 +180,7 @@ impl Watchers {
     pub fn remove_under(&mut self, p: &Path)
         ensures { watchers_of self.new ≡ without_under p.now (watchers_of self.old) }
     {
-        self.table
-            .retain(|key, _| !begins(p.as_slice(), key.path.as_slice()));
+        self.table.remove_under(p);
     }
 
     /// Takes the watchers of a scope, and of those below it, out, and hands them over in key order.
@@ -203,7 +190,7 @@ impl Watchers {
         ensures unchanged { OnErr result (watchers_of self.new ≡ watchers_of self.old) }
         ensures refused { IfErr result (λ e. e ≡ Memory.Refused) }
     {
-        let keys = keys_under(alloc, &self.table, p)?;
+        let keys = keys_under(alloc, self.table.chunks(), p)?;
         let rows = taken_out(alloc, &mut self.table, &keys)?;
         Ok(rows)
     }
@@ -215,22 +202,24 @@ impl Watchers {
         ensures removed { OnOk result (watchers_of self.new ≡ without_over store.now (watchers_of self.old)) }
         ensures unchanged { OnErr result (watchers_of self.new ≡ watchers_of self.old) }
     {
-        let keys = keys_over(alloc, store, &self.table)?;
+        let keys = keys_over(alloc, store, self.table.chunks())?;
         let rows = taken_out(alloc, &mut self.table, &keys)?;
         Ok(rows)
     }
 
     /// Says where a walk stands: calls at this key, or right after it, find it without a search.
-    pub fn seek(&mut self, _key: &Key)
+    pub fn seek(&mut self, key: &Key)
         ensures unchanged { self.new ≡ self.old }
-    {}
+    {
+        self.table.seek(key);
+    }
 
     /// The least key.
     pub fn first(&self) -> Option<&Key>
         ensures key { option_copied result ≡ first_key (watchers_of self.now) }
         ensures there { IfSome result (λ k. IsSome (found k.now (watchers_of self.now))) }
     {
-        least(&self.table)
+        self.table.first()
     }
 
     /// The least key above one, which need not be there.
@@ -238,7 +227,7 @@ impl Watchers {
         ensures key { option_copied result ≡ key_after key.now (watchers_of self.now) }
         ensures there { IfSome result (λ k. IsSome (found k.now (watchers_of self.now))) }
     {
-        least_above(&self.table, key)
+        self.table.next_after(key)
     }
 
     /// The number of watches.
@@ -246,7 +235,7 @@ impl Watchers {
         ensures count { result ≡ length (watchers_of self.now) }
         ensures ordered { IsStrictlySortedBy key_cmp (keys_of (watchers_of self.now)) }
     {
-        self.table.len() as u64
+        self.table.len()
     }
 
     /// The watch of a key.
@@ -297,8 +286,8 @@ impl Watchers {
         ensures former { option_map (λ w. w.kept) (found key.now (watchers_of self.old)) ≡ Some (option_map snap_of result) }
         ensures kept { watchers_of self.new ≡ with_kept key.now (Some (snap_of s)) (watchers_of self.old) }
     {
-        match self.table.get_mut(key) {
-            Some(watched) => watched.kept.replace(s),
+        match self.table.set_kept(key, Some(s)) {
+            Some(former) => former,
             None => unreachable!(),
         }
     }
@@ -307,10 +296,7 @@ impl Watchers {
     pub fn unset(&mut self, key: &Key)
         ensures { watchers_of self.new ≡ with_kept key.now None (watchers_of self.old) }
     {
-        let Some(watched) = self.table.get_mut(key) else {
-            return;
-        };
-        forget(&mut watched.kept);
+        let _former = self.table.set_kept(key, None);
     }
 
     /// The verdict of the watcher of a key, with the snapshot that is to be kept where it is dirty.

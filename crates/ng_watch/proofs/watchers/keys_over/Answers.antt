@@ -1,31 +1,23 @@
-use Rattle.std.proofs.Common.{◌∷◌, length, sym, ◌∙◌}
-use Rattle.std.proofs.lemmas.List.Elements.{All-head, All-rest, All-same}
+use Rattle.std.proofs.Common.{◌≡◌, ◌+◌, ◌++◌, ◌∷◌, ap, drop, length, subst, sym, ◌∙◌}
+use Rattle.std.specs.List.{All, filter}
+use Rattle.std.specs.Map.{keys_of}
+use Rattle.std.proofs.lemmas.List.{drop_more}
 use Rattle.ng_base.specs.declared.path.Key.{Key}
+use Rattle.ng_watch.specs.Chunks.{Rows}
 use Rattle.ng_watch.specs.Ended.{is_over}
 use Rattle.ng_watch.specs.Seen.{watcher_of, watching_of, WatchStands}
 use Rattle.ng_watch.specs.declared.watched.Watched.{Watched}
-use Rattle.ng_watch.proofs.Taking.{key_less, key_more, keys_begun, rows_stand}
+use Rattle.ng_watch.proofs.Taking.{all_chunk, chunk_more}
 use Rattle.ng_watch.proofs.watchers.keys_over.Goals as goal
 
-pub loop-key-init : goal.loop-key-init
-loop-key-init c =
-    let begun = c.into_iter-key-iterator.ensures.into_iter_gives ∙ c.iter-key-items.ensures.rest in
-    record {
-      so_far = keys_begun (λ e. is_over c.args.store.now (watcher_of e.1)) _ _ _ c.new-keys.ensures.items begun;
-      stand = All-same (λ (e : Key × Watched). WatchStands (length c.args.store.now) (watching_of e.1.watch)) _ _ begun (rows_stand (length c.args.store.now) c.args.table.now.entries c.iter-key-items.ensures.found c.requires);
-    }
+pub loop-chunk-preserved : goal.loop-chunk-preserved
+loop-chunk-preserved c =
+    let i = c.loop-chunk.chunk-index in
+    let same : c.rows.result.now ≡ c.chunk-item.result = cc (c.rows.ensures.rows, c.chunk-item.is) in
+    let rest = drop_more c.args.chunks.now i c.chunk-item.result c.loop-chunk-test.true ∙ ap (λ (r : Rows). r ∷ drop (i + 1) c.args.chunks.now) (sym c.chunk-item.is) in
+    chunk_more (λ (e : Key × Watched). is_over c.args.store.now (watcher_of e.1)) c.loop-chunk.keys.items c.add_over.new.keys.items c.chunk-item.result c.args.chunks.now i c.loop-chunk.invariant rest (c.in_ok-add_over.ensures ∙ ap (λ (es : Rows). c.loop-chunk.keys.items ++ keys_of (filter (λ (e : Key × Watched). is_over c.args.store.now (watcher_of e.1)) es)) same)
 
-pub is_over-requires : goal.is_over-requires
-is_over-requires c = All-head (λ (e : Key × Watched). WatchStands (length c.args.store.now) (watching_of e.1.watch)) (c.in-Some.key.now, c.in-Some.watched.now) c.next.new.self (All-same (λ (e : Key × Watched). WatchStands (length c.args.store.now) (watching_of e.1.watch)) ((c.in-Some.key.now, c.in-Some.watched.now) ∷ c.next.new.self) c.loop-key.key-iterator (sym c.in-Some.ensures.steps) c.loop-key.invariant.stand)
-
-pub loop-key-preserved-in_ok-push : goal.loop-key-preserved-in_ok-push
-loop-key-preserved-in_ok-push c = record {
-  so_far = key_more (λ e. is_over c.args.store.now (watcher_of e.1)) c.loop-key.keys.items c.push.new.self.items c.in_ok-copied.field-0 (c.in-Some.key.now, c.in-Some.watched.now) c.loop-key.key-iterator c.next.new.self c.args.table.now.entries c.loop-key.invariant.so_far c.in-Some.ensures.steps (sym c.in_ok-is_over.ensures ∙ c.if-branch.true) c.in_ok-copied.ensures c.in_ok-push.ensures.items;
-  stand = All-rest (λ (e : Key × Watched). WatchStands (length c.args.store.now) (watching_of e.1.watch)) (c.in-Some.key.now, c.in-Some.watched.now) c.next.new.self c.loop-key.key-iterator c.in-Some.ensures.steps c.loop-key.invariant.stand;
-}
-
-pub loop-key-preserved : goal.loop-key-preserved
-loop-key-preserved c = record {
-  so_far = key_less (λ e. is_over c.args.store.now (watcher_of e.1)) c.loop-key.keys.items (c.in-Some.key.now, c.in-Some.watched.now) c.loop-key.key-iterator c.next.new.self c.args.table.now.entries c.loop-key.invariant.so_far c.in-Some.ensures.steps (sym c.in_ok-is_over.ensures ∙ c.if-branch.false);
-  stand = All-rest (λ (e : Key × Watched). WatchStands (length c.args.store.now) (watching_of e.1.watch)) (c.in-Some.key.now, c.in-Some.watched.now) c.next.new.self c.loop-key.key-iterator c.in-Some.ensures.steps c.loop-key.invariant.stand;
-}
+pub add_over-requires : goal.add_over-requires
+add_over-requires c =
+    let same : c.rows.result.now ≡ c.chunk-item.result = cc (c.rows.ensures.rows, c.chunk-item.is) in
+    subst (λ (es : Rows). All (λ (e : Key × Watched). WatchStands (length c.args.store.now) (watching_of e.1.watch)) es) (sym same) (all_chunk (λ (e : Key × Watched). WatchStands (length c.args.store.now) (watching_of e.1.watch)) c.args.chunks.now c.loop-chunk.chunk-index c.chunk-item.result c.requires c.loop-chunk-test.true c.chunk-item.is)

@@ -14,7 +14,7 @@ loop-key-init c = record {
   filled = omega (arith, c.in_ok-rows.ensures.len);
   sorted = c.requires;
   steps = λ passes h. record {
-    taken = ap (λ (xs : Rows). xs ++ filter passes c.args.table.now.entries) c.in_ok-rows.ensures.items;
+    taken = ap (λ (xs : Rows). xs ++ filter passes c.args.table.now) c.in_ok-rows.ensures.items;
     left = refl;
     keys = h;
   };
@@ -36,11 +36,11 @@ loop-key-preserved c =
       filled = omega (arith, pushed.1, c.loop-key.invariant.filled);
       sorted = c.remove_entry.ensures.ordered;
       steps = λ passes h.
-          let P : List Key → Type 0 = λ ks. HasTaken passes ks c.loop-key.rows.items c.args.table.now.entries c.loop-key.table.entries in
-          has_taken_more passes c.key-item.result (drop (c.loop-key.key-index + 1) c.args.keys.now) c.loop-key.rows.items c.match-remove_entry.rows.items c.args.table.now.entries c.loop-key.table.entries c.remove_entry.new.self.entries c.remove_entry.result c.loop-key.invariant.sorted c.remove_entry.ensures.key c.remove_entry.ensures.value c.remove_entry.ensures.entries pushed.2 (subst P item (c.loop-key.invariant.steps passes h));
+          let P : List Key → Type 0 = λ ks. HasTaken passes ks c.loop-key.rows.items c.args.table.now c.loop-key.table in
+          has_taken_more passes c.key-item.result (drop (c.loop-key.key-index + 1) c.args.keys.now) c.loop-key.rows.items c.match-remove_entry.rows.items c.args.table.now c.loop-key.table c.remove_entry.new.self c.remove_entry.result c.loop-key.invariant.sorted c.remove_entry.ensures.key c.remove_entry.ensures.value c.remove_entry.ensures.entries pushed.2 (subst P item (c.loop-key.invariant.steps passes h));
     }
 
 pub returns-clause-taken : goal.returns-clause-taken
 returns-clause-taken c = λ passes h.
-    let P : List Key → Type 0 = λ ks. HasTaken passes ks c.loop-key.rows.items c.args.table.now.entries c.loop-key.table.entries in
-    has_taken_all passes c.loop-key.rows.items c.args.table.now.entries c.loop-key.table.entries (subst P (drop_all c.loop-key.key-index c.args.keys.now c.loop-key-test.false) (c.loop-key.invariant.steps passes h))
+    let P : List Key → Type 0 = λ ks. HasTaken passes ks c.loop-key.rows.items c.args.table.now c.loop-key.table in
+    has_taken_all passes c.loop-key.rows.items c.args.table.now c.loop-key.table (subst P (drop_all c.loop-key.key-index c.args.keys.now c.loop-key-test.false) (c.loop-key.invariant.steps passes h))

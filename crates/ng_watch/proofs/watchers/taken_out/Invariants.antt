@@ -12,6 +12,6 @@ abbrev pub invariant-loop-key : goal.invariant-loop-key
 invariant-loop-key l = record {
   room : vec_capacity l.rows ≡ length l.keys;
   filled : vec_len l.rows ≤ l.key-index;
-  sorted : IsStrictlySortedBy key_cmp (keys_of l.table.entries);
-  steps : (passes : Key × Watched → Bool) → l.keys ≡ keys_of (filter passes l.initial.table.entries) → HasTaken passes (drop l.key-index l.keys) l.rows.items l.initial.table.entries l.table.entries;
+  sorted : IsStrictlySortedBy key_cmp (keys_of l.table);
+  steps : (passes : Key × Watched → Bool) → l.keys ≡ keys_of (filter passes l.initial.table) → HasTaken passes (drop l.key-index l.keys) l.rows.items l.initial.table l.table;
 }

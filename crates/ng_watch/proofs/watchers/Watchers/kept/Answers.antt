@@ -6,9 +6,9 @@ use Rattle.ng_watch.proofs.Tables.{there, never_none, kept-seen}
 use Rattle.ng_watch.proofs.watchers.Watchers.kept.Goals as goal
 
 pub unreachable-requires : goal.unreachable-requires
-unreachable-requires c = never_none watcher_of _ _ c.requires (there c.args.key.now c.self.inside.table.entries (watchers_of c.args.self.now) (option_copied c.get.result) c.get.ensures.value (ap (map entry_of) c.self.view_is)) (ap option_copied c.in-None.is)
+unreachable-requires c = never_none watcher_of _ _ c.requires (there c.args.key.now c.self.inside.table (watchers_of c.args.self.now) (option_copied c.get.result) c.get.ensures.value (ap (map entry_of) c.self.view_is)) (ap option_copied c.in-None.is)
 
 pub returns : goal.returns
 returns c =
-    ap (option_map (λ (w : Watcher). w.kept)) (there c.args.key.now c.self.inside.table.entries (watchers_of c.args.self.now) (option_copied c.get.result) c.get.ensures.value (ap (map entry_of) c.self.view_is) ∙ ap (λ r. option_map watcher_of (option_copied r)) c.in-Some.is)
+    ap (option_map (λ (w : Watcher). w.kept)) (there c.args.key.now c.self.inside.table (watchers_of c.args.self.now) (option_copied c.get.result) c.get.ensures.value (ap (map entry_of) c.self.view_is) ∙ ap (λ r. option_map watcher_of (option_copied r)) c.in-Some.is)
     ∙ ap (λ o. Some o) (kept-seen c.as_ref.result c.in-Some.watched.now.kept c.as_ref.ensures.value)

@@ -1,5 +1,5 @@
 use Rattle.std.proofs.Common.{length}
-use Rattle.ng_watch.proofs.watchers.+begins.Given as goal
+use Rattle.ng_watch.proofs.paths.+begins.Given as goal
 
 abbrev pub decreases-begins : goal.decreases-begins
 decreases-begins l = length l.u.now

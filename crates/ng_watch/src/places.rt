@@ -1,0 +1,179 @@
+//! Places in the chunks of the watchers' table: what stands there, and where a key stands.
+ghost use Rattle.std.specs.Prelude.{◌≡◌, ◌+◌, ◌<◌, ◌≤◌, suc, Some, None, true, false, length, IfOk, IfErr, IfSome, IsNone, not, option_copied, option_map, slice_get};
+ghost use Rattle.std.specs.List.{filter};
+ghost use Rattle.std.specs.List.Sorted.{IsStrictlySortedBy};
+ghost use Rattle.std.specs.Map.{keys_of};
+ghost use Rattle.std.specs.Option.{IsSomeAnd};
+ghost use Rattle.ng_watch.specs.Chunks.{joined, before, after, front, chunk_at, row_at, has_key, key_from, is_passed, AllBelow, IsEdge, IsGap};
+ghost use Rattle.ng_watch.specs.Keys.{begins, key_cmp};
+
+use crate::chunk::{Chunk, is_below};
+use crate::paths::begins;
+use crate::watched::Watched;
+use ng_base::name::Serial;
+use ng_base::path::{Key, Path};
+
+/// A chunk, and a row of it.
+#[derive(Clone, Copy)]
+pub(crate) struct Place {
+    pub(crate) chunk: usize,
+    pub(crate) row: usize,
+}
+
+/// The row of a place.
+pub(crate) fn row_at(chunks: &[Chunk], at: Place) -> Option<&(Key, Watched)>
+    ensures { option_copied result ≡ row_at chunks.now at.chunk at.row }
+{
+    match chunks.get(at.chunk) {
+        None => None,
+        Some(chunk) => chunk.row(at.row),
+    }
+}
+
+/// The first row of all.
+pub(crate) fn first_row(chunks: &[Chunk]) -> Option<&(Key, Watched)>
+    ensures { option_copied result ≡ slice_get (joined chunks.now) 0 }
+{
+    match chunks.first() {
+        None => None,
+        Some(chunk) => Some(chunk.first()),
+    }
+}
+
+/// The first row of the chunks after one.
+fn first_after(chunks: &[Chunk], chunk: usize) -> Option<&(Key, Watched)>
+    requires { chunk < length chunks.now }
+    ensures { option_copied result ≡ slice_get (after chunks.now (chunk + 1) 0) 0 }
+{
+    match chunks.get(chunk + 1) {
+        None => None,
+        Some(next) => Some(next.first()),
+    }
+}
+
+/// The row after a place that has one.
+pub(crate) fn row_after(chunks: &[Chunk], at: Place) -> Option<&(Key, Watched)>
+    ensures { option_copied result ≡ slice_get (after chunks.now at.chunk (suc at.row)) 0 }
+{
+    match chunks.get(at.chunk) {
+        None => None,
+        Some(chunk) => {
+            if at.row < chunk.len() - 1 {
+                chunk.row(at.row + 1)
+            } else {
+                first_after(chunks, at.chunk)
+            }
+        }
+    }
+}
+
+/// The place after one.
+pub(crate) fn step(chunks: &[Chunk], at: Place) -> Place {
+    match chunks.get(at.chunk) {
+        None => at,
+        Some(chunk) => {
+            if at.row < chunk.len() - 1 {
+                Place {
+                    chunk: at.chunk,
+                    row: at.row + 1,
+                }
+            } else {
+                Place {
+                    chunk: at.chunk + 1,
+                    row: 0,
+                }
+            }
+        }
+    }
+}
+
+/// Whether the row of a key stands at a place.
+pub(crate) fn is_at(chunks: &[Chunk], at: Place, key: &Key) -> bool
+    ensures { result ≡ has_key key.now (row_at chunks.now at.chunk at.row) }
+{
+    match row_at(chunks, at) {
+        None => false,
+        Some(row) => key.cmp(&row.0).is_eq(),
+    }
+}
+
+/// Whether all rows of a chunk are below the key of a path and a number.
+fn is_passed(chunk: &Chunk, path: &Path, serial: Serial) -> bool
+    ensures passed { result ≡ is_passed (key_from path.now serial) chunk.now }
+{
+    is_below(chunk.last(), path, serial)
+}
+
+/// The first chunk that is not wholly below the key of a path and a number, or how many chunks there are. A key above
+/// all is told by one comparison.
+fn chunk_for(chunks: &[Chunk], path: &Path, serial: Serial) -> usize
+    requires { IsStrictlySortedBy key_cmp (keys_of (joined chunks.now)) }
+    ensures lower { AllBelow (key_from path.now serial) (front chunks.now result) }
+    ensures upper { is_passed (key_from path.now serial) (chunk_at chunks.now result) ≡ false }
+{
+    let mut low = 0;
+    let mut high = chunks.len();
+    let mut middle = high.saturating_sub(1);
+    while low < high {
+        if is_passed(&chunks[middle], path, serial) {
+            low = middle + 1;
+        } else {
+            high = middle;
+        }
+        middle = low + (high - low) / 2;
+    }
+    low
+}
+
+/// Where the rows that are not below the key of a path and a number begin.
+pub(crate) fn edge(chunks: &[Chunk], path: &Path, serial: Serial) -> Place
+    requires { IsStrictlySortedBy key_cmp (keys_of (joined chunks.now)) }
+    ensures edge { IsEdge (key_from path.now serial) chunks.now result.chunk result.row }
+    ensures row { result.row ≤ length (chunk_at chunks.now result.chunk) }
+{
+    let at = chunk_for(chunks, path, serial);
+    match chunks.get(at) {
+        None => Place { chunk: at, row: 0 },
+        Some(chunk) => Place {
+            chunk: at,
+            row: chunk.below(path, serial),
+        },
+    }
+}
+
+/// The place of a key's row, or the one where it would stand. A place that may be right is looked at first.
+pub(crate) fn find(chunks: &[Chunk], at: Place, key: &Key) -> Result<Place, Place>
+    requires { IsStrictlySortedBy key_cmp (keys_of (joined chunks.now)) }
+    ensures there { IfOk result (λ p. has_key key.now (row_at chunks.now p.chunk p.row) ≡ true) }
+    ensures gap { IfErr result (λ p. IsGap key.now (before chunks.now p.chunk p.row) (after chunks.now p.chunk p.row)) }
+    ensures next { IfErr result (λ p. slice_get (after chunks.now p.chunk p.row) 0 ≡ row_at chunks.now p.chunk p.row) }
+{
+    if is_at(chunks, at, key) {
+        return Ok(at);
+    }
+    let at = edge(chunks, &key.path, key.serial);
+    if is_at(chunks, at, key) {
+        Ok(at)
+    } else {
+        Err(at)
+    }
+}
+
+/// The place of a row that is under a path, if there is one.
+pub(crate) fn place_under(chunks: &[Chunk], p: &Path) -> Option<Place>
+    requires { IsStrictlySortedBy key_cmp (keys_of (joined chunks.now)) }
+    ensures there { IfSome result (λ at. IsSomeAnd (row_at chunks.now at.chunk at.row) (λ e. begins p.now e.0.path ≡ true)) }
+    ensures none { IsNone result → filter (λ e. not (begins p.now e.0.path)) (joined chunks.now) ≡ joined chunks.now }
+{
+    let at = edge(chunks, p, Serial(0));
+    match row_at(chunks, at) {
+        None => None,
+        Some(row) => {
+            if begins(p.as_slice(), row.0.path.as_slice()) {
+                Some(at)
+            } else {
+                None
+            }
+        }
+    }
+}

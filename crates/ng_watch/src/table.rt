@@ -1,0 +1,187 @@
+//! The rows of the watchers in key order, in chunks, so that a row comes and goes at the cost of its chunk, with the
+//! place where a walk stands, so that a walk finds its rows without a search.
+ghost use Rattle.std.specs.Prelude.{◌≡◌, [], Some, find, length, not, IfErr, MatchOption, OnOk, OnErr, option_copied, option_map, slice_get};
+ghost use Rattle.std.specs.BTreeMap.{insert_entry};
+ghost use Rattle.std.specs.List.{filter};
+ghost use Rattle.std.specs.List.Sorted.{IsStrictlySortedBy};
+ghost use Rattle.std.specs.Map.{keys_of, lookup, lookup_key, remove_entry, set_value};
+ghost use Rattle.ng_base.specs.declared.path.Key.{Key as Name};
+ghost use Rattle.ng_watch.specs.declared.watched.Watched.{Watched as Row};
+ghost use Rattle.ng_watch.specs.Chunks.{joined};
+ghost use Rattle.ng_watch.specs.Keys.{key_cmp, is_key, is_above, begins};
+
+use crate::chunk::Chunk;
+use crate::edits::{drop_under, put_in, set_kept, set_watched, take_row};
+use crate::places::{Place, edge, find, first_row, is_at, row_after, row_at, step};
+use crate::watched::Watched;
+use ng_base::fault::Memory;
+use ng_base::path::{Key, Path};
+use ng_value::snapshot::Snap;
+use std::alloc::Global;
+use std::marker::Model;
+
+/// Rows in key order. Contracts see them as one list.
+#[derive(Drop)]
+pub(crate) struct RowTable {
+    alloc: Global,
+    chunks: Vec<Chunk>,
+    at: Place,
+    count: u64,
+}
+
+impl Model for RowTable {
+    ghost use Rattle.std.specs.Prelude.{List};
+    ghost use Rattle.std.specs.Coded.{codes};
+    ghost use Rattle.ng_base.specs.declared.path.Key.{Key as Name};
+    ghost use Rattle.ng_base.specs.contracts.path.Key as key;
+    ghost use Rattle.ng_watch.specs.contracts.watched.Watched as watched;
+    ghost use Rattle.ng_watch.specs.declared.watched.Watched.{Watched as Row};
+    ghost use Rattle.ng_watch.specs.Chunks.{joined, IsCounted};
+
+    ghost Value = { List (Name × Row) };
+
+    ghost coded = { Prim.hlevel (codes, key.the_row.coded, watched.the_row.coded) };
+
+    ghost view = { λ t. joined t.chunks.items };
+
+    ghost invariant = { λ t. IsCounted t.count (joined t.chunks.items) };
+}
+
+/// The key of a row.
+fn key_of(row: Option<&(Key, Watched)>) -> Option<&Key>
+    ensures { option_copied result ≡ option_map (λ e. e.0) (option_copied row.entry) }
+{
+    let row = row?;
+    Some(&row.0)
+}
+
+impl RowTable {
+    /// No row.
+    pub(crate) fn new(alloc: Global) -> RowTable
+        ensures { result ≡ [] }
+    {
+        RowTable {
+            alloc,
+            chunks: Vec::new(alloc),
+            at: Place { chunk: 0, row: 0 },
+            count: 0,
+        }
+    }
+
+    /// The number of rows.
+    pub(crate) fn len(&self) -> u64
+        ensures count { result ≡ length self.now }
+        ensures ordered { IsStrictlySortedBy key_cmp (keys_of self.now) }
+    {
+        self.count
+    }
+
+    /// The chunks of the rows.
+    pub(crate) fn chunks(&self) -> &[Chunk]
+        ensures rows { joined result.now ≡ self.now }
+        ensures ordered { IsStrictlySortedBy key_cmp (keys_of self.now) }
+    {
+        self.chunks.as_slice()
+    }
+
+    /// The least key.
+    pub(crate) fn first(&self) -> Option<&Key>
+        ensures { option_copied result ≡ option_map (λ e. e.0) (slice_get self.now 0) }
+    {
+        let row = first_row(&self.chunks)?;
+        Some(&row.0)
+    }
+
+    /// The least key above one. The row after the place of the walk is looked at first.
+    pub(crate) fn next_after(&self, key: &Key) -> Option<&Key>
+        ensures { option_copied result ≡ option_map (λ e. e.0) (find (λ e. is_above key.now e.0) self.now) }
+    {
+        match find(&self.chunks, self.at, key) {
+            Ok(at) => key_of(row_after(&self.chunks, at)),
+            Err(at) => key_of(row_at(&self.chunks, at)),
+        }
+    }
+
+    /// The watcher of a key.
+    pub(crate) fn get(&self, key: &Key) -> Option<&Watched>
+        ensures value { option_copied result ≡ lookup (is_key key.now) self.now }
+    {
+        let Ok(at) = find(&self.chunks, self.at, key) else {
+            return None;
+        };
+        let row = row_at(&self.chunks, at)?;
+        Some(&row.1)
+    }
+
+    /// A walk has come to a key. Mostly that is the next one.
+    pub(crate) fn seek(&mut self, key: &Key)
+        ensures { self.new ≡ self.old }
+    {
+        let next = step(&self.chunks, self.at);
+        self.at = match find(&self.chunks, next, key) {
+            Ok(at) => at,
+            Err(at) => at,
+        };
+    }
+
+    /// Puts a row in at the place of its key. A row that has the key takes the watcher.
+    pub(crate) fn insert(&mut self, key: Key, watched: Watched) -> Result<(), Memory>
+        ensures ok { OnOk result (self.new ≡ insert_entry key_cmp self.old key watched) }
+        ensures err { OnErr result (self.new ≡ self.old) }
+        ensures refused { IfErr result (λ e. e ≡ Memory.Refused) }
+    {
+        let at = edge(&self.chunks, &key.path, key.serial);
+        if is_at(&self.chunks, at, &key) {
+            set_watched(&mut self.chunks, at, watched);
+            return Ok(());
+        }
+        if self.count == u64::MAX {
+            return Err(Memory::Refused);
+        }
+        put_in(&mut self.chunks, self.alloc, at, (key, watched))?;
+        self.count += 1;
+        Ok(())
+    }
+
+    /// Takes the row of a key out.
+    pub(crate) fn remove_entry(&mut self, key: &Key) -> Option<(Key, Watched)>
+        ensures key { option_map (λ e. e.0) result ≡ lookup_key (is_key key.now) self.old }
+        ensures value { option_map (λ e. e.1) result ≡ lookup (is_key key.now) self.old }
+        ensures entries { self.new ≡ remove_entry (is_key key.now) self.old }
+        ensures ordered { IsStrictlySortedBy key_cmp (keys_of self.new) }
+    {
+        let Ok(at) = find(&self.chunks, self.at, key) else {
+            return None;
+        };
+        self.at = at;
+        self.count -= 1;
+        Some(take_row(&mut self.chunks, at))
+    }
+
+    /// Takes the row of a key out. Its watcher is handed over.
+    pub(crate) fn remove(&mut self, key: &Key) -> Option<Watched>
+        ensures value { result ≡ lookup (is_key key.now) self.old }
+        ensures entries { self.new ≡ remove_entry (is_key key.now) self.old }
+    {
+        let (_, watched) = self.remove_entry(key)?;
+        Some(watched)
+    }
+
+    /// Takes the rows of a path, and of those below it, out.
+    pub(crate) fn remove_under(&mut self, p: &Path)
+        ensures { self.new ≡ filter (λ e. not (begins p.now e.0.path)) self.old }
+    {
+        self.count = drop_under(&mut self.chunks, self.count, p);
+    }
+
+    /// The watcher of a key keeps a snapshot or nothing. Where there is one, what it had kept is handed back.
+    pub(crate) fn set_kept(&mut self, key: &Key, kept: Option<Snap>) -> Option<Option<Snap>>
+        ensures former { result ≡ option_map (λ w. w.kept) (lookup (is_key key.now) self.old) }
+        ensures kept { MatchOption (lookup (is_key key.now) self.old) (self.new ≡ self.old) (λ w. self.new ≡ set_value (is_key key.now) self.old (record { watch = w.watch; kept = kept })) }
+    {
+        let Ok(at) = find(&self.chunks, self.at, key) else {
+            return None;
+        };
+        Some(set_kept(&mut self.chunks, at, kept))
+    }
+}
