@@ -2,7 +2,7 @@
 ghost use Rattle.ng_laws.specs.Sessions.{DigestEnds, SessionIsThere, CrowdedPageIsEmpty};
 
 /// The files of a run have a session, whatever their bytes are, since a digest over the watchers of a page comes to an end.
-pub fn each_pair_of_files_has_a_session()
+pub fn files_have_a_session()
     ensures ends { DigestEnds }
     ensures there { SessionIsThere }
 {}

@@ -1,5 +1,5 @@
 use Rattle.ng_laws.proofs.Opening.{digest_some, session_some}
-use Rattle.ng_laws.proofs.sessions.each_pair_of_files_has_a_session.Goals as goal
+use Rattle.ng_laws.proofs.sessions.files_have_a_session.Goals as goal
 
 pub returns-clause-ends : goal.returns-clause-ends
 returns-clause-ends c = digest_some
