@@ -34,7 +34,7 @@ Answers before objects (Ok v) (Err e) = ⊥
 Answers before objects (Err d) (Ok t) = IsFull objects d
 Answers before objects (Err d) (Err e) = (d ≡ e) ⊎ IsFull objects d
 
--- a run answers as evaluation does, and leaves all as it was, but for objects that stand behind the others
+-- a run answers as evaluation does, and leaves all as it was, but for objects that stand after the others
 pub record IsEvaluation (s : State) (asked : Result ViewTree Fault) (r : Run Value) : Type 0 where
   pub after : List Object
   pub kept : Extends s.objects after

@@ -5,21 +5,20 @@
 //! makes two. The law says that for pure programs this is all the difference. A run gives a value that shows the view of
 //! evaluation: the same value where nothing fresh is in it, else an array or a plain object that was made on the way, with items
 //! and named values that show those of the view. Or it gives the same fault. The objects that stood stay as they were, those that
-//! were made stand behind them, and scopes, listeners, locals and all that waits for the digest are untouched. A run alone may
+//! were made stand after them, and scopes, listeners, locals and all that waits for the digest are untouched. A run alone may
 //! find no room for an object, where a million stand.
 //!
-//! Two things are told apart by the run alone, and the law leaves them out. A method's name that stands for a function, as
-//! `a.slice()` on an object with a function under `slice`, is ImpureCall to evaluation, and the run calls the function. And the
-//! filter `filter` reads an array of 4,294,967,296 items or more, where it stands as a pattern, otherwise than a list of as many:
-//! so its pattern is to be an expression that makes nothing, or a record of such. No list comes near that length; that
-//! the bound is on the form of the pattern is the law's own.
+//! In two cases run and evaluation differ, and the law leaves them out. A method's name that stands for a function, as `a.slice()`
+//! on an object with a function under `slice`, is ImpureCall to evaluation, and the run calls the function. And the filter `filter`
+//! reads a list of 4,294,967,296 items or more, where it stands as a pattern, otherwise than an array of as many: so its pattern is to
+//! be an expression that makes nothing, or a record of such. No list comes near that length, but definitions know no bound.
 //!
 //! `specs/Showing.antt` says when a value shows a view, `specs/Pure.antt` has the law, `specs/Covered.antt` the bound on `filter`.
 //! The proof goes by operation: `proofs/Texts`, `Members`, `Operators`, `Methods`, `Filters`, `Orders`, `Matching` and `Json` show that
-//! each asks no more of a value than of the view that it shows. A record is unfolded for JSON in its own order and an object in that
-//! of keys: `proofs/Costs` shows that this costs the same. Equality is the one that could (`proofs/Equal`): a fresh list
-//! equals nothing, and an object that was made equals no value that was evaluated before it. `Storing` makes the objects, `Running`
-//! puts steps in a row, `Trees` goes over programs.
+//! each asks no more of a value than of the view that it shows. Equality could ask more (`proofs/Equal`), but a fresh list equals
+//! nothing, and an object that was made equals no value that was there before it. JSON unfolds a record in its own order and an
+//! object in that of keys, and `proofs/Costs` shows that both spend as much. `Storing` makes the objects, `Running` puts steps in a
+//! row, and `Trees` goes over programs.
 //!
 //! There is no code here, and nothing is built from this crate.
 #![tactic(auto)]
