@@ -63,8 +63,11 @@ fn gives(core: &mut Core, alloc: Global, text: &str, wanted: &str) -> bool
     ensures sound { IsSound core.new }
     ensures count { length core.new.scopes ≡ length core.old.scopes }
 {
+    let Ok(wanted) = Txt::from_str(alloc, wanted) else {
+        return false;
+    };
     match ran(core, alloc, ROOT, text) {
-        Ok(Value::Text(t)) => t.is_word(wanted),
+        Ok(Value::Text(t)) => t == wanted,
         _ => false,
     }
 }
