@@ -64,7 +64,7 @@ fn uncloaked(alloc: Global, class: &Txt) -> Result<Txt, AllocError>
 }
 
 /// The value that an attribute keeps.
-fn kept_value(alloc: Global, attr: &Attr) -> Result<Txt, AllocError>
+pub fn kept_value(alloc: Global, attr: &Attr) -> Result<Txt, AllocError>
     ensures { IfOk result (λ t. t ≡ kept_value_of (attr_of attr.now)) }
 {
     if attr.name.is_word("class") {

@@ -34,7 +34,7 @@ mod sorting;
 mod spots;
 pub mod table;
 
-pub use cloak::kept_attrs;
+pub use cloak::{kept_attrs, kept_value};
 pub use collecting::{collect, collect_below};
 pub use definition::{DirectiveDef, ScopeAsk, Specs};
 pub use fault::{CollectFault, DefFault};

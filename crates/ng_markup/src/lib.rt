@@ -6,6 +6,7 @@
 //! - `Forest`: a list of nodes, each an element with attributes, a text or a comment; and `print`, the one
 //!   text of a forest, which a page shows on one line.
 //! - `Tables`: the elements with rules of their own, as tables.
+//! - `Attributes`: how an element gets its attributes one after another, and the words of its class.
 //!
 //! The definition that the crates above use most is `print`: what a page shows is the print of its document,
 //! so each promise on what is shown is one on a forest.

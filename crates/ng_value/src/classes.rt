@@ -35,7 +35,7 @@ fn push_word(words: &mut Words, word: Txt) -> Result<(), Memory>
 }
 
 /// Adds the words of a text.
-fn push_words(alloc: Global, words: &mut Words, t: &Txt) -> Result<(), Memory>
+pub fn push_words(alloc: Global, words: &mut Words, t: &Txt) -> Result<(), Memory>
     ensures words { OnOk result (words.new ≡ words.old ++ words_in [] t.now) }
     ensures refused { IfErr result (λ e. e ≡ Refused) }
 {
