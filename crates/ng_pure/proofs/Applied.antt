@@ -7,11 +7,12 @@ use Rattle.ng_filters.specs.Applied.{first_of, second_of}
 use Rattle.ng_filters.specs.Casing.{uppercase, lowercase}
 use Rattle.ng_filters.specs.Numbers.{number}
 use Rattle.ng_view.specs.Applied.{known, applied}
+use Rattle.ng_pure.specs.Patterns.{HasShortLists}
 use Rattle.ng_pure.proofs.Shown.{Grown, Seen, AllSeen}
 use Rattle.ng_pure.proofs.Methods.{GivenResult, given_seen}
 use Rattle.ng_pure.proofs.Filters.{upper_seen, lower_seen, number_seen, limited_given}
 use Rattle.ng_pure.proofs.Orders.{ordered_given}
-use Rattle.ng_pure.proofs.Matching.{NoList, filtered_given}
+use Rattle.ng_pure.proofs.Matching.{filtered_given}
 use Rattle.ng_pure.proofs.Json.{json_given}
 
 first_seen : (n from : ℕ) (now : List Object) (us ts : List ViewTree) → AllSeen n from now us ts → Seen n from now (first_of (views_from us)) (first_of (views_from ts))
@@ -26,7 +27,7 @@ second_seen n from now [] (t ∷ ts) s = absurd s
 second_seen n from now (u ∷ us) [] s = absurd s
 second_seen n from now (u ∷ us) (t ∷ ts) s = first_seen n from now us ts s.1
 
-pub applied_given : (from : ℕ) (before now : List Object) (name : List ℕ) → Grown before now → (k : ℕ) → known name k ≡ true → (u t : ViewTree) (us ts : List ViewTree) → (bytes_eq name (codes "filter") ≡ true → NoList (first_of (views_from ts))) → Seen (length before) from now u t → AllSeen (length before) from now us ts
+pub applied_given : (from : ℕ) (before now : List Object) (name : List ℕ) → Grown before now → (k : ℕ) → known name k ≡ true → (u t : ViewTree) (us ts : List ViewTree) → (bytes_eq name (codes "filter") ≡ true → HasShortLists (first_of (views_from ts))) → Seen (length before) from now u t → AllSeen (length before) from now us ts
     → GivenResult (length before) from now (applied now name u (views_from us)) (applied before name t (views_from ts))
 unfolding applied known
 applied_given from before now name g k h u t us ts pattern s r = one (bytes_eq name (codes "uppercase")) refl

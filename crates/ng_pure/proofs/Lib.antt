@@ -16,7 +16,7 @@ pub mod Applied
 pub mod Trees
 pub mod Whole
 pub mod KeyOrder
+pub mod ListOrder
 pub mod Matching
-pub mod Plainly
 pub mod Json
 pub mod Costs

@@ -1,5 +1,5 @@
--- The filter `filter` over values, and over the views that these show, where its pattern has no fresh list.
-use Rattle.std.proofs.Common.{◌≡◌, ◌∙◌, ℕ, zero, suc, Bool, true, false, not, List, [], ◌∷◌, ◌++◌, length, refl, sym, ap, subst, Option, Some, None, bytes_eq, if◌then◌else◌, codes, Ordering, Less, Equal, Greater, nat_cmp}
+-- The filter `filter` over values, and over the views that these show, where the lists of its pattern are short.
+use Rattle.std.proofs.Common.{◌≡◌, ◌∙◌, ◌<◌, ◌+◌, ◌^◌, ℕ, zero, suc, Bool, true, false, not, List, [], ◌∷◌, ◌++◌, length, refl, sym, ap, subst, Option, Some, None, bytes_eq, if◌then◌else◌, codes, Ordering, Less, Equal, Greater, nat_cmp}
 use Rattle.std.specs.Prelude.{Result, Ok, Err, option_map}
 use Rattle.std.specs.BTreeMap.{insert_entry}
 use Rattle.std.specs.List.{AllByRecursion}
@@ -7,7 +7,7 @@ use Rattle.std.specs.Map.{lookup, values_of}
 use Rattle.std.specs.Ordering.{match_ordering}
 use Rattle.ng_base.specs.Meets.{◌>>=◌}
 use Rattle.ng_base.specs.Objects.{Object, object_at, own_of, index_of, StandsAmong}
-use Rattle.ng_base.specs.Views.{ViewTree, ViewTrees, ViewFields, prim, list, rec, no_fields, field_then, views_from, fields_list}
+use Rattle.ng_base.specs.Views.{ViewTree, ViewTrees, ViewFields, prim, list, rec, no_views, view_then, no_fields, field_then, views_from, views_list, fields_list}
 use Rattle.ng_base.specs.declared.name.Oid.{Oid}
 use Rattle.ng_base.specs.declared.value.Value.{Value}
 use Rattle.ng_base.specs.declared.value.Value.TheVariants as value
@@ -15,9 +15,10 @@ use Rattle.ng_base.specs.declared.fault.Fault.{Fault}
 use Rattle.ng_language.specs.Objects.{look, IsObjectAt}
 use Rattle.ng_language.specs.Unfolding.{Field, Spent, and_then, made, is_dollar, is_nothing, with_entry, entries_of, own_entries, with_indexed, indexed_from, with_other, others_of, in_key_order}
 use Rattle.ng_filters.specs.Matching.{alone_matches, Asked, some_item, some_property, is_any, held_matches, property_matches, every_property, is_object, object_matches, shape_matches, negated, opposite, match_by, match_within, level_limit, match_limit, is_primitive, or_else, pattern_for, item_matches, kept_with, matching_from, matching, filtered_by, filtered}
-use Rattle.ng_filters.specs.Parts.{shape_of, shape_of_object, items, properties, property, member}
+use Rattle.ng_filters.specs.Parts.{shape_of, shape_of_object, items, indexed, properties, property, member}
 use Rattle.ng_store.proofs.Looks.{own_stands}
 use Rattle.ng_store.proofs.ObjectReads.{object_is}
+use Rattle.ng_pure.specs.Patterns.{HasShortLists, AllHaveShortLists, FieldsHaveShortLists}
 use Rattle.ng_pure.proofs.Shown.{Grown, Seen, AllBy, AllSeen, FieldsSeen, OptionBy, ResultBy, one_more}
 use Rattle.ng_pure.proofs.Alike.{seen_same}
 use Rattle.ng_pure.proofs.Texts.{SpentBy, spent_then}
@@ -25,17 +26,18 @@ use Rattle.ng_pure.proofs.Methods.{Given, GivenResult, given_list, given_seen}
 use Rattle.ng_pure.proofs.Filters.{shape_same, items_shown, of_kind}
 use Rattle.ng_pure.proofs.Orders.{Fits, property_seen, part_member_seen}
 use Rattle.ng_pure.proofs.KeyOrder.{plain_entries}
+use Rattle.ng_pure.proofs.ListOrder.{array_entries}
 
--- a view with no list in it
-abbrev mutual
-  pub NoList : ViewTree → Type 0
-  NoList (prim v) = Unit {0}
-  NoList (list ts) = ⊥
-  NoList (rec fs) = NoLists fs
+-- a list has fewer items than 2^32, whatever stands in them
+abbrev IsShort : ViewTree → Type 0
+IsShort (prim v) = Unit {0}
+IsShort (list ts) = length (views_list ts) < 2 ^ 32
+IsShort (rec fs) = Unit {0}
 
-  pub NoLists : ViewFields → Type 0
-  NoLists no_fields = Unit {0}
-  NoLists (field_then name t fs) = NoList t × NoLists fs
+short_first : (t : ViewTree) → HasShortLists t → IsShort t
+short_first (prim v) h = tt
+short_first (list ts) h = h.0
+short_first (rec fs) h = tt
 
 -- what is no list itself
 abbrev NotList : ViewTree → Type 0
@@ -43,15 +45,21 @@ NotList (prim v) = Unit {0}
 NotList (list ts) = ⊥
 NotList (rec fs) = Unit {0}
 
-no_list : (t : ViewTree) → NoList t → NotList t
-no_list (prim v) h = tt
-no_list (list ts) h = h
-no_list (rec fs) h = tt
+short_else : (t : ViewTree) → NotList t → IsShort t
+short_else (prim v) h = tt
+short_else (list ts) h = absurd h
+short_else (rec fs) h = tt
 
 fits : (name : List ℕ) (t : ViewTree) → NotList t → Fits name t
 fits name (prim v) h = tt
 fits name (list ts) h = absurd h
 fits name (rec fs) h = tt
+
+-- a list has nothing under `$`
+fits_dollar : (t : ViewTree) → Fits (codes "$") t
+fits_dollar (prim v) = tt
+fits_dollar (list ts) = refl
+fits_dollar (rec fs) = tt
 
 -- the own values of an object of before
 old_entry : (n from : ℕ) (now : List Object) (name : List ℕ) (u : Option Value) (rest : List Field) → ((v : Value) → u ≡ Some v → StandsAmong n v) → FieldsSeen n from now rest rest → FieldsSeen n from now (with_entry name u rest) (with_entry name u rest)
@@ -62,7 +70,7 @@ pub old_entries : (n from o : ℕ) (now : List Object) (x : Object) → IsObject
 old_entries n from o now x a [] = tt
 old_entries n from o now x a (name ∷ names) = old_entry n from now name (own_of x name) (entries_of x names) (λ v e. own_stands n o x name v a e) (old_entries n from o now x a names)
 
-properties_seen : (from : ℕ) (before now : List Object) → Grown before now → (u t : ViewTree) → NotList t → Seen (length before) from now u t → FieldsSeen (length before) from now (properties now u) (properties before t)
+properties_seen : (from : ℕ) (before now : List Object) → Grown before now → (u t : ViewTree) → IsShort t → Seen (length before) from now u t → FieldsSeen (length before) from now (properties now u) (properties before t)
 properties_seen from before now g (prim v) (prim w) h s = subst (λ x. FieldsSeen (length before) from now (properties now (prim x)) (properties before (prim w))) (sym s.0) (by w s.1)
   where
     by : (w : Value) → StandsAmong (length before) w → FieldsSeen (length before) from now (properties now (prim w)) (properties before (prim w))
@@ -70,7 +78,9 @@ properties_seen from before now g (prim v) (prim w) h s = subst (λ x. FieldsSee
         subst (λ (x : Object). FieldsSeen (length before) from now (own_entries x) (own_entries (object_at before o.0))) (sym (g.unchanged o.0 k))
         (old_entries (length before) from o.0 now (object_at before o.0) (object_is before o.0 k g.sound) _)
     by w k = tt
-properties_seen from before now g (prim v) (list ts) h s = absurd h
+properties_seen from before now g (prim v) (list ts) h s =
+    subst (λ x. FieldsSeen (length before) from now (properties now (prim x)) (indexed 0 (views_list ts))) (sym s.2)
+    (subst (λ (x : Object). FieldsSeen (length before) from now (own_entries x) (indexed 0 (views_list ts))) (sym s.5) (array_entries (length before) from now s.1 ts h s.6))
 properties_seen from before now g (prim v) (rec fs) h s =
     subst (λ x. FieldsSeen (length before) from now (properties now (prim x)) (in_key_order (fields_list fs))) (sym s.2)
     (subst (λ (x : Object). FieldsSeen (length before) from now (own_entries x) (in_key_order (fields_list fs))) (sym s.5) (plain_entries (length before) from now s.1 fs s.6 s.7))
@@ -114,29 +124,33 @@ all_others P (f ∷ fs) a = by (index_of f.0) (all_others P fs a.1)
     by None rest = (a.0, rest)
     by (Some i) rest = rest
 
-abbrev pub FieldNoList : Field → Type 0
-FieldNoList f = NoList f.1
+abbrev FieldHasShortLists : Field → Type 0
+FieldHasShortLists f = HasShortLists f.1
 
-fields_no_list : (fs : ViewFields) → NoLists fs → AllByRecursion FieldNoList (fields_list fs)
-fields_no_list no_fields h = tt
-fields_no_list (field_then name t fs) h = (h.0, fields_no_list fs h.1)
+fields_short : (fs : ViewFields) → FieldsHaveShortLists fs → AllByRecursion FieldHasShortLists (fields_list fs)
+fields_short no_fields h = tt
+fields_short (field_then name t fs) h = (h.0, fields_short fs h.1)
 
-entry_no_list : (name : List ℕ) (u : Option Value) (rest : List Field) → AllByRecursion FieldNoList rest → AllByRecursion FieldNoList (with_entry name u rest)
-entry_no_list name None rest a = a
-entry_no_list name (Some v) rest a = (tt, a)
+entry_short : (name : List ℕ) (u : Option Value) (rest : List Field) → AllByRecursion FieldHasShortLists rest → AllByRecursion FieldHasShortLists (with_entry name u rest)
+entry_short name None rest a = a
+entry_short name (Some v) rest a = (tt, a)
 
-entries_no_list : (x : Object) (names : List (List ℕ)) → AllByRecursion FieldNoList (entries_of x names)
-entries_no_list x [] = tt
-entries_no_list x (name ∷ names) = entry_no_list name (own_of x name) (entries_of x names) (entries_no_list x names)
+entries_short : (x : Object) (names : List (List ℕ)) → AllByRecursion FieldHasShortLists (entries_of x names)
+entries_short x [] = tt
+entries_short x (name ∷ names) = entry_short name (own_of x name) (entries_of x names) (entries_short x names)
 
-properties_no_list : (before : List Object) (t : ViewTree) → NoList t → AllByRecursion FieldNoList (properties before t)
-properties_no_list before (prim (value.Obj o)) h = entries_no_list (object_at before o.0) _
-properties_no_list before (prim w) h = tt
-properties_no_list before (list ts) h = absurd h
-properties_no_list before (rec fs) h =
-    let a = fields_no_list fs h in
-    all_appended FieldNoList (values_of (indexed_from [] (fields_list fs))) (others_of (fields_list fs))
-    (all_values FieldNoList (indexed_from [] (fields_list fs)) (all_indexed FieldNoList (fields_list fs) [] a tt)) (all_others FieldNoList (fields_list fs) a)
+items_short : (i : ℕ) (ts : ViewTrees) → AllHaveShortLists ts → AllByRecursion FieldHasShortLists (indexed i (views_list ts))
+items_short i no_views h = tt
+items_short i (view_then t ts) h = (h.0, items_short (i + 1) ts h.1)
+
+properties_short : (before : List Object) (t : ViewTree) → HasShortLists t → AllByRecursion FieldHasShortLists (properties before t)
+properties_short before (prim (value.Obj o)) h = entries_short (object_at before o.0) _
+properties_short before (prim w) h = tt
+properties_short before (list ts) h = items_short 0 ts h.1
+properties_short before (rec fs) h =
+    let a = fields_short fs h in
+    all_appended FieldHasShortLists (values_of (indexed_from [] (fields_list fs))) (others_of (fields_list fs))
+    (all_values FieldHasShortLists (indexed_from [] (fields_list fs)) (all_indexed FieldHasShortLists (fields_list fs) [] a tt)) (all_others FieldHasShortLists (fields_list fs) a)
 
 -- the same answer with as much spent
 abbrev Same : Bool → Bool → Type 0
@@ -172,12 +186,12 @@ some_properties n from now f g h (x ∷ fs) (y ∷ gs) s left =
 
 -- two matches that agree
 abbrev Agree : ℕ → ℕ → List Object → Asked → Asked → Type 0
-Agree n from now ask to = (u t p q : ViewTree) (any : Bool) → NoList q → Seen n from now u t → Seen n from now p q → (left : ℕ) → SpentSame (ask u p any left) (to t q any left)
+Agree n from now ask to = (u t p q : ViewTree) (any : Bool) → HasShortLists q → Seen n from now u t → Seen n from now p q → (left : ℕ) → SpentSame (ask u p any left) (to t q any left)
 
 nothing_same : (n from : ℕ) (now : List Object) (p q : ViewTree) → Seen n from now p q → is_nothing p ≡ is_nothing q
 nothing_same n from now p q s = seen_same n from now is_nothing (λ o ts. refl) (λ o fs. refl) p q s
 
-property_step : (from : ℕ) (before now : List Object) → Grown before now → (ask to : Asked) → Agree (length before) from now ask to → (u t : ViewTree) → NotList t → Seen (length before) from now u t → (name : List ℕ) (p q : ViewTree) → NoList q → Seen (length before) from now p q → (left : ℕ)
+property_step : (from : ℕ) (before now : List Object) → Grown before now → (ask to : Asked) → Agree (length before) from now ask to → (u t : ViewTree) → NotList t → Seen (length before) from now u t → (name : List ℕ) (p q : ViewTree) → HasShortLists q → Seen (length before) from now p q → (left : ℕ)
     → SpentSame (property_matches now ask u (name, p) left) (property_matches before to t (name, q) left)
 property_step from before now g ask to h u t k s name p q l r left = by (is_any name)
   where
@@ -188,13 +202,13 @@ property_step from before now g ask to h u t k s name p q l r left = by (is_any 
     by true =
         same_choice (is_nothing p) (is_nothing q) (Ok (true, left)) (Ok (true, left)) (some_property (λ w. ask w p true) (properties now u) left) (some_property (λ w. to w q true) (properties before t) left)
         (nothing_same n from now p q r) (refl, refl)
-        (some_properties n from now (λ w. ask w p true) (λ w. to w q true) (λ x y z rest. h x y p q true l z r rest) (properties now u) (properties before t) (properties_seen from before now g u t k s) left)
+        (some_properties n from now (λ w. ask w p true) (λ w. to w q true) (λ x y z rest. h x y p q true l z r rest) (properties now u) (properties before t) (properties_seen from before now g u t (short_else t k) s) left)
     by false =
         same_choice (is_nothing p) (is_nothing q) (Ok (true, left)) (Ok (true, left)) (ask (member now u name) p false left) (to (member before t name) q false left)
         (nothing_same n from now p q r) (refl, refl)
         (h (member now u name) (member before t name) p q false l (part_member_seen from before now name g u t (fits name t k) s) r left)
 
-every_step : (from : ℕ) (before now : List Object) → Grown before now → (ask to : Asked) → Agree (length before) from now ask to → (u t : ViewTree) → NotList t → Seen (length before) from now u t → (fs gs : List Field) → FieldsSeen (length before) from now fs gs → AllByRecursion FieldNoList gs → (left : ℕ)
+every_step : (from : ℕ) (before now : List Object) → Grown before now → (ask to : Asked) → Agree (length before) from now ask to → (u t : ViewTree) → NotList t → Seen (length before) from now u t → (fs gs : List Field) → FieldsSeen (length before) from now fs gs → AllByRecursion FieldHasShortLists gs → (left : ℕ)
     → SpentSame (every_property now ask u fs left) (every_property before to t gs left)
 every_step from before now g ask to h u t k s [] [] r l left = (refl, refl)
 every_step from before now g ask to h u t k s [] (y ∷ gs) r l left = absurd r
@@ -204,16 +218,16 @@ every_step from before now g ask to h u t k s (x ∷ fs) (y ∷ gs) r l left =
     (subst (λ m. SpentSame (property_matches now ask u x left) (property_matches before to t (m, y.1) left)) r.0.0 (property_step from before now g ask to h u t k s x.0 x.1 y.1 l.0 r.0.1 left))
     (λ a b e rest. same_choice a b (every_property now ask u fs rest) (every_property before to t gs rest) (Ok (false, rest)) (Ok (false, rest)) e (every_step from before now g ask to h u t k s fs gs r.1 l.1 rest) (refl, refl))
 
-object_step : (from : ℕ) (before now : List Object) → Grown before now → (ask to : Asked) → Agree (length before) from now ask to → (u t p q : ViewTree) → NotList t → NoList q → Seen (length before) from now u t → Seen (length before) from now p q → (any : Bool) (left : ℕ)
+object_step : (from : ℕ) (before now : List Object) → Grown before now → (ask to : Asked) → Agree (length before) from now ask to → (u t p q : ViewTree) → NotList t → HasShortLists q → Seen (length before) from now u t → Seen (length before) from now p q → (any : Bool) (left : ℕ)
     → SpentSame (object_matches now ask u p any left) (object_matches before to t q any left)
 object_step from before now g ask to h u t p q k l s r true left =
     spent_then Same Same (some_property (λ x. ask x p true) (properties now u) left) (some_property (λ x. to x q true) (properties before t) left) (λ found rest. if found then Ok (true, rest) else ask u p false rest) (λ found rest. if found then Ok (true, rest) else to t q false rest)
-    (some_properties (length before) from now (λ w. ask w p true) (λ w. to w q true) (λ x y z rest. h x y p q true l z r rest) (properties now u) (properties before t) (properties_seen from before now g u t k s) left)
+    (some_properties (length before) from now (λ w. ask w p true) (λ w. to w q true) (λ x y z rest. h x y p q true l z r rest) (properties now u) (properties before t) (properties_seen from before now g u t (short_else t k) s) left)
     (λ a b e rest. same_choice a b (Ok (true, rest)) (Ok (true, rest)) (ask u p false rest) (to t q false rest) e (refl, refl) (h u t p q false l s r rest))
 object_step from before now g ask to h u t p q k l s r false left =
     same_choice (is_object (shape_of now p)) (is_object (shape_of before q)) (every_property now ask u (properties now p) left) (every_property before to t (properties before q) left) (Ok (false, left)) (Ok (false, left))
     (ap is_object (shape_same from before now g p q r))
-    (every_step from before now g ask to h u t k s (properties now p) (properties before q) (properties_seen from before now g p q (no_list q l) r) (properties_no_list before q l) left) (refl, refl)
+    (every_step from before now g ask to h u t k s (properties now p) (properties before q) (properties_seen from before now g p q (short_first q l) r) (properties_short before q l) left) (refl, refl)
 
 alone_list : (v : Value) (o : Oid) (ts : ViewTrees) → alone_matches (prim v) (prim (value.Obj o)) ≡ alone_matches (prim v) (list ts)
 alone_list value.Undefined o ts = refl
@@ -239,7 +253,7 @@ alone_step : (n from : ℕ) (now : List Object) (v : Value) (p q : ViewTree) (le
 alone_step n from now v p q left r = (seen_same n from now (alone_matches (prim v)) (alone_list v) (alone_rec v) p q r, refl)
 
 -- by the shape of the value
-shape_step : (from : ℕ) (before now : List Object) → Grown before now → (ask to : Asked) → Agree (length before) from now ask to → (u t p q : ViewTree) → NoList q → Seen (length before) from now u t → Seen (length before) from now p q → (any : Bool) (left : ℕ)
+shape_step : (from : ℕ) (before now : List Object) → Grown before now → (ask to : Asked) → Agree (length before) from now ask to → (u t p q : ViewTree) → HasShortLists q → Seen (length before) from now u t → Seen (length before) from now p q → (any : Bool) (left : ℕ)
     → SpentSame (shape_matches (shape_of now u) now ask u p any left) (shape_matches (shape_of before t) before to t q any left)
 shape_step from before now g ask to h u t p q l s r any left =
     subst (λ x. SpentSame (shape_matches x now ask u p any left) (shape_matches (shape_of before t) before to t q any left)) (sym (shape_same from before now g u t s)) (by t s)
@@ -281,7 +295,7 @@ opposite_same x y s = spent_then Same Same x y (λ found left. Ok (not found, le
 negated_same : (n from : ℕ) (now : List Object) (p q : ViewTree) → Seen n from now p q → negated p ≡ negated q
 negated_same n from now p q s = seen_same n from now negated (λ o ts. refl) (λ o fs. refl) p q s
 
-match_step : (from : ℕ) (before now : List Object) → Grown before now → (ask to : Asked) → Agree (length before) from now ask to → (u t p q : ViewTree) → NoList q → Seen (length before) from now u t → Seen (length before) from now p q → (any : Bool) (left : ℕ)
+match_step : (from : ℕ) (before now : List Object) → Grown before now → (ask to : Asked) → Agree (length before) from now ask to → (u t p q : ViewTree) → HasShortLists q → Seen (length before) from now u t → Seen (length before) from now p q → (any : Bool) (left : ℕ)
     → SpentSame (match_by (negated p) now ask u p any left) (match_by (negated q) before to t q any left)
 match_step from before now g ask to h u t p q l s r any left =
     subst (λ m. SpentSame (match_by m now ask u p any left) (match_by (negated q) before to t q any left)) (sym (negated_same (length before) from now p q r)) (by (negated q))
@@ -302,48 +316,48 @@ made_same (Err d) (Ok b) s = absurd s
 made_same (Err d) (Err e) s = ap (λ z. (let r : Result Bool Fault = Err z in r)) s
 
 -- the pattern that an item is held against
-found_no_list : (name : List ℕ) (fs : ViewFields) (t : ViewTree) → NoLists fs → lookup (bytes_eq name) (fields_list fs) ≡ Some t → NoList t
-found_no_list name no_fields t h e = absurd (cc)
-found_no_list name (field_then m u fs) t h e = by (bytes_eq name m) e (found_no_list name fs t h.1)
+found_short : (name : List ℕ) (fs : ViewFields) (t : ViewTree) → FieldsHaveShortLists fs → lookup (bytes_eq name) (fields_list fs) ≡ Some t → HasShortLists t
+found_short name no_fields t h e = absurd (cc)
+found_short name (field_then m u fs) t h e = by (bytes_eq name m) e (found_short name fs t h.1)
   where
-    by : (b : Bool) → (if b then Some u else lookup (bytes_eq name) (fields_list fs)) ≡ Some t → (lookup (bytes_eq name) (fields_list fs) ≡ Some t → NoList t) → NoList t
-    by true k rest = subst NoList (let f : u ≡ t = cc in f) h.0
+    by : (b : Bool) → (if b then Some u else lookup (bytes_eq name) (fields_list fs)) ≡ Some t → (lookup (bytes_eq name) (fields_list fs) ≡ Some t → HasShortLists t) → HasShortLists t
+    by true k rest = subst HasShortLists (let f : u ≡ t = cc in f) h.0
     by false k rest = rest k
 
-prim_no_list : (o : Option Value) (t : ViewTree) → (let r : Option ViewTree = option_map prim o in r) ≡ Some t → NoList t
-prim_no_list None t e = absurd (cc)
-prim_no_list (Some v) t e = subst NoList (let f : prim v ≡ t = cc in f) tt
+prim_short : (o : Option Value) (t : ViewTree) → (let r : Option ViewTree = option_map prim o in r) ≡ Some t → HasShortLists t
+prim_short None t e = absurd (cc)
+prim_short (Some v) t e = subst HasShortLists (let f : prim v ≡ t = cc in f) tt
 
-property_no_list : (before : List Object) (name : List ℕ) (q t : ViewTree) → NoList q → property before q name ≡ Some t → NoList t
-property_no_list before name (prim (value.Obj o)) t l e = prim_no_list (look before o.0 name) t e
-property_no_list before name (prim w) t l e = absurd (cc)
-property_no_list before name (list ts) t l e = absurd l
-property_no_list before name (rec fs) t l e = found_no_list name fs t l e
+property_short : (before : List Object) (name : List ℕ) (q t : ViewTree) → HasShortLists q → property before q name ≡ Some t → HasShortLists t
+property_short before name (prim (value.Obj o)) t l e = prim_short (look before o.0 name) t e
+property_short before name (prim w) t l e = absurd (cc)
+property_short before name (list ts) t l e = absurd (cc)
+property_short before name (rec fs) t l e = found_short name fs t l e
 
 record Pattern (n from : ℕ) (now : List Object) (p q : ViewTree) : Type 0 where
-  none : NoList q
+  short : HasShortLists q
   seen : Seen n from now p q
 
-chosen_pattern : (from : ℕ) (before now : List Object) (a b : Option ViewTree) (p q : ViewTree) → OptionBy (Seen (length before) from now) a b → ((t : ViewTree) → b ≡ Some t → NoList t) → NoList q → Seen (length before) from now p q → Pattern (length before) from now (or_else a p) (or_else b q)
-chosen_pattern from before now None None p q s h l r = record { none = l; seen = r }
+chosen_pattern : (from : ℕ) (before now : List Object) (a b : Option ViewTree) (p q : ViewTree) → OptionBy (Seen (length before) from now) a b → ((t : ViewTree) → b ≡ Some t → HasShortLists t) → HasShortLists q → Seen (length before) from now p q → Pattern (length before) from now (or_else a p) (or_else b q)
+chosen_pattern from before now None None p q s h l r = record { short = l; seen = r }
 chosen_pattern from before now None (Some b) p q s h l r = absurd s
 chosen_pattern from before now (Some a) None p q s h l r = absurd s
-chosen_pattern from before now (Some a) (Some b) p q s h l r = record { none = h b refl; seen = s }
+chosen_pattern from before now (Some a) (Some b) p q s h l r = record { short = h b refl; seen = s }
 
-pattern_step : (from : ℕ) (before now : List Object) → Grown before now → (p q u t : ViewTree) → NoList q → Seen (length before) from now p q → Seen (length before) from now u t → Pattern (length before) from now (pattern_for now p u) (pattern_for before q t)
+pattern_step : (from : ℕ) (before now : List Object) → Grown before now → (p q u t : ViewTree) → HasShortLists q → Seen (length before) from now p q → Seen (length before) from now u t → Pattern (length before) from now (pattern_for now p u) (pattern_for before q t)
 pattern_step from before now g p q u t l r s =
     subst (λ b. Pattern (length before) from now (if b then or_else (property now p (codes "$")) p else p) (pattern_for before q t)) (sym (ap is_primitive (shape_same from before now g u t s))) (by (is_primitive (shape_of before t)))
   where
     by : (b : Bool) → Pattern (length before) from now (if b then or_else (property now p (codes "$")) p else p) (if b then or_else (property before q (codes "$")) q else q)
-    by true = chosen_pattern from before now (property now p (codes "$")) (property before q (codes "$")) p q (property_seen from before now (codes "$") g p q (fits (codes "$") q (no_list q l)) r) (λ x e. property_no_list before (codes "$") q x l e) l r
-    by false = record { none = l; seen = r }
+    by true = chosen_pattern from before now (property now p (codes "$")) (property before q (codes "$")) p q (property_seen from before now (codes "$") g p q (fits_dollar q) r) (λ x e. property_short before (codes "$") q x l e) l r
+    by false = record { short = l; seen = r }
 
-item_same : (from : ℕ) (before now : List Object) → Grown before now → (p q u t : ViewTree) → NoList q → Seen (length before) from now p q → Seen (length before) from now u t → item_matches now p u ≡ item_matches before q t
+item_same : (from : ℕ) (before now : List Object) → Grown before now → (p q u t : ViewTree) → HasShortLists q → Seen (length before) from now p q → Seen (length before) from now u t → item_matches now p u ≡ item_matches before q t
 item_same from before now g p q u t l r s =
     let w = pattern_step from before now g p q u t l r s in
     ap (λ b. made (match_within level_limit now u (pattern_for now p u) b match_limit)) (ap is_primitive (shape_same from before now g p q r))
     ∙ made_same (match_within level_limit now u (pattern_for now p u) (is_primitive (shape_of before q)) match_limit) (match_within level_limit before t (pattern_for before q t) (is_primitive (shape_of before q)) match_limit)
-    (within from before now g level_limit u t (pattern_for now p u) (pattern_for before q t) (is_primitive (shape_of before q)) w.none s w.seen match_limit)
+    (within from before now g level_limit u t (pattern_for now p u) (pattern_for before q t) (is_primitive (shape_of before q)) w.short s w.seen match_limit)
 
 kept_seen : (n from : ℕ) (now : List Object) (b : Bool) (u t : ViewTree) (us ts : List ViewTree) → Seen n from now u t → AllSeen n from now us ts → AllSeen n from now (kept_with b u us) (kept_with b t ts)
 kept_seen n from now true u t us ts s r = one_more (Seen n from now) us ts u t r s
@@ -353,7 +367,7 @@ result_then : {A : Type 0} (n from : ℕ) (now : List Object) (x y : Result A Fa
 result_then n from now x (Ok a) f g e h = subst (λ z. ResultBy (AllSeen n from now) (z >>= f) (g a)) (sym e) (h a)
 result_then n from now x (Err d) f g e h = subst (λ z. ResultBy (AllSeen n from now) (z >>= f) (Err d)) (sym e) refl
 
-from_step : (from : ℕ) (before now : List Object) → Grown before now → (p q : ViewTree) → NoList q → Seen (length before) from now p q → (us ts ds es : List ViewTree) → AllSeen (length before) from now us ts → AllSeen (length before) from now ds es
+from_step : (from : ℕ) (before now : List Object) → Grown before now → (p q : ViewTree) → HasShortLists q → Seen (length before) from now p q → (us ts ds es : List ViewTree) → AllSeen (length before) from now us ts → AllSeen (length before) from now ds es
     → ResultBy (AllSeen (length before) from now) (matching_from now p ds us) (matching_from before q es ts)
 from_step from before now g p q l r [] [] ds es s d = d
 from_step from before now g p q l r [] (t ∷ ts) ds es s d = absurd s
@@ -375,7 +389,7 @@ listed_result n from now (Ok us) (Err e) s = absurd s
 listed_result n from now (Err d) (Ok ts) s = absurd s
 listed_result n from now (Err d) (Err e) s = s
 
-pub filtered_given : (from : ℕ) (before now : List Object) → Grown before now → (u t p q : ViewTree) → NoList q → Seen (length before) from now u t → Seen (length before) from now p q
+pub filtered_given : (from : ℕ) (before now : List Object) → Grown before now → (u t p q : ViewTree) → HasShortLists q → Seen (length before) from now u t → Seen (length before) from now p q
     → GivenResult (length before) from now (filtered now u p) (filtered before t q)
 filtered_given from before now g u t p q l s r =
     subst (λ x. GivenResult n from now (filtered_by x now u p) (filtered_by (shape_of before t) before t q)) (sym (shape_same from before now g u t s)) (by t s)

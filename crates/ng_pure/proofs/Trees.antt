@@ -32,7 +32,7 @@ use Rattle.ng_act.specs.State.{State, Run, ◌>>=◌, with_objects, given}
 use Rattle.ng_act.specs.declared.called.Called.{Called}
 use Rattle.ng_act.specs.declared.called.Called.TheVariants as calls
 use Rattle.ng_write.proofs.Extending.{extends_self}
-use Rattle.ng_pure.specs.Covered.{IsCovered, AreCovered, IsPairCovered, ArePairsCovered}
+use Rattle.ng_pure.specs.Patterns.{HasShortLists, EachFilter, EachFilterOfAll, EachFilterOfPair, EachFilterOfPairs, HasShortPattern}
 use Rattle.ng_pure.proofs.Shown.{Grown, grown_on, Seen, AllSeen, FieldSeen, FieldsSeen, ResultBy, seen_on, all_on, fields_on, one_more, all_length}
 use Rattle.ng_pure.proofs.Alike.{truthy_same}
 use Rattle.ng_pure.proofs.Texts.{text_same}
@@ -40,8 +40,6 @@ use Rattle.ng_pure.proofs.Members.{member_seen, item_seen, name_seen}
 use Rattle.ng_pure.proofs.Operators.{sign_seen, operator_seen, whole_seen}
 use Rattle.ng_pure.proofs.Methods.{given_list, method_same, method_given}
 use Rattle.ng_filters.specs.Applied.{first_of}
-use Rattle.ng_pure.proofs.Matching.{NoList}
-use Rattle.ng_pure.proofs.Plainly.{pattern_given}
 use Rattle.ng_pure.proofs.Applied.{applied_given}
 use Rattle.ng_pure.proofs.Called.{called_plainly}
 use Rattle.ng_pure.proofs.Named.{put_seen, put_distinct, nothing_distinct}
@@ -52,6 +50,10 @@ pub record Begins (scope : ℕ) (s : State) : Type 0 where
   pub sound : AreObjects s.objects
   pub there : object_at s.scopes scope < length s.objects
   pub locals : LocalsStand (length s.objects) s.locals
+
+-- a pattern of a filter has short lists
+abbrev ShortAt : ℕ → State → List ℕ → Trees → Type 0
+ShortAt scope s name ts = HasShortPattern s.objects (object_at s.scopes scope) s.locals name ts
 
 constant_seen : (n from : ℕ) (now : List Object) (c : Constant) → Seen n from now (prim (constant_value c)) (prim (constant_value c))
 constant_seen n from now constants.True = (refl, tt)
@@ -146,7 +148,7 @@ call_follows go s from mid name k u t args asked g a b pure e h =
         (method_given from (length mid) s.objects mid after (grown_on s.objects mid after g x) x a b (omega arith) m u t vs ws e q.0))
 
 filter_follows : (s : State) (from : ℕ) (now : List Object) (name : List ℕ) (k : ℕ) (u t : ViewTree) (vs ws : List ViewTree)
-    → Grown s.objects now → from ≤ length now → IsTrue (known name k) → (bytes_eq name (codes "filter") ≡ true → NoList (first_of (views_from ws))) → Seen (length s.objects) from now u t → AllSeen (length s.objects) from now vs ws → length ws ≡ k
+    → Grown s.objects now → from ≤ length now → IsTrue (known name k) → (bytes_eq name (codes "filter") ≡ true → HasShortLists (first_of (views_from ws))) → Seen (length s.objects) from now u t → AllSeen (length s.objects) from now vs ws → length ws ≡ k
     → Follows (SeenAt (length s.objects) from) s now (stores_result (filter_result now name u vs) (with_objects now s)) (applied s.objects name t (views_from ws))
 filter_follows s from now name k u t vs ws g h known_is pattern e r many =
     let n = length s.objects in
@@ -155,7 +157,7 @@ filter_follows s from now name k u t vs ws g h known_is pattern e r many =
     (follows_stored_result n from s now h (applied now name u (views_from vs)) (applied s.objects name t (views_from ws)) (applied_given from s.objects now name g (length vs) is u t vs ws pattern e r))
 
 mutual
-  tree_follows : (go : Doing) (scope : ℕ) (s : State) → Begins scope s → (t : Tree) → IsPure t → IsKnown t → IsCovered t → (now : List Object) → Grown s.objects now
+  tree_follows : (go : Doing) (scope : ℕ) (s : State) → Begins scope s → (t : Tree) → IsPure t → IsKnown t → EachFilter (ShortAt scope s) t → (now : List Object) → Grown s.objects now
       → Follows (SeenAt (length s.objects) (length now)) s now (acted go scope t (with_objects now s)) (evaluated s.objects (object_at s.scopes scope) s.locals t)
   tree_follows go scope s c (a_number k) p q f now g = follows_result (SeenAt (length s.objects) (length now)) s now (as_view (in_range (pos k))) (as_view (in_range (pos k))) (whole_seen (length s.objects) (length now) now (pos k))
   tree_follows go scope s c (a_text t) p q f now g = follows_ok (SeenAt (length s.objects) (length now)) s now (prim (value.Text t)) (prim (value.Text t)) (refl, tt)
@@ -266,10 +268,10 @@ mutual
       (λ mid v w is e r. follows_then_is (AllAt n (length now) (count_of ts)) R s mid (acted_all go scope [] ts (with_objects mid s)) (evaluated_all s.objects so s.locals [] ts) (λ vs b. stores_result (filter_result b.objects name v vs) b) (λ vs. applied s.objects name w (views_from vs))
       (trees_follow go scope s c ts p.1 q.1.1 f.1.1 mid (grown_on s.objects now mid g e) (length now) e.no_fewer [] [] tt (count_of ts) (omega arith))
       (λ after vs ws are d m. filter_follows s (length now) after name (count_of ts) v w vs ws (grown_on s.objects mid after (grown_on s.objects now mid g e) d) (let k : length now ≤ length mid = e.no_fewer in let l : length mid ≤ length after = d.no_fewer in omega arith) q.0
-      (λ j. pattern_given s.objects so s.locals ts ws (f.0 j) are)
+      (λ j. f.0 j ws are)
       (seen_on n (length now) (length now) mid after d (omega arith) v w r) m.0 m.1))
 
-  trees_follow : (go : Doing) (scope : ℕ) (s : State) → Begins scope s → (ts : Trees) → ArePure ts → FiltersKnown ts → AreCovered ts → (now : List Object) → Grown s.objects now → (from : ℕ) → from ≤ length now
+  trees_follow : (go : Doing) (scope : ℕ) (s : State) → Begins scope s → (ts : Trees) → ArePure ts → FiltersKnown ts → EachFilterOfAll (ShortAt scope s) ts → (now : List Object) → Grown s.objects now → (from : ℕ) → from ≤ length now
       → (us ws : List ViewTree) → AllSeen (length s.objects) from now us ws → (k : ℕ) → length ws + count_of ts ≡ k
       → Follows (AllAt (length s.objects) from k) s now (acted_all go scope us ts (with_objects now s)) (evaluated_all s.objects (object_at s.scopes scope) s.locals ws ts)
   trees_follow go scope s c no_trees p q f now g from h us ws d k many = follows_ok (AllAt (length s.objects) from k) s now us ws (d, omega arith)
@@ -283,7 +285,7 @@ mutual
       (one_more (Seen n from after) us ws v w (all_on n from from now after e (omega arith) us ws d) (seen_on n (length now) from after after (extends_self after) h v w r))
       k (omega (arith, length-append ws (w ∷ []))))
 
-  pair_follows : (go : Doing) (scope : ℕ) (s : State) → Begins scope s → (p : PairTree) → IsPurePair p → IsPairKnown p → IsPairCovered p → (now : List Object) → Grown s.objects now
+  pair_follows : (go : Doing) (scope : ℕ) (s : State) → Begins scope s → (p : PairTree) → IsPurePair p → IsPairKnown p → EachFilterOfPair (ShortAt scope s) p → (now : List Object) → Grown s.objects now
       → Follows (FieldAt (length s.objects) (length now)) s now (acted_pair go scope p (with_objects now s)) (evaluated_pair s.objects (object_at s.scopes scope) s.locals p)
   pair_follows go scope s c (labelled l t) p q f now g =
       let n = length s.objects in
@@ -309,7 +311,7 @@ mutual
       (λ last x y k z. follows_ok F s last (a, x) (b, y)
       (m, seen_on n (length after) (length now) last last (extends_self last) (let o : length now ≤ length mid = e.no_fewer in let o2 : length mid ≤ length after = d.no_fewer in omega arith) x y z))))
 
-  pairs_follow : (go : Doing) (scope : ℕ) (s : State) → Begins scope s → (ps : Pairs) → ArePurePairs ps → ArePairsKnown ps → ArePairsCovered ps → (now : List Object) → Grown s.objects now → (from : ℕ) → from ≤ length now
+  pairs_follow : (go : Doing) (scope : ℕ) (s : State) → Begins scope s → (ps : Pairs) → ArePurePairs ps → ArePairsKnown ps → EachFilterOfPairs (ShortAt scope s) ps → (now : List Object) → Grown s.objects now → (from : ℕ) → from ≤ length now
       → (fs gs : List Field) → FieldsSeen (length s.objects) from now fs gs → IsDistinct bytes_eq (keys_of gs)
       → Follows (FieldsAt (length s.objects) from) s now (acted_pairs go scope fs ps (with_objects now s)) (evaluated_pairs s.objects (object_at s.scopes scope) s.locals gs ps)
   pairs_follow go scope s c no_pairs p q f now g from h fs gs d k = follows_ok (FieldsAt (length s.objects) from) s now fs gs (d, k)
@@ -321,7 +323,7 @@ mutual
       (λ after v w e r. pairs_follow go scope s c ps p.1 q.1 f.1 after (grown_on s.objects now after g e) from (let o : length now ≤ length after = e.no_fewer in omega arith) (insert_entry bytes_eq fs v.0 v.1) (insert_entry bytes_eq gs w.0 w.1)
       (put_seen n from after fs gs v w (fields_on n from from now after e (omega arith) fs gs d) (r.0, seen_on n (length now) from after after (extends_self after) h v.1 w.1 r.1)) (put_distinct gs w.0 w.1 k))
 
-pub statements_follow : (go : Doing) (scope : ℕ) (s : State) → Begins scope s → (ts : Trees) → ArePure ts → FiltersKnown ts → AreCovered ts → (now : List Object) → Grown s.objects now → (from : ℕ) → from ≤ length now → (u t : ViewTree) → Seen (length s.objects) from now u t
+pub statements_follow : (go : Doing) (scope : ℕ) (s : State) → Begins scope s → (ts : Trees) → ArePure ts → FiltersKnown ts → EachFilterOfAll (ShortAt scope s) ts → (now : List Object) → Grown s.objects now → (from : ℕ) → from ≤ length now → (u t : ViewTree) → Seen (length s.objects) from now u t
     → Follows (SeenAt (length s.objects) from) s now (statements go scope u ts (with_objects now s)) (evaluated_statements s.objects (object_at s.scopes scope) s.locals t ts)
 statements_follow go scope s c no_trees p q f now g from h u t d = follows_ok (SeenAt (length s.objects) from) s now u t d
 statements_follow go scope s c (tree_then x ts) p q f now g from h u t d =

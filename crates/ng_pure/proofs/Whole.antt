@@ -42,11 +42,11 @@ ended s st a x after e same h = record {
 }
 
 pub pure_law : PureLaw
-pure_law room scope locals p s ready pure known covered n =
+pure_law room scope locals p s ready pure known short n =
     let here : State = with_locals locals s in
     let r = programmed (does room) scope p here in
     let asked = evaluated_program s.objects (object_at s.scopes scope) locals p in
     let ran =
-    statements_follow (does room) scope here (record { sound = ready.sound; there = ready.there; locals = ready.local }) p pure known covered s.objects
+    statements_follow (does room) scope here (record { sound = ready.sound; there = ready.there; locals = ready.local }) p pure known short s.objects
     (record { sound = ready.sound; no_fewer = omega arith; unchanged = λ q h. refl }) (length s.objects) (omega arith) nothing nothing (refl, tt) n in
     ended here r.0 r.1 asked ran.after ran.extends ran.state ran.answer

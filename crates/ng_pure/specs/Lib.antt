@@ -1,3 +1,3 @@
 pub mod Showing
-pub mod Covered
+pub mod Patterns
 pub mod Pure

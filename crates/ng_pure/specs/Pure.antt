@@ -13,7 +13,7 @@ use Rattle.ng_view.specs.Purity.{ArePure, FiltersKnown}
 use Rattle.ng_write.specs.Reading.{Extends}
 use Rattle.ng_act.specs.Running.{act_run}
 use Rattle.ng_act.specs.State.{State, Run, with_objects, with_locals}
-use Rattle.ng_pure.specs.Covered.{AreCovered}
+use Rattle.ng_pure.specs.Patterns.{HasShortPatterns}
 use Rattle.ng_pure.specs.Showing.{Shows}
 
 -- what holds where a program is run: the objects are those of a store, and the scope's object and the locals stand
@@ -41,9 +41,11 @@ pub record IsEvaluation (s : State) (asked : Result ViewTree Fault) (r : Run Val
   pub state : r.0 ≡ with_objects after s
   pub answer : Answers (length s.objects) after r.1 asked
 
--- Running a pure program is evaluating it, unless evaluation gives up since what is called is a function.
+-- Running a pure program is evaluating it, unless evaluation gives up since what is called is a function. Where a list stands in
+-- a pattern of the filter `filter`, it is to be no longer than an array can be.
 abbrev pub PureLaw : Type 0
 PureLaw =
-    (room scope : ℕ) (locals : List Local) (p : Trees) (s : State) → IsReady scope locals s → ArePure p → FiltersKnown p → AreCovered p
+    (room scope : ℕ) (locals : List Local) (p : Trees) (s : State) → IsReady scope locals s → ArePure p → FiltersKnown p
+    → HasShortPatterns s.objects (object_at s.scopes scope) locals p
     → ¬ (evaluated_program s.objects (object_at s.scopes scope) locals p ≡ Err ImpureCall)
     → IsEvaluation (with_locals locals s) (evaluated_program s.objects (object_at s.scopes scope) locals p) (act_run room scope locals p s)
