@@ -1,105 +1,102 @@
 -- An edit of one node is a change at one place of what stands.
-use Rattle.std.proofs.Common.{◌≡◌, ℕ, Bool, true, false, List, [], ◌∷◌, ◌++◌, Option, Some, refl, ap, ◌∙◌, sym, cond}
+use Rattle.std.proofs.Common.{◌≡◌, ℕ, Bool, true, false, List, [], ◌∷◌, Option, Some, refl, ap, ◌∙◌, sym, cond}
 use Rattle.std.specs.Prelude.{◌==◌}
 use Rattle.std.proofs.lemmas.Bool.{eqb-true, eqb-false}
 use Rattle.ng_base.specs.declared.path.Key.{Key}
+use Rattle.ng_markup.specs.Forest.{Attributes}
 use Rattle.ng_dom.specs.Nodes.{NamedNode, NamedForest, NamedGroups, named_text, named_comment, named_element, named_anchor, named_then, group_then, name_of, names_of, group_names}
-use Rattle.ng_dom.specs.Editing.{changed, changed_in, changed_groups, at_name, with_text, with_groups}
+use Rattle.ng_dom.specs.Editing.{changed, changed_in, changed_groups, at_name, with_text, with_attributes, with_groups}
 use Rattle.ng_dom.specs.Rooms.{Room, Rooms, anchor_shape, room_of, HasRoom, ReadsInside, ReadsIn, ReadsGroups}
-use Rattle.ng_dom.specs.Drawing.{Stand, Stands, Bodies, Place, Source, DrawnAttributes, text_stands, comment_stands, element_stands, block_stands, none_stand, stand_then, no_bodies, body_then, in_text, in_attribute, of_text, of_comment, joined, drawn_attributes, show, shows, show_bodies, HolesAt, AttributesAt, Held, HeldAll, HeldBodies, DifferAt, at_block, at_block_all, at_block_bodies}
-use Rattle.ng_dom.specs.Laws.{TextWritten, GroupsChanged}
+use Rattle.ng_dom.specs.Drawing.{Look, Stand, Stands, Bodies, Source, DrawnAttributes, text_stands, comment_stands, element_stands, block_stands, none_stand, stand_then, no_bodies, body_then, of_text, of_comment, of_element, joined, drawn_attributes, show, shows, show_bodies, Held, HeldAll, HeldBodies, DifferAt, at_block, at_block_all, at_block_bodies}
+use Rattle.ng_dom.specs.Laws.{TextWritten, AttributesWritten, GroupsChanged}
 use Rattle.ng_dom.specs.declared.record.Piece.{Piece}
-use Rattle.ng_dom.specs.declared.record.Piece.TheVariants.{Words, Hole}
+use Rattle.ng_dom.proofs.Attributes.{same_joined, same_attributes}
 
-abbrev node_in : Place → ℕ
-node_in (in_text n) = n
-node_in (in_attribute n a) = n
+-- a change of a name: what the node of this name becomes, and what any other node is
+by_name : (n : ℕ) (g : NamedNode → NamedNode) (x y : NamedNode) → (name_of x ≡ n → g x ≡ y) → ((name_of x ≡ n → ⊥) → x ≡ y) → at_name n g x ≡ y
+by_name n g x y at apart = by_test (name_of x == n) refl
+  where
+    by_test : (b : Bool) → (name_of x == n) ≡ b → cond b (g x) x ≡ y
+    by_test true e = at (eqb-true (name_of x) n e)
+    by_test false e = apart (eqb-false (name_of x) n e)
 
-abbrev is_text : Place → Bool
-is_text (in_text n) = true
-is_text (in_attribute n a) = false
+-- a change draws a node anew that is drawn from this
+record Redraws (v w : Key → Look) (s : Source) (g : NamedNode → NamedNode) : Type 0 where
+  text : (m : ℕ) (ps : List Piece) → s ≡ of_text ps → g (named_text m (joined v ps)) ≡ named_text m (joined w ps)
+  comment : (m : ℕ) (t : List ℕ) → s ≡ of_comment → g (named_comment m t) ≡ named_comment m t
+  element : (m : ℕ) (e : List ℕ) (ats : DrawnAttributes) (f : NamedForest) → s ≡ of_element ats → g (named_element m e (drawn_attributes v ats) f) ≡ named_element m e (drawn_attributes w ats) f
+  anchor : (m : ℕ) (gs : NamedGroups) → g (named_anchor m gs) ≡ named_anchor m gs
 
--- pieces at another place have no hole of this key
-pub other : (site : Key → Option Place) (k : Key) (at p : Place) (v w : Key → List ℕ) → site k ≡ Some at → (p ≡ at → ⊥) → DifferAt k v w → (ps : List Piece) → HolesAt site p ps → joined v ps ≡ joined w ps
-other site k at p v w here apart off [] h = refl
-other site k at p v w here apart off (Words t ∷ ps) h = ap (λ (r : List ℕ). t ++ r) (other site k at p v w here apart off ps h)
-other site k at p v w here apart off (Hole q ∷ ps) h =
-    let ne : q ≡ k → ⊥ = λ e. apart (let two : Some p ≡ Some at = sym h.0 ∙ (ap site e ∙ here) in cc) in
-    ap (λ (x : List ℕ). x ++ joined v ps) (off q ne) ∙ ap (λ (r : List ℕ). w q ++ r) (other site k at p v w here apart off ps h.1)
+-- where a key of a node shows something else and a change draws that node anew, it draws all anew
+module _ (site : Key → Option ℕ) (home : ℕ → Option Source) (k : Key) (n : ℕ) (s : Source) (g : NamedNode → NamedNode) (v w : Key → Look)
+    (here : site k ≡ Some n) (is : home n ≡ Some s) (off : DifferAt k v w) (anew : Redraws v w s g) where
+  -- in every other node all keys show the same
+  elsewhere : (m : ℕ) → (m ≡ n → ⊥) → (q : Key) → site q ≡ Some m → v q ≡ w q
+  elsewhere m apart q at = off q (λ e. apart (let two : Some m ≡ Some n = sym at ∙ (ap site e ∙ here) in cc))
 
-pub others : (site : Key → Option Place) (k : Key) (at : Place) (m : ℕ) (v w : Key → List ℕ) → site k ≡ Some at → ((a : List ℕ) → in_attribute m a ≡ at → ⊥) → DifferAt k v w → (ats : DrawnAttributes) → AttributesAt site m ats → drawn_attributes v ats ≡ drawn_attributes w ats
-others site k at m v w here apart off [] h = refl
-others site k at m v w here apart off (a ∷ ats) h =
-    ap (λ (t : List ℕ). (a.0, t) ∷ drawn_attributes v ats) (other site k at (in_attribute m a.0) v w here (apart a.0) off a.1 h.0)
-    ∙ ap (λ (r : List (List ℕ × List ℕ)). (a.0, joined w a.1) ∷ r) (others site k at m v w here apart off ats h.1)
-
-module _ (site : Key → Option Place) (home : ℕ → Option Source) (k : Key) (n : ℕ) (ps : List Piece) (v w : Key → List ℕ)
-    (here : site k ≡ Some (in_text n)) (is : home n ≡ Some (of_text ps)) (off : DifferAt k v w) where
-  abbrev write : NamedNode → NamedNode
-  write = with_text (joined w ps)
-
-  text : (m : ℕ) (qs : List Piece) → home m ≡ Some (of_text qs) → HolesAt site (in_text m) qs → (b : Bool) → (m == n) ≡ b → cond b (named_text m (joined w ps)) (named_text m (joined v qs)) ≡ named_text m (joined w qs)
-  text m qs e h true t =
-      let two : Some (of_text ps) ≡ Some (of_text qs) = sym is ∙ (ap home (sym (eqb-true m n t)) ∙ e) in
-      let one : ps ≡ qs = cc in
-      ap (λ (us : List Piece). named_text m (joined w us)) one
-  text m qs e h false t =
-      ap (named_text m) (other site k (in_text n) (in_text m) v w here (λ q. eqb-false m n t (ap node_in q)) off qs h)
-
-  comment : (m : ℕ) (t : List ℕ) → home m ≡ Some of_comment → (b : Bool) → (m == n) ≡ b → cond b (named_comment m (joined w ps)) (named_comment m t) ≡ named_comment m t
-  comment m t e true q =
-      let two : Some (of_text ps) ≡ Some of_comment = sym is ∙ (ap home (sym (eqb-true m n q)) ∙ e) in
-      absurd (cc)
-  comment m t e false q = refl
-
-  untold : (m : ℕ) (e : List ℕ) (ats : List (List ℕ × List ℕ)) (f : NamedForest) → at_name n write (named_element m e ats f) ≡ named_element m e ats f
-  untold m e ats f = by_test (m == n)
-    where
-      by_test : (b : Bool) → cond b (named_element m e ats f) (named_element m e ats f) ≡ named_element m e ats f
-      by_test true = refl
-      by_test false = refl
-
-  untold_anchor : (m : ℕ) (gs : NamedGroups) → at_name n write (named_anchor m gs) ≡ named_anchor m gs
-  untold_anchor m gs = by_test (m == n)
-    where
-      by_test : (b : Bool) → cond b (named_anchor m gs) (named_anchor m gs) ≡ named_anchor m gs
-      by_test true = refl
-      by_test false = refl
+  drawn_from : (m : ℕ) (t : Source) → home m ≡ Some t → m ≡ n → s ≡ t
+  drawn_from m t h e = let two : Some s ≡ Some t = sym is ∙ (ap home (sym e) ∙ h) in cc
 
   mutual
-    write_one : (m : Stand) → Held site home m → changed n write (show v m) ≡ show w m
-    write_one (text_stands m qs) h = text m qs h.0 h.1 (m == n) refl
-    write_one (comment_stands m t) h = comment m t h (m == n) refl
-    write_one (element_stands m e ats ms) h =
-        untold m e (drawn_attributes v ats) (changed_in n write (shows v ms))
-        ∙ (ap (λ (ns : List (List ℕ × List ℕ)). named_element m e ns (changed_in n write (shows v ms))) (others site k (in_text n) m v w here (λ a q. let e : is_text (in_attribute m a) ≡ is_text (in_text n) = ap is_text q in cc) off ats h.1)
-        ∙ ap (named_element m e (drawn_attributes w ats)) (write_all ms h.2))
-    write_one (block_stands m bs) h = untold_anchor m (changed_groups n write (show_bodies v bs)) ∙ ap (named_anchor m) (write_bodies bs h)
+    redrawn : (m : Stand) → Held site home m → changed n g (show v m) ≡ show w m
+    redrawn (text_stands m ps) h =
+        by_name n g (named_text m (joined v ps)) (named_text m (joined w ps)) (λ e. anew.text m ps (drawn_from m (of_text ps) h.0 e))
+        (λ apart. ap (named_text m) (same_joined site m v w (elsewhere m apart) ps h.1))
+    redrawn (comment_stands m t) h =
+        by_name n g (named_comment m t) (named_comment m t) (λ e. anew.comment m t (drawn_from m of_comment h e)) (λ apart. refl)
+    redrawn (element_stands m e ats ms) h =
+        ap (λ (f : NamedForest). at_name n g (named_element m e (drawn_attributes v ats) f)) (all_redrawn ms h.2)
+        ∙ by_name n g (named_element m e (drawn_attributes v ats) (shows w ms)) (named_element m e (drawn_attributes w ats) (shows w ms))
+        (λ q. anew.element m e ats (shows w ms) (drawn_from m (of_element ats) h.0 q))
+        (λ apart. ap (λ (us : Attributes). named_element m e us (shows w ms)) (same_attributes site m v w (elsewhere m apart) ats [] h.1))
+    redrawn (block_stands m bs) h =
+        ap (λ (gs : NamedGroups). at_name n g (named_anchor m gs)) (bodies_redrawn bs h)
+        ∙ by_name n g (named_anchor m (show_bodies w bs)) (named_anchor m (show_bodies w bs)) (λ e. anew.anchor m (show_bodies w bs)) (λ apart. refl)
 
-    write_all : (ms : Stands) → HeldAll site home ms → changed_in n write (shows v ms) ≡ shows w ms
-    write_all none_stand h = refl
-    write_all (stand_then m ms) h = ap (λ (x : NamedNode). named_then x (changed_in n write (shows v ms))) (write_one m h.0) ∙ ap (named_then (show w m)) (write_all ms h.1)
+    all_redrawn : (ms : Stands) → HeldAll site home ms → changed_in n g (shows v ms) ≡ shows w ms
+    all_redrawn none_stand h = refl
+    all_redrawn (stand_then m ms) h = ap (λ (x : NamedNode). named_then x (changed_in n g (shows v ms))) (redrawn m h.0) ∙ ap (named_then (show w m)) (all_redrawn ms h.1)
 
-    write_bodies : (bs : Bodies) → HeldBodies site home bs → changed_groups n write (show_bodies v bs) ≡ show_bodies w bs
-    write_bodies no_bodies h = refl
-    write_bodies (body_then ms bs) h = ap (λ (x : NamedForest). group_then x (changed_groups n write (show_bodies v bs))) (write_all ms h.0) ∙ ap (group_then (shows w ms)) (write_bodies bs h.1)
+    bodies_redrawn : (bs : Bodies) → HeldBodies site home bs → changed_groups n g (show_bodies v bs) ≡ show_bodies w bs
+    bodies_redrawn no_bodies h = refl
+    bodies_redrawn (body_then ms bs) h = ap (λ (x : NamedForest). group_then x (changed_groups n g (show_bodies v bs))) (all_redrawn ms h.0) ∙ ap (group_then (shows w ms)) (bodies_redrawn bs h.1)
+
+text_anew : (v w : Key → Look) (ps : List Piece) → Redraws v w (of_text ps) (with_text (joined w ps))
+text_anew v w ps = record {
+  text = λ m qs e. let one : ps ≡ qs = cc in ap (λ (us : List Piece). named_text m (joined w us)) one;
+  comment = λ m t e. absurd (cc);
+  element = λ m e ats f q. absurd (cc);
+  anchor = λ m gs. refl;
+}
 
 pub text_written : TextWritten
-text_written site home k n ps v w ms here is held off = write_all site home k n ps v w here is off ms held
+text_written site home k n ps v w ms here is held off = all_redrawn site home k n (of_text ps) (with_text (joined w ps)) v w here is off (text_anew v w ps) ms held
+
+attributes_anew : (v w : Key → Look) (ats : DrawnAttributes) → Redraws v w (of_element ats) (with_attributes (λ _. drawn_attributes w ats))
+attributes_anew v w ats = record {
+  text = λ m ps e. absurd (cc);
+  comment = λ m t e. refl;
+  element = λ m e bs f q. let one : ats ≡ bs = cc in ap (λ (us : DrawnAttributes). named_element m e (drawn_attributes w us) f) one;
+  anchor = λ m gs. refl;
+}
+
+pub attributes_written : AttributesWritten
+attributes_written site home k n ats v w ms here is held off =
+    all_redrawn site home k n (of_element ats) (with_attributes (λ _. drawn_attributes w ats)) v w here is off (attributes_anew v w ats) ms held
 
 -- the names of what stands don't change with the bodies of a block
-same_name : (v : Key → List ℕ) (a : ℕ) (h : Bodies → Bodies) (m : Stand) → name_of (show v (at_block a h m)) ≡ name_of (show v m)
+same_name : (v : Key → Look) (a : ℕ) (h : Bodies → Bodies) (m : Stand) → name_of (show v (at_block a h m)) ≡ name_of (show v m)
 same_name v a h (text_stands n ps) = refl
 same_name v a h (comment_stands n t) = refl
 same_name v a h (element_stands n e ats ms) = refl
 same_name v a h (block_stands n bs) = refl
 
-same_names : (v : Key → List ℕ) (a : ℕ) (h : Bodies → Bodies) (ms : Stands) → names_of (shows v (at_block_all a h ms)) ≡ names_of (shows v ms)
+same_names : (v : Key → Look) (a : ℕ) (h : Bodies → Bodies) (ms : Stands) → names_of (shows v (at_block_all a h ms)) ≡ names_of (shows v ms)
 same_names v a h none_stand = refl
 same_names v a h (stand_then m ms) =
     ap (λ (n : ℕ). n ∷ names_of (shows v (at_block_all a h ms))) (same_name v a h m) ∙ ap (λ (ns : List ℕ). name_of (show v m) ∷ ns) (same_names v a h ms)
 
-same_groups : (v : Key → List ℕ) (a : ℕ) (h : Bodies → Bodies) (bs : Bodies) → group_names (show_bodies v (at_block_bodies a h bs)) ≡ group_names (show_bodies v bs)
+same_groups : (v : Key → Look) (a : ℕ) (h : Bodies → Bodies) (bs : Bodies) → group_names (show_bodies v (at_block_bodies a h bs)) ≡ group_names (show_bodies v bs)
 same_groups v a h no_bodies = refl
 same_groups v a h (body_then ms bs) =
     ap (λ (n : List ℕ). n ∷ group_names (show_bodies v (at_block_bodies a h bs))) (same_names v a h ms) ∙ ap (λ (ns : List (List ℕ)). names_of (shows v ms) ∷ ns) (same_groups v a h bs)
@@ -113,7 +110,7 @@ room_groups r p a m x gs us e here shape has =
     let four : gs ≡ group_names us = cc in
     sym four
 
-module _ (r : Rooms) (a : ℕ) (x : Room) (gs : List (List ℕ)) (v : Key → List ℕ) (f : NamedGroups → NamedGroups) (h : Bodies → Bodies)
+module _ (r : Rooms) (a : ℕ) (x : Room) (gs : List (List ℕ)) (v : Key → Look) (f : NamedGroups → NamedGroups) (h : Bodies → Bodies)
     (here : r a ≡ Some x) (shape : x.shape ≡ anchor_shape gs)
     (fits : (bs : Bodies) → group_names (show_bodies v bs) ≡ gs → f (show_bodies v bs) ≡ show_bodies v (h bs)) where
   at_anchor : (p : Option ℕ) (m : ℕ) (bs : Bodies) → HasRoom r p (named_anchor m (show_bodies v bs)) → changed_groups a (with_groups f) (show_bodies v bs) ≡ show_bodies v (at_block_bodies a h bs)
@@ -126,32 +123,14 @@ module _ (r : Rooms) (a : ℕ) (x : Room) (gs : List (List ℕ)) (v : Key → Li
           rw e (ap (named_anchor m) (ap f below ∙ fits (at_block_bodies a h bs) names))
       by_name false e = rw e (ap (named_anchor m) below)
 
-  unmoved : (m : ℕ) (e : List ℕ) (ats : List (List ℕ × List ℕ)) (g : NamedForest) → at_name a (with_groups f) (named_element m e ats g) ≡ named_element m e ats g
-  unmoved m e ats g = by_test (m == a)
-    where
-      by_test : (b : Bool) → cond b (named_element m e ats g) (named_element m e ats g) ≡ named_element m e ats g
-      by_test true = refl
-      by_test false = refl
-
-  unmoved_text : (m : ℕ) (t : List ℕ) → at_name a (with_groups f) (named_text m t) ≡ named_text m t
-  unmoved_text m t = by_test (m == a)
-    where
-      by_test : (b : Bool) → cond b (named_text m t) (named_text m t) ≡ named_text m t
-      by_test true = refl
-      by_test false = refl
-
-  unmoved_comment : (m : ℕ) (t : List ℕ) → at_name a (with_groups f) (named_comment m t) ≡ named_comment m t
-  unmoved_comment m t = by_test (m == a)
-    where
-      by_test : (b : Bool) → cond b (named_comment m t) (named_comment m t) ≡ named_comment m t
-      by_test true = refl
-      by_test false = refl
+  unmoved : (x : NamedNode) → with_groups f x ≡ x → at_name a (with_groups f) x ≡ x
+  unmoved x e = by_name a (with_groups f) x x (λ q. e) (λ apart. refl)
 
   mutual
     change_one : (p : Option ℕ) (m : Stand) → HasRoom r p (show v m) → ReadsInside r (show v m) → changed a (with_groups f) (show v m) ≡ show v (at_block a h m)
-    change_one p (text_stands n ps) has t = unmoved_text n (joined v ps)
-    change_one p (comment_stands n u) has t = unmoved_comment n u
-    change_one p (element_stands n e ats ms) has t = unmoved n e (drawn_attributes v ats) (changed_in a (with_groups f) (shows v ms)) ∙ ap (named_element n e (drawn_attributes v ats)) (change_all (Some n) ms t)
+    change_one p (text_stands n ps) has t = unmoved (named_text n (joined v ps)) refl
+    change_one p (comment_stands n u) has t = unmoved (named_comment n u) refl
+    change_one p (element_stands n e ats ms) has t = unmoved (named_element n e (drawn_attributes v ats) (changed_in a (with_groups f) (shows v ms))) refl ∙ ap (named_element n e (drawn_attributes v ats)) (change_all (Some n) ms t)
     change_one p (block_stands n bs) has t = at_anchor p n bs has (change_bodies (Some n) bs t)
 
     change_all : (p : Option ℕ) (ms : Stands) → ReadsIn r p (shows v ms) → changed_in a (with_groups f) (shows v ms) ≡ shows v (at_block_all a h ms)

@@ -2,41 +2,41 @@
 use Rattle.std.specs.Prelude.{ℕ, ◌≡◌, true, List, Option, Some, None, option_map}
 use Rattle.ng_base.specs.declared.path.Key.{Key}
 use Rattle.ng_dom.specs.Nodes.{NamedNode, NamedForest, NamedGroups, name_of, names_of, group_names, plain}
-use Rattle.ng_dom.specs.Editing.{changed_in, with_text, with_groups, with_attributes, attribute_set}
+use Rattle.ng_dom.specs.Editing.{changed_in, with_text, with_groups, with_attributes}
 use Rattle.ng_dom.specs.Rooms.{Rooms, Room, ReadsIn, anchor_shape}
 use Rattle.ng_dom.specs.Lists.{among}
 use Rattle.ng_dom.specs.Removal.{Spares}
 use Rattle.ng_dom.specs.Asked.{first_with_id}
 use Rattle.ng_dom.specs.Printed.{at_place, plain_at, plain_node_of}
 use Rattle.ng_dom.specs.Paths.{StandsIn}
-use Rattle.ng_dom.specs.Drawing.{Stands, Bodies, Place, Source, DrawnAttributes, AtPlace, in_text, in_attribute, of_text, of_element, HeldAll, DifferAt, joined, shows, show_bodies, at_block_all}
+use Rattle.ng_dom.specs.Drawing.{Look, Stands, Bodies, Source, DrawnAttributes, of_text, of_element, HeldAll, DifferAt, joined, drawn_attributes, shows, show_bodies, at_block_all}
 use Rattle.ng_dom.specs.declared.record.Piece.{Piece}
 
 -- a table has one forest under these names
 abbrev pub OneReading : Type 0
 OneReading = (r : Rooms) (p : Option ℕ) (f g : NamedForest) → ReadsIn r p f → ReadsIn r p g → names_of f ≡ names_of g → f ≡ g
 
--- a key has a new text: to write the text of its node is to draw what stands anew
+-- a key shows something else: to write the text of its node is to draw what stands anew
 abbrev pub TextWritten : Type 0
 TextWritten =
-    (site : Key → Option Place) (home : ℕ → Option Source) (k : Key) (n : ℕ) (ps : List Piece) (v w : Key → List ℕ) (ms : Stands)
-    → site k ≡ Some (in_text n) → home n ≡ Some (of_text ps) → HeldAll site home ms → DifferAt k v w
+    (site : Key → Option ℕ) (home : ℕ → Option Source) (k : Key) (n : ℕ) (ps : List Piece) (v w : Key → Look) (ms : Stands)
+    → site k ≡ Some n → home n ≡ Some (of_text ps) → HeldAll site home ms → DifferAt k v w
     → changed_in n (with_text (joined w ps)) (shows v ms) ≡ shows w ms
 
 -- a block has other bodies: to change the groups of its anchor, which have these names, is to draw what stands then
 abbrev pub GroupsChanged : Type 0
 GroupsChanged =
-    (r : Rooms) (p : Option ℕ) (a : ℕ) (x : Room) (gs : List (List ℕ)) (v : Key → List ℕ) (ms : Stands) (f : NamedGroups → NamedGroups) (h : Bodies → Bodies)
+    (r : Rooms) (p : Option ℕ) (a : ℕ) (x : Room) (gs : List (List ℕ)) (v : Key → Look) (ms : Stands) (f : NamedGroups → NamedGroups) (h : Bodies → Bodies)
     → ReadsIn r p (shows v ms) → r a ≡ Some x → x.shape ≡ anchor_shape gs
     → ((bs : Bodies) → group_names (show_bodies v bs) ≡ gs → f (show_bodies v bs) ≡ show_bodies v (h bs))
     → changed_in a (with_groups f) (shows v ms) ≡ shows v (at_block_all a h ms)
 
--- an attribute has a new text: to set it is to draw what stands anew
-abbrev pub AttributeWritten : Type 0
-AttributeWritten =
-    (site : Key → Option Place) (home : ℕ → Option Source) (k : Key) (n : ℕ) (a : List ℕ) (ps : List Piece) (ats : DrawnAttributes) (v w : Key → List ℕ) (ms : Stands)
-    → site k ≡ Some (in_attribute n a) → home n ≡ Some (of_element ats) → AtPlace a ps ats → HeldAll site home ms → DifferAt k v w
-    → changed_in n (with_attributes (attribute_set a (joined w ps))) (shows v ms) ≡ shows w ms
+-- a key shows something else: to draw the attributes of its element anew is to draw what stands anew
+abbrev pub AttributesWritten : Type 0
+AttributesWritten =
+    (site : Key → Option ℕ) (home : ℕ → Option Source) (k : Key) (n : ℕ) (ats : DrawnAttributes) (v w : Key → Look) (ms : Stands)
+    → site k ≡ Some n → home n ≡ Some (of_element ats) → HeldAll site home ms → DifferAt k v w
+    → changed_in n (with_attributes (λ _. drawn_attributes w ats)) (shows v ms) ≡ shows w ms
 
 -- what was read before a name was given isn't changed by a change of the node of that name
 abbrev pub NewNamesStandApart : Type 0

@@ -21,7 +21,7 @@ use crate::fault::DomFault;
 use crate::finding::find_all;
 use crate::nodes::{
     add, cut_group, cut_name, drop_attribute, empty_group, fill, move_kid, parent_of, pick_groups,
-    put_group, put_kid, set_attribute, take, tell,
+    put_group, put_kid, replace_attributes, set_attribute, take, tell,
 };
 use crate::paths::{Way, reversed, way_all};
 use crate::printing::add_all;
@@ -352,6 +352,15 @@ impl Dom {
     {
         set_attribute(&mut self.nodes, n.made.0, name, v)?;
         Ok(())
+    }
+
+    /// An element has these attributes in place of its own.
+    pub fn set_attrs(&mut self, n: NodeId, ats: BTreeMap<Txt, Txt>)
+        ensures rooms { (q : ℕ) → rooms self.new q ≡ room_changed n.made.0 (shape_with_attributes (λ _. ats.entries)) (rooms self.old) q }
+        ensures reads { Becomes self.old self.new (changed_in n.made.0 (with_attributes (λ _. ats.entries))) }
+        ensures stays { Stays self.old self.new }
+    {
+        replace_attributes(&mut self.nodes, n.made.0, ats);
     }
 
     /// An element has no attribute of this name.

@@ -265,6 +265,19 @@ pub fn set_attribute(node: &mut Record, name: &Txt, v: Txt) -> Result<(), AllocE
     }
 }
 
+/// An element has these attributes in place of its own.
+pub fn replace_attributes(node: &mut Record, ats: BTreeMap<Txt, Txt>)
+    ensures room { room_kept node.new ≡ reshaped (shape_with_attributes (λ _. ats.entries)) (room_kept node.old) }
+    ensures home { node.new.home ≡ node.old.home }
+{
+    match &mut node.content {
+        Content::Element { attributes, .. } => *attributes = ats,
+        Content::Text(_) => {}
+        Content::Comment(_) => {}
+        Content::Anchor(_) => {}
+    }
+}
+
 /// An element has no attribute of this name.
 pub fn drop_attribute(node: &mut Record, name: &Txt)
     ensures room { room_kept node.new ≡ reshaped (shape_with_attributes (attribute_dropped name.now)) (room_kept node.old) }

@@ -1,5 +1,5 @@
 //! The laws of the drawing: an edit of one node is a change at one place of what stands.
-ghost use Rattle.ng_dom.specs.Laws.{AttributeWritten, GroupsChanged, NewNamesAreSpared, NewNamesStandApart, OneReading, PlacesArePrinted, PlacesStand, FoundStand, TextWritten};
+ghost use Rattle.ng_dom.specs.Laws.{AttributesWritten, GroupsChanged, NewNamesAreSpared, NewNamesStandApart, OneReading, PlacesArePrinted, PlacesStand, FoundStand, TextWritten};
 
 /// A key has a new text: to write the text of its node is to draw what stands anew.
 pub fn text_written()
@@ -11,9 +11,9 @@ pub fn groups_changed()
     ensures { GroupsChanged }
 {}
 
-/// An attribute has a new text: to set it is to draw what stands anew.
-pub fn attribute_written()
-    ensures { AttributeWritten }
+/// A key shows something else: to draw the attributes of its element anew is to draw what stands anew.
+pub fn attributes_written()
+    ensures { AttributesWritten }
 {}
 
 /// A table has one forest under given names.

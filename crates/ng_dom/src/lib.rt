@@ -1,10 +1,10 @@
 //! The document of a page, as nodes by name.
 //!
-//! A compiled template is linked to a document that lives on: a watch that fires changes one text or attribute of it, a block
-//! brings and takes nodes (guide: HTML Compiler, "How directives are compiled"). [`dom::Dom`] keeps the nodes in one map by
-//! name, and a name is never given twice. A text or comment has its text, an element its attributes in order of their names and
-//! its children by name, and an anchor, which stands for a block, the groups of nodes that the block brought, one for each body
-//! or row. With each node stands what it is drawn from: plain words, and holes by the key of their watcher.
+//! A compiled template is linked to a document that lives on: a watch that fires changes one text of it or the attributes of one
+//! element, a block brings and takes nodes (guide: HTML Compiler, "How directives are compiled"). [`dom::Dom`] keeps the nodes in
+//! one map by name, and a name is never given twice. A text or comment has its text, an element its attributes in order of their
+//! names and its children by name, and an anchor, which stands for a block, the groups of nodes that the block brought, one for
+//! each body or row. With each node stands what it is drawn from: plain words, and for what is watched the key of its watcher.
 //!
 //! What the crates above use:
 //!
@@ -12,8 +12,8 @@
 //!   local look-ups, which holds of the document (`Shows`) and of each piece that is built apart. A map has one forest at most
 //!   under given names.
 //! - Each call that changes something says what becomes of every forest that was there: `changed_in n g`, the forest with the node
-//!   n changed by g wherever it stands. `set_text`, `set_attr` and `drop_attr` look one node up; `insert_group`, `cut_group` and
-//!   `pick_groups` change the list of one anchor. None of them depends on the size of the document.
+//!   n changed by g wherever it stands. `set_text`, `set_attrs`, `set_attr` and `drop_attr` look one node up; `insert_group`,
+//!   `cut_group` and `pick_groups` change the list of one anchor. None of them depends on the size of the document.
 //! - A piece is built apart: `make_top` or `make_part` makes a node for a parent that does not hold it yet, `fill` gives an element
 //!   its children at once, and `show` makes the piece the whole document, `insert_group` a group of an anchor, by one edit. Until
 //!   then the document is read as before; the nodes of the piece are live, though. Each call costs a look-up.
@@ -29,9 +29,10 @@
 //! - `forest`, `print`, `by_id` and `path` walk the document from the top. No walk goes deeper than names were given, as a child has a
 //!   later name than its parent.
 //!
-//! `Drawing` says what is drawn for what stands of a template, given the text of each hole, and [`laws`] what carries linking and
-//! firing: to write a text is to draw with the new text of its key, to change an anchor's groups is to change the bodies of its
-//! block. `Printed` says which node is at a path; the node without its name is the one that the plain forest has there.
+//! `Drawing` says what is drawn for what stands of a template, given what each key shows, and [`laws`] what carries linking and
+//! firing: to write the text of a node, or the attributes of an element, is to draw all with what its key shows now, and to change
+//! an anchor's groups is to change the bodies of its block. `Printed` says which node is at a path; the node without its name is
+//! the one that the plain forest has there.
 //!
 //! Not here: what is registered for a node, which values its holes have, and when a block fires.
 #![tactic(auto)]

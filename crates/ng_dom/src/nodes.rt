@@ -63,6 +63,17 @@ pub fn set_attribute(
     }
 }
 
+/// An element has these attributes in place of its own.
+pub fn replace_attributes(nodes: &mut BTreeMap<u64, Record>, n: u64, ats: BTreeMap<Txt, Txt>)
+    ensures rooms { (q : ℕ) → rooms_of nodes.new q ≡ room_changed n (shape_with_attributes (λ _. ats.entries)) (rooms_of nodes.old) q }
+    ensures same { SameNodes nodes.old nodes.new }
+{
+    match nodes.get_mut(&n) {
+        None => {}
+        Some(node) => edits::replace_attributes(node, ats),
+    }
+}
+
 /// An element has no attribute of this name.
 pub fn drop_attribute(nodes: &mut BTreeMap<u64, Record>, n: u64, name: &Txt)
     ensures rooms { (q : ℕ) → rooms_of nodes.new q ≡ room_changed n (shape_with_attributes (attribute_dropped name.now)) (rooms_of nodes.old) q }

@@ -15,14 +15,42 @@ pub enum Piece {
     Hole(Key),
 }
 
-/// An attribute and what its value is drawn from.
+/// An element is hidden while the value of a watcher is true, or while it is not (API: ngShow, ngHide).
+#[derive(Drop)]
+pub enum Hiding {
+    WhileTrue(Key),
+    WhileFalse(Key),
+}
+
+/// What a class is drawn from: whether the template has one, what is written there, the watchers whose words it gets, and those that
+/// hide the element (API: ngClass).
+#[derive(Drop)]
+pub struct DrawnClass {
+    pub written: bool,
+    pub pieces: Vec<Piece>,
+    pub words: Vec<Key>,
+    pub hidings: Vec<Hiding>,
+}
+
+/// What an attribute is drawn from: pieces, whose text always stands; pieces whose text stands where it is not empty; a word, which
+/// stands where the value of a watcher is true; or the words of a class.
+#[derive(Drop)]
+pub enum DrawnValue {
+    Always(Vec<Piece>),
+    UnlessEmpty(Vec<Piece>),
+    Flag(Txt, Key),
+    Classes(DrawnClass),
+}
+
+/// An attribute and what it is drawn from.
 #[derive(Drop)]
 pub struct Drawn {
     pub name: Txt,
-    pub pieces: Vec<Piece>,
+    pub value: DrawnValue,
 }
 
-/// What a node is drawn from, which never changes: nothing, a text's pieces, or those of an element's attributes.
+/// What a node is drawn from, which never changes: nothing, a text's pieces, or what an element's attributes are drawn from, in the
+/// order in which they are set.
 #[derive(Drop)]
 pub enum Home {
     Plain,

@@ -1,2 +1,3 @@
+pub mod Words
 pub mod Fresh
 pub mod Counted

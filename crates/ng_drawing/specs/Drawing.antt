@@ -1,29 +1,56 @@
--- The document that parts show: one drawing, over a text for each hole. Beside it the rendering, by the same recursion.
-use Rattle.std.specs.Prelude.{ℕ, List, [], ◌∷◌, ◌++◌, map, Option, Some, None, Result, Ok, Err}
-use Rattle.std.specs.List.{flat_map}
+-- The document that parts show: one drawing, over what each site has kept. Beside it the rendering, by the same recursion.
+use Rattle.std.specs.Prelude.{ℕ, Bool, false, ◌||◌, List, [], ◌∷◌, ◌++◌, Option, Some, None, Result, Ok, Err, codes, if◌then◌else◌}
+use Rattle.std.specs.List.{flat_map, list_any}
+use Rattle.ng_base.specs.Views.{ViewTree}
 use Rattle.ng_base.specs.declared.fault.Fault.{Fault}
+use Rattle.ng_language.specs.Texts.{words_in}
+use Rattle.ng_markup.specs.Attributes.{if_any, word_if, with_value, class_value}
 use Rattle.ng_markup.specs.Forest.{Attributes, Node, Forest, element, text, comment, no_nodes, node}
-use Rattle.ng_drawing.specs.Template.{Piece, word, hole, PartAttributes, Part, Parts, text_part, comment_part, element_part, no_parts, part_then}
+use Rattle.ng_drawing.specs.Looks.{kept_text, kept_words, is_kept_true, is_kept_false}
+use Rattle.ng_drawing.specs.Template.{Piece, word, hole, Hiding, while_true, while_false, PartClass, PartValue, always, unless_empty, flag, classes, PartAttributes, Part, Contents, Parts, text_part, comment_part, element_part, children, bound, no_parts, part_then}
 
--- what the hole of a site shows
+-- what each site has kept, or nothing yet
 abbrev pub Look : Type 0
-Look = ℕ → List ℕ
+Look = ℕ → Option ViewTree
 
 abbrev pub draw_piece : Look → Piece → List ℕ
 draw_piece look (word w) = w
-draw_piece look (hole n) = look n
+draw_piece look (hole n) = kept_text (look n)
 
 abbrev pub draw_pieces : Look → List Piece → List ℕ
 draw_pieces look ps = flat_map (draw_piece look) ps
 
-abbrev pub draw_attributes : Look → PartAttributes → Attributes
-draw_attributes look ats = map (λ a. (a.0, draw_pieces look a.1)) ats
+abbrev pub is_hiding : Look → Hiding → Bool
+is_hiding look (while_true n) = is_kept_true (look n)
+is_hiding look (while_false n) = is_kept_false (look n)
+
+-- the words of a class: those of the written text, those of its sites, and `ng-hide` where the element is hidden
+abbrev pub class_words : List ℕ → List (List ℕ) → Bool → List (List ℕ)
+class_words t ws hidden = words_in [] t ++ ws ++ (if hidden then codes "ng-hide" ∷ [] else [])
+
+abbrev pub draw_class : Look → PartClass → Option (List ℕ)
+draw_class look c = class_value c.written (class_words (draw_pieces look c.pieces) (flat_map (λ n. kept_words (look n)) c.words) (list_any (is_hiding look) c.hidings))
+
+abbrev pub draw_value : Look → PartValue → Option (List ℕ)
+draw_value look (always ps) = Some (draw_pieces look ps)
+draw_value look (unless_empty ps) = if_any (draw_pieces look ps)
+draw_value look (flag w n) = word_if (is_kept_true (look n)) w
+draw_value look (classes c) = draw_class look c
+
+-- attributes are set one after another, each at its place in the order of the names
+abbrev pub draw_attributes : Look → PartAttributes → Attributes → Attributes
+draw_attributes look [] done = done
+draw_attributes look (a ∷ ats) done = draw_attributes look ats (with_value a.0 (draw_value look a.1) done)
 
 abbrev mutual
   pub draw_part : Look → Part → Node
   draw_part look (text_part pieces) = text (draw_pieces look pieces)
   draw_part look (comment_part t) = comment t
-  draw_part look (element_part name attributes parts) = element name (draw_attributes look attributes) (draw look parts)
+  draw_part look (element_part name own acts attributes contents) = element name (draw_attributes look attributes []) (draw_contents look contents)
+
+  pub draw_contents : Look → Contents → Forest
+  draw_contents look (children ps) = draw look ps
+  draw_contents look (bound n) = node (text (kept_text (look n))) no_nodes
 
   pub draw : Look → Parts → Forest
   draw look no_parts = no_nodes
@@ -43,28 +70,61 @@ abbrev pub ◌>>-◌ : {A B : Type 0} → Rendered A → (A → Rendered B) → 
 abbrev pub shown_as : {A : Type 0} → A → Rendered A
 shown_as v = Ok (Some v)
 
--- what the hole of a site shows now
+-- what each site shows now, or nothing where it rests unset
 abbrev pub Now : Type 0
-Now = ℕ → Rendered (List ℕ)
+Now = ℕ → Rendered (Option ViewTree)
 
 -- The rendering: the document computed afresh, each expression evaluated now, in document order.
 abbrev pub render_piece : Now → Piece → Rendered (List ℕ)
 render_piece now (word w) = shown_as w
-render_piece now (hole n) = now n
+render_piece now (hole n) = now n >>- λ s. shown_as (kept_text s)
 
 abbrev pub render_pieces : Now → List Piece → Rendered (List ℕ)
 render_pieces now [] = shown_as []
 render_pieces now (p ∷ ps) = render_piece now p >>- λ t. render_pieces now ps >>- λ u. shown_as (t ++ u)
 
-abbrev pub render_attributes : Now → PartAttributes → Rendered Attributes
-render_attributes now [] = shown_as []
-render_attributes now (a ∷ ats) = render_pieces now a.1 >>- λ t. render_attributes now ats >>- λ us. shown_as ((a.0, t) ∷ us)
+abbrev pub render_words : Now → List ℕ → Rendered (List (List ℕ))
+render_words now [] = shown_as []
+render_words now (n ∷ ns) = now n >>- λ s. render_words now ns >>- λ ws. shown_as (kept_words s ++ ws)
 
+abbrev pub render_hiding : Now → Hiding → Rendered Bool
+render_hiding now (while_true n) = now n >>- λ s. shown_as (is_kept_true s)
+render_hiding now (while_false n) = now n >>- λ s. shown_as (is_kept_false s)
+
+abbrev pub render_hidings : Now → List Hiding → Rendered Bool
+render_hidings now [] = shown_as false
+render_hidings now (h ∷ hs) = render_hiding now h >>- λ b. render_hidings now hs >>- λ c. shown_as (b || c)
+
+abbrev pub render_class : Now → PartClass → Rendered (Option (List ℕ))
+render_class now c =
+    render_pieces now c.pieces >>- λ t. render_words now c.words >>- λ ws. render_hidings now c.hidings >>- λ h. shown_as (class_value c.written (class_words t ws h))
+
+abbrev pub render_value : Now → PartValue → Rendered (Option (List ℕ))
+render_value now (always ps) = render_pieces now ps >>- λ t. shown_as (Some t)
+render_value now (unless_empty ps) = render_pieces now ps >>- λ t. shown_as (if_any t)
+render_value now (flag w n) = now n >>- λ s. shown_as (word_if (is_kept_true s) w)
+render_value now (classes c) = render_class now c
+
+abbrev pub render_attributes : Now → PartAttributes → Attributes → Rendered Attributes
+render_attributes now [] done = shown_as done
+render_attributes now (a ∷ ats) done = render_value now a.1 >>- λ t. render_attributes now ats (with_value a.0 t done)
+
+-- each of these sites is needed, in this order, whatever is drawn of it
+abbrev pub needed : Now → List ℕ → Rendered (Unit {0})
+needed now [] = shown_as tt
+needed now (n ∷ ns) = now n >>- λ _. needed now ns
+
+-- an element's own sites come first, in the order of its directives, and its children after its attributes
 abbrev mutual
   pub render_part : Now → Part → Rendered Node
   render_part now (text_part pieces) = render_pieces now pieces >>- λ t. shown_as (text t)
   render_part now (comment_part t) = shown_as (comment t)
-  render_part now (element_part name attributes parts) = render_attributes now attributes >>- λ ats. render now parts >>- λ f. shown_as (element name ats f)
+  render_part now (element_part name own acts attributes contents) =
+      needed now own >>- λ _. render_attributes now attributes [] >>- λ ats. render_contents now contents >>- λ f. shown_as (element name ats f)
+
+  pub render_contents : Now → Contents → Rendered Forest
+  render_contents now (children ps) = render now ps
+  render_contents now (bound n) = now n >>- λ s. shown_as (node (text (kept_text s)) no_nodes)
 
   pub render : Now → Parts → Rendered Forest
   render now no_parts = shown_as no_nodes

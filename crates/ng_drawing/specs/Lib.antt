@@ -1,5 +1,6 @@
 pub mod Template
 pub mod Nodes
+pub mod Looks
 pub mod Drawing
 pub mod Instance
 pub mod InstanceOf

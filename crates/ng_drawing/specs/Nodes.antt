@@ -1,7 +1,7 @@
 -- How many nodes there are.
 use Rattle.std.specs.Prelude.{ℕ, ◌+◌}
 use Rattle.ng_markup.specs.Forest.{Node, Forest, element, text, comment, no_nodes, node}
-use Rattle.ng_drawing.specs.Template.{Part, Parts, text_part, comment_part, element_part, no_parts, part_then}
+use Rattle.ng_drawing.specs.Template.{Part, Contents, Parts, text_part, comment_part, element_part, children, bound, no_parts, part_then}
 
 -- the elements, texts and comments of a document
 abbrev mutual
@@ -19,7 +19,11 @@ abbrev mutual
   pub part_nodes : Part → ℕ
   part_nodes (text_part pieces) = 1
   part_nodes (comment_part t) = 1
-  part_nodes (element_part name attributes parts) = 1 + nodes parts
+  part_nodes (element_part name own acts attributes contents) = 1 + content_nodes contents
+
+  pub content_nodes : Contents → ℕ
+  content_nodes (children ps) = nodes ps
+  content_nodes (bound n) = 1
 
   pub nodes : Parts → ℕ
   nodes no_parts = 0

@@ -9,15 +9,49 @@ pub data Piece : Type 0 where
   word : List ℕ → Piece
   hole : ℕ → Piece
 
--- names of attributes with the pieces of their values
-abbrev pub PartAttributes : Type 0
-PartAttributes = List (List ℕ × List Piece)
+-- an element is hidden while the value of a site is true, or while it is not
+pub data Hiding : Type 0 where
+  while_true : ℕ → Hiding
+  while_false : ℕ → Hiding
 
+-- What a class is made of: whether the template has one, the text that is written there, the sites whose words it gets, and the
+-- sites that hide the element (API: ngClass, ngShow, ngHide).
+pub record PartClass : Type 0 where
+  pub written : Bool
+  pub pieces : List Piece
+  pub words : List ℕ
+  pub hidings : List Hiding
+
+-- What an attribute gets: the text of pieces; that text, where it is not empty; a word, where the value of a site is true; or the
+-- words of a class.
+pub data PartValue : Type 0 where
+  always : List Piece → PartValue
+  unless_empty : List Piece → PartValue
+  flag : List ℕ → ℕ → PartValue
+  classes : PartClass → PartValue
+
+-- Attributes in the order in which they are set: what the document has, and then what each directive sets. Of two values of one
+-- name the later one stands.
+abbrev pub PartAttributes : Type 0
+PartAttributes = List (List ℕ × PartValue)
+
+-- What an element does: programs that run when it is linked, and programs that handle events of the document, each with the name
+-- of its event (API: ngInit, ngClick).
+pub record Acts : Type 0 where
+  pub starts : List Trees
+  pub handlers : List (List ℕ × Trees)
+
+-- An element has its name, the numbers of its own sites in the order of its directives, what it does, its attributes and its
+-- contents: its children, or the text that one of its sites shows (API: ngBind).
 mutual
   pub data Part : Type 0 where
     text_part : List Piece → Part
     comment_part : List ℕ → Part
-    element_part : List ℕ → PartAttributes → Parts → Part
+    element_part : (name : List ℕ) → (own : List ℕ) → Acts → PartAttributes → Contents → Part
+
+  pub data Contents : Type 0 where
+    children : Parts → Contents
+    bound : ℕ → Contents
 
   pub data Parts : Type 0 where
     no_parts : Parts

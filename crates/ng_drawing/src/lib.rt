@@ -2,15 +2,17 @@
 //! `specs/`.
 //!
 //! `Template.antt` has the parts of a template and its sites, the watched expressions by number (guide: HTML Compiler).
-//! `Drawing.antt` has the drawing of parts as a document, over a text for each hole, and beside it the rendering, the same
-//! recursion with each expression evaluated now. `Instance.antt` has what a run adds to a template: keys, scopes, what was kept
-//! and which sites rest; what is shown is the drawing with what was kept, the rendering asks no watcher and no node.
-//! `Nodes.antt` counts nodes. The code's own types of kinds and instances are in `kind` and `instance`.
+//! `Drawing.antt` has the drawing of parts as a document, over what each site has kept, and beside it the rendering, the same
+//! recursion with each expression evaluated now; `Looks.antt` says what is seen of a kept snapshot. `Instance.antt` has what a run
+//! adds to a template: keys, scopes, what was kept and which sites rest; what is shown is the drawing with what was kept, the
+//! rendering asks no watcher and no node. `Nodes.antt` counts nodes. The code's own types of kinds and instances are in `kind` and
+//! `instance`; `classes` has the value of a class, which the linking and the rendering share.
 //!
 //! `laws` states what is proved of these definitions alone. Each law is a function with an empty body, so that the
 //! gate proves it.
 #![tactic(auto)]
 
+pub mod classes;
 pub mod instance;
 pub mod kind;
 pub mod laws;

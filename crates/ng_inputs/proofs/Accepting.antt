@@ -1,5 +1,5 @@
 -- What holds of files that are accepted.
-use Rattle.std.proofs.Common.{◌≡◌, ℕ, List, [], false, refl, subst}
+use Rattle.std.proofs.Common.{◌≡◌, ℕ, List, [], false, subst}
 use Rattle.std.specs.Prelude.{Result, Ok, Err, IfOk}
 use Rattle.ng_base.specs.Meets.{◌>>=◌}
 use Rattle.ng_app.specs.App.{Facts, facts_of}
@@ -7,7 +7,6 @@ use Rattle.ng_drawing.specs.Template.{Template}
 use Rattle.ng_html.specs.Reading.{read_bytes}
 use Rattle.ng_markup.specs.Forest.{Forest}
 use Rattle.ng_template.specs.Compiles.{compiled}
-use Rattle.ng_template.specs.declared.fault.TplFault.{TplFault}
 use Rattle.ng_inputs.specs.Acts.{AreSound}
 use Rattle.ng_inputs.specs.Files.{Inputs}
 use Rattle.ng_inputs.specs.Refusals.{Accepted, refused_as, commands_of, accepted}
@@ -15,18 +14,10 @@ use Rattle.ng_inputs.specs.declared.refusal.Refusal.{Refusal}
 use Rattle.ng_inputs.specs.declared.refusal.Refusal.TheVariants.{Document, Application, Template as OfTemplate, Script as OfScript}
 use Rattle.ng_inputs.proofs.Holding.{after, any}
 use Rattle.ng_inputs.proofs.Sound.{commands_sound}
-use Rattle.ng_inputs.proofs.Texts.{AreTexts, compiled_texts}
-
-abbrev HasTexts : Template → Type 0
-HasTexts t = AreTexts t.sites
 
 refused : {A E : Type 0} (kind : E → Refusal) (r : Result A E) (P : A → Type 0) → IfOk r P → IfOk (refused_as kind r) P
 refused kind (Ok x) P h = h
 refused kind (Err e) P h = tt
-
-texts : (source : Forest × List ℕ) (r : Result Template TplFault) → compiled source [] false ≡ r → IfOk r HasTexts
-texts source (Ok t) e = compiled_texts source [] false t e
-texts source (Err f) e = tt
 
 abbrev of_script : List ℕ → Facts → Template → Result Accepted Refusal
 of_script script facts template = refused_as OfScript (commands_of script) >>= λ commands. Ok (record { facts = facts; template = template; commands = commands })
@@ -37,23 +28,16 @@ of_template script facts source = refused_as OfTemplate (compiled source [] fals
 abbrev of_application : List ℕ → List ℕ → Forest × List ℕ → Result Accepted Refusal
 of_application application script source = refused_as Application (facts_of application) >>= λ facts. of_template script facts source
 
-abbrev Holds : Accepted → Type 0
-Holds a = HasTexts a.template × AreSound a.commands
+abbrev HasSound : Accepted → Type 0
+HasSound a = AreSound a.commands
 
-holds : (i : Inputs) → IfOk (accepted i) Holds
-holds i =
-    any (refused_as Document (read_bytes i.template)) (λ source. of_application i.application i.script source) Holds (λ source.
-    any (refused_as Application (facts_of i.application)) (λ facts. of_template i.script facts source) Holds (λ facts.
-    after (refused_as OfTemplate (compiled source [] false)) (λ template. of_script i.script facts template) HasTexts Holds (refused OfTemplate (compiled source [] false) HasTexts (texts source (compiled source [] false) refl)) (λ template texts.
-    after (refused_as OfScript (commands_of i.script)) (λ commands. Ok (record { facts = facts; template = template; commands = commands })) AreSound Holds (refused OfScript (commands_of i.script) AreSound (commands_sound i.script)) (λ commands sound. (texts, sound)))))
+sound : (i : Inputs) → IfOk (accepted i) HasSound
+sound i =
+    any (refused_as Document (read_bytes i.template)) (λ source. of_application i.application i.script source) HasSound (λ source.
+    any (refused_as Application (facts_of i.application)) (λ facts. of_template i.script facts source) HasSound (λ facts.
+    any (refused_as OfTemplate (compiled source [] false)) (λ template. of_script i.script facts template) HasSound (λ template.
+    after (refused_as OfScript (commands_of i.script)) (λ commands. Ok (record { facts = facts; template = template; commands = commands })) AreSound HasSound (refused OfScript (commands_of i.script) AreSound (commands_sound i.script)) (λ commands h. h))))
 
-held : (i : Inputs) (a : Accepted) → accepted i ≡ Ok a → Holds a
-held i a e = subst (λ (r : Result Accepted Refusal). IfOk r Holds) e (holds i)
-
--- holes of texts are all that the template watches
-pub accepted_texts : (i : Inputs) (a : Accepted) → accepted i ≡ Ok a → AreTexts a.template.sites
-accepted_texts i a e = (held i a e).0
-
--- and the commands are sound
+-- the commands are sound
 pub accepted_sound : (i : Inputs) (a : Accepted) → accepted i ≡ Ok a → AreSound a.commands
-accepted_sound i a e = (held i a e).1
+accepted_sound i a e = subst (λ (r : Result Accepted Refusal). IfOk r HasSound) e (sound i)

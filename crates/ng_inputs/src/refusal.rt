@@ -3,7 +3,7 @@ ghost use Rattle.std.specs.Prelude.{◌≡◌, false, None, IfOk};
 ghost use Rattle.ng_base.specs.Meets.{Gives};
 ghost use Rattle.ng_script.specs.Acts.{entries_of};
 ghost use Rattle.ng_inputs.specs.Acts.{AreSound};
-ghost use Rattle.ng_inputs.specs.Free.{is_want};
+ghost use Rattle.ng_inputs.specs.Free.{is_want, memory_in};
 ghost use Rattle.ng_inputs.specs.Refusals.{accepted, refusal_status};
 ghost use Rattle.ng_inputs.specs.InputsOf.{accepted_of, inputs_of};
 ghost use Rattle.ng_inputs.specs.declared.refusal.Refusal.TheVariants as refusals;
@@ -72,7 +72,8 @@ impl From<ScriptFault> for Refusal {
 impl Refusal {
     /// The want of memory that it is.
     pub fn memory(&self) -> Option<Memory>
-        ensures { result ≡ None → is_want self.now ≡ false }
+        ensures memory { result ≡ memory_in self.now }
+        ensures definite { result ≡ None → is_want self.now ≡ false }
     {
         match self {
             Refusal::Document(

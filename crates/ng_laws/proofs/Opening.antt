@@ -26,7 +26,7 @@ use Rattle.ng_inputs.specs.declared.refusal.Refusal.{Refusal}
 use Rattle.ng_run.specs.Aims.{asked_of}
 use Rattle.ng_run.specs.Lines.{Digest, header}
 use Rattle.ng_run.specs.ReplyOf.{told_lines}
-use Rattle.ng_run.specs.Session.{Reply, refused, done, Extent, whole, Runs, SessionOf}
+use Rattle.ng_run.specs.Session.{Reply, refused, done, whole, Runs, SessionOf}
 use Rattle.ng_run.specs.Steps.{Left, Step, step_of, left_by, idle_step, aimless_step, same_page, IsTrace, DoesUnlessIdle, DoesAsked, Continues}
 use Rattle.ng_run.proofs.Performing.{told_is}
 use Rattle.ng_laws.specs.Sessions.{DigestEnds, SessionIsThere}

@@ -1,40 +1,77 @@
 -- A page that stands displays the drawing of its template with what its instance has kept.
-use Rattle.std.proofs.Common.{◌≡◌, ◌<◌, ◌+◌, ℕ, zero, suc, List, [], ◌∷◌, ◌++◌, Option, Some, None, refl, ap, ◌∙◌, sym, subst, arith, slice_get}
+use Rattle.std.proofs.Common.{◌≡◌, ◌<◌, ◌+◌, ℕ, zero, suc, Bool, List, [], ◌∷◌, ◌++◌, Option, Some, None, refl, ap, ◌∙◌, sym, arith, slice_get}
+use Rattle.std.specs.Prelude.{◌||◌}
+use Rattle.std.specs.List.{flat_map, list_any}
+use Rattle.ng_base.specs.Views.{ViewTree}
+use Rattle.ng_markup.specs.Attributes.{if_any, word_if, with_value, class_value}
 use Rattle.ng_markup.specs.Forest.{Attributes, Node, Forest, element, text, no_nodes, node}
-use Rattle.ng_dom.specs.Drawing.{Stands, none_stand, shows}
+use Rattle.ng_dom.specs.Drawing.{Stands, shows}
 use Rattle.ng_dom.specs.Nodes.{plain}
-use Rattle.ng_drawing.specs.Drawing.{Look, draw_pieces, draw_attributes, draw_part, draw}
-use Rattle.ng_drawing.specs.Instance.{SiteState, state_text, shown}
-use Rattle.ng_drawing.specs.Template.{Piece, word, hole, PartAttributes, Part, Parts, text_part, comment_part, element_part, no_parts, part_then, Template}
-use Rattle.ng_template.specs.Holes.{PiecesBelow, ValuesBelow, PartBelow, HolesBelow}
+use Rattle.ng_drawing.specs.Drawing.{Look, draw_pieces, is_hiding, class_words, draw_class, draw_value, draw_attributes, draw_part, draw_contents, draw}
+use Rattle.ng_drawing.specs.Instance.{SiteState, state_kept}
+use Rattle.ng_drawing.specs.Looks.{kept_text, kept_words, is_kept_true, is_kept_false}
+use Rattle.ng_drawing.specs.Template.{Piece, word, hole, Hiding, while_true, while_false, PartClass, PartValue, always, unless_empty, flag, classes, PartAttributes, Part, Contents, Parts, text_part, comment_part, element_part, children, bound, no_parts, part_then}
 use Rattle.ng_watch.specs.Table.{Table}
+use Rattle.ng_link.specs.Holes.{PiecesBelow, SitesBelow, HidingsBelow, ClassBelow, ValueBelow, ValuesBelow, PartBelow, ContentsBelow, HolesBelow}
 use Rattle.ng_link.specs.Laws.{PageDisplaysInstance}
 use Rattle.ng_link.specs.Shape.{key_on}
 use Rattle.ng_link.specs.Standing.{HasShape, IsPage, Standing, Displays}
-use Rattle.ng_link.specs.State.{Page, Linked, Resting, keys_of, state_of, texts_of, texts_in, site_state, site_states, instance_at, shown_in}
+use Rattle.ng_link.specs.State.{Page, Linked, Resting, keys_of, state_of, kept_in, looks_in, site_state, site_states, instance_at, shown_in}
 use Rattle.ng_link.specs.declared.works.Works.{Works}
 use Rattle.ng_link.proofs.Shapes.{shape_draws}
 
--- what shows the same at each hole draws the same
+-- what is kept alike of each site is drawn alike
 module _ (look same : Look) (count : ℕ) (agree : (n : ℕ) → n < count → look n ≡ same n) where
   same_pieces : (ps : List Piece) → PiecesBelow count ps → draw_pieces look ps ≡ draw_pieces same ps
   same_pieces [] h = refl
   same_pieces (word w ∷ ps) h = ap (λ (t : List ℕ). w ++ t) (same_pieces ps h.1)
-  same_pieces (hole n ∷ ps) h = ap (λ (t : List ℕ). t ++ draw_pieces look ps) (agree n h.0) ∙ ap (λ (t : List ℕ). same n ++ t) (same_pieces ps h.1)
+  same_pieces (hole n ∷ ps) h =
+      ap (λ (s : Option ViewTree). kept_text s ++ draw_pieces look ps) (agree n h.0) ∙ ap (λ (t : List ℕ). kept_text (same n) ++ t) (same_pieces ps h.1)
 
-  same_values : (ats : PartAttributes) → ValuesBelow count ats → draw_attributes look ats ≡ draw_attributes same ats
-  same_values [] h = refl
-  same_values (a ∷ ats) h =
-      ap (λ (t : List ℕ). (a.0, t) ∷ draw_attributes look ats) (same_pieces a.1 h.0)
-      ∙ ap (λ (us : Attributes). (a.0, draw_pieces same a.1) ∷ us) (same_values ats h.1)
+  same_words : (ns : List ℕ) → SitesBelow count ns → flat_map (λ n. kept_words (look n)) ns ≡ flat_map (λ n. kept_words (same n)) ns
+  same_words [] h = refl
+  same_words (n ∷ ns) h =
+      ap (λ (s : Option ViewTree). kept_words s ++ flat_map (λ m. kept_words (look m)) ns) (agree n h.0)
+      ∙ ap (λ (ws : List (List ℕ)). kept_words (same n) ++ ws) (same_words ns h.1)
+
+  same_hidings : (hs : List Hiding) → HidingsBelow count hs → list_any (is_hiding look) hs ≡ list_any (is_hiding same) hs
+  same_hidings [] h = refl
+  same_hidings (while_true n ∷ hs) h =
+      ap (λ (s : Option ViewTree). is_kept_true s || list_any (is_hiding look) hs) (agree n h.0) ∙ ap (λ (b : Bool). is_kept_true (same n) || b) (same_hidings hs h.1)
+  same_hidings (while_false n ∷ hs) h =
+      ap (λ (s : Option ViewTree). is_kept_false s || list_any (is_hiding look) hs) (agree n h.0) ∙ ap (λ (b : Bool). is_kept_false (same n) || b) (same_hidings hs h.1)
+
+  same_class : (c : PartClass) → ClassBelow count c → draw_class look c ≡ draw_class same c
+  same_class c h =
+      let ws = flat_map (λ n. kept_words (look n)) c.words in
+      let hidden = list_any (is_hiding look) c.hidings in
+      ap (λ (t : List ℕ). class_value c.written (class_words t ws hidden)) (same_pieces c.pieces h.0)
+      ∙ (ap (λ (us : List (List ℕ)). class_value c.written (class_words (draw_pieces same c.pieces) us hidden)) (same_words c.words h.1)
+      ∙ ap (λ (b : Bool). class_value c.written (class_words (draw_pieces same c.pieces) (flat_map (λ n. kept_words (same n)) c.words) b)) (same_hidings c.hidings h.2))
+
+  same_value : (v : PartValue) → ValueBelow count v → draw_value look v ≡ draw_value same v
+  same_value (always ps) h = ap Some (same_pieces ps h)
+  same_value (unless_empty ps) h = ap if_any (same_pieces ps h)
+  same_value (flag w n) h = ap (λ (s : Option ViewTree). word_if (is_kept_true s) w) (agree n h)
+  same_value (classes c) h = same_class c h
+
+  same_values : (ats : PartAttributes) (done : Attributes) → ValuesBelow count ats → draw_attributes look ats done ≡ draw_attributes same ats done
+  same_values [] done h = refl
+  same_values (a ∷ ats) done h =
+      ap (λ (o : Option (List ℕ)). draw_attributes look ats (with_value a.0 o done)) (same_value a.1 h.0)
+      ∙ same_values ats (with_value a.0 (draw_value same a.1) done) h.1
 
   mutual
     same_part : (p : Part) → PartBelow count p → draw_part look p ≡ draw_part same p
     same_part (text_part ps) h = ap text (same_pieces ps h)
     same_part (comment_part t) h = refl
-    same_part (element_part e ats ps) h =
-        ap (λ (us : Attributes). element e us (draw look ps)) (same_values ats h.0)
-        ∙ ap (λ (f : Forest). element e (draw_attributes same ats) f) (same_parts ps h.1)
+    same_part (element_part e own acts ats c) h =
+        ap (λ (us : Attributes). element e us (draw_contents look c)) (same_values ats [] h.1)
+        ∙ ap (λ (f : Forest). element e (draw_attributes same ats []) f) (same_contents c h.2)
+
+    same_contents : (c : Contents) → ContentsBelow count c → draw_contents look c ≡ draw_contents same c
+    same_contents (children ps) h = same_parts ps h
+    same_contents (bound n) h = ap (λ (s : Option ViewTree). node (text (kept_text s)) no_nodes) (agree n h)
 
     pub same_parts : (ps : Parts) → HolesBelow count ps → draw look ps ≡ draw same ps
     same_parts no_parts h = refl
@@ -69,20 +106,20 @@ shaped w ts l g h =
     let r = (state_of w).resting in
     let p : Page = l.page in
     record {
-      forest = shows (texts_in (state_of w)) ts;
+      forest = shows (looks_in (state_of w)) ts;
       shown = g.shown;
       plain =
-          ap (λ (s : Stands). plain (shows (texts_in (state_of w)) s)) h.shape
-          ∙ (shape_draws (keys_of p) (texts_of t r) h.name l.template.parts
-          ∙ same_parts (λ n. texts_of t r (keys_of p n)) (λ n. state_text (slice_get (instance_at t r p).sites n)) p.count
-          (λ n lt. sym (ap state_text (state_at t r p.scope p.path p.first p.count n lt))) l.template.parts h.holes);
+          ap (λ (s : Stands). plain (shows (looks_in (state_of w)) s)) h.shape
+          ∙ (shape_draws (keys_of p) (kept_in t r) h.name l.template.parts
+          ∙ same_parts (λ n. kept_in t r (keys_of p n)) (λ n. state_kept (slice_get (instance_at t r p).sites n)) p.count
+          (λ n lt. sym (ap state_kept (state_at t r p.scope p.path p.first p.count n lt))) l.template.parts h.holes);
     }
 
 displays_linked : (w : Works) (ts : Stands) (o : Option Linked) → Standing w ts → IsPage o w.dom ts → Displays w (shown_in (state_of w).watchers (state_of w).resting o)
 displays_linked w ts None g h = record {
-  forest = shows (texts_in (state_of w)) ts;
+  forest = shows (looks_in (state_of w)) ts;
   shown = g.shown;
-  plain = ap (λ (s : Stands). plain (shows (texts_in (state_of w)) s)) h.stands;
+  plain = ap (λ (s : Stands). plain (shows (looks_in (state_of w)) s)) h.stands;
 }
 displays_linked w ts (Some l) g h = shaped w ts l g h
 

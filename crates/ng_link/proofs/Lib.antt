@@ -1,5 +1,8 @@
+pub mod Unset
 pub mod Shapes
-pub mod Ends
+pub mod Numbers
+pub mod Below
+pub mod Holding
 pub mod Keys
 pub mod Tables
 pub mod Watched

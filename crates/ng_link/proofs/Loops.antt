@@ -1,27 +1,18 @@
 -- Steps of the loops that build nodes.
 use Rattle.std.proofs.Common.{◌≡◌, ◌≤◌, ◌<◌, ◌+◌, ℕ, zero, suc, true, List, [], ◌∷◌, ◌++◌, Option, Some, None, refl, ap, ◌∙◌, sym, subst, map, take, drop, length, get_or, arith}
 use Rattle.std.specs.Prelude.{IsSome, option_map}
-use Rattle.std.specs.BTreeMap.{insert_entry, get}
+use Rattle.std.specs.BTreeMap.{get}
 use Rattle.std.specs.Ordering.{nat_cmp}
-use Rattle.std.proofs.lemmas.Bool.{eq-eqb}
-use Rattle.ng_base.specs.Order.{txt_cmp}
 use Rattle.ng_base.specs.declared.name.NodeId.{NodeId}
-use Rattle.ng_base.specs.declared.path.Key.{Key}
-use Rattle.ng_dom.specs.Document.{rooms, homes, next_name, Becomes}
-use Rattle.ng_dom.specs.Drawing.{joined, drawn_attributes, DrawnAttributes}
-use Rattle.ng_dom.specs.Editing.{changed_in, with_attributes, attribute_set}
+use Rattle.ng_dom.specs.Document.{homes, next_name}
 use Rattle.ng_dom.specs.Kept.{room_kept}
-use Rattle.ng_dom.specs.Rooms.{Room, ReadsIn}
+use Rattle.ng_dom.specs.Rooms.{Room}
 use Rattle.ng_dom.specs.declared.dom.Dom.{Dom}
-use Rattle.ng_dom.specs.declared.record.Piece.{Piece}
 use Rattle.ng_dom.specs.declared.record.Record.{Record}
 use Rattle.ng_dom.proofs.Adding.{standing_below}
 use Rattle.ng_drawing.specs.Nodes.{part_nodes, nodes}
 use Rattle.ng_drawing.specs.Template.{Part, parts_from}
-use Rattle.ng_link.specs.Building.{unset, IsThere}
-use Rattle.ng_link.specs.Order.{names_rise, HasRising, HaveRising}
-use Rattle.ng_link.specs.Seen.{lone_element}
-use Rattle.ng_link.proofs.Ends.{name_at_end}
+use Rattle.ng_link.specs.Building.{IsThere}
 use Rattle.ng_link.proofs.Shapes.{nodes-append}
 
 -- a list round one of its items
@@ -29,30 +20,6 @@ pub split_at : {X Y : Type 0} (seen : X → Y) (xs : List X) (i : ℕ) (x : X) �
 split_at seen [] i x lt e = absurd (omega (arith, lt))
 split_at seen (y ∷ ys) zero x lt e = ap (λ z. seen z ∷ map seen ys) (sym e)
 split_at seen (y ∷ ys) (suc i) x lt e = ap (λ zs. seen y ∷ zs) (split_at seen ys i x (omega (arith, lt)) e)
-
-drawn_map : (v : Key → List ℕ) (xs : DrawnAttributes) → drawn_attributes v xs ≡ map (λ a. (a.0, joined v a.1)) xs
-drawn_map v [] = refl
-drawn_map v (a ∷ ats) = ap (λ (us : List (List ℕ × List ℕ)). (a.0, joined v a.1) ∷ us) (drawn_map v ats)
-
-drawn-push : (v : Key → List ℕ) (xs : DrawnAttributes) (y : List ℕ × List Piece) → drawn_attributes v (xs ++ y ∷ []) ≡ drawn_attributes v xs ++ (y.0, joined v y.1) ∷ []
-drawn-push v [] y = refl
-drawn-push v (a ∷ ats) y = ap (λ (us : List (List ℕ × List ℕ)). (a.0, joined v a.1) ∷ us) (drawn-push v ats y)
-
--- the next attribute is set at the end
-pub set_last : (v : Key → List ℕ) (all xs : DrawnAttributes) (y : List ℕ × List Piece) (ys : DrawnAttributes) → all ≡ xs ++ y ∷ ys → names_rise all ≡ true
-    → attribute_set y.0 (joined v y.1) (drawn_attributes v xs) ≡ drawn_attributes v (xs ++ y ∷ [])
-set_last v all xs y ys e rise =
-    ap (λ (us : List (List ℕ × List ℕ)). insert_entry txt_cmp us y.0 (joined v y.1)) (drawn_map v xs)
-    ∙ (name_at_end (joined v) xs y ys (joined v y.1) (rw e at rise)
-    ∙ (ap (λ (us : List (List ℕ × List ℕ)). us ++ (y.0, joined v y.1) ∷ []) (sym (drawn_map v xs)) ∙ sym (drawn-push v xs y)))
-
-pub element_set : (n : ℕ) (t : List ℕ) (all xs : DrawnAttributes) (y : List ℕ × List Piece) (ys : DrawnAttributes) (d e : Dom) (p : Option ℕ) → all ≡ xs ++ y ∷ ys → names_rise all ≡ true
-    → Becomes d e (changed_in n (with_attributes (attribute_set y.0 (joined unset y.1))))
-    → ReadsIn (rooms d) p (lone_element n t (drawn_attributes unset xs)) → ReadsIn (rooms e) p (lone_element n t (drawn_attributes unset (xs ++ y ∷ [])))
-element_set n t all xs y ys d e p is rise becomes reads =
-    let now : ReadsIn (rooms e) p (changed_in n (with_attributes (attribute_set y.0 (joined unset y.1))) (lone_element n t (drawn_attributes unset xs))) = becomes p (lone_element n t (drawn_attributes unset xs)) reads in
-    let told : ReadsIn (rooms e) p (lone_element n t (attribute_set y.0 (joined unset y.1) (drawn_attributes unset xs))) = rw (eq-eqb n n refl) at now in
-    subst (λ (us : List (List ℕ × List ℕ)). ReadsIn (rooms e) p (lone_element n t us)) (set_last unset all xs y ys is rise) told
 
 -- a node that is drawn from what it was is live still
 live_still : (o n : Option Record) → option_map (λ (x : Record). x.home) n ≡ option_map (λ (x : Record). x.home) o → IsSome (option_map room_kept o) → IsSome (option_map room_kept n)
@@ -68,10 +35,6 @@ there_still d e (Some p) h same = live_still (get nat_cmp d.nodes p.made.0) (get
 pub read_lives : (o : Option Room) (x : Room) → o ≡ Some x → IsSome o
 read_lives None x e = absurd (cc)
 read_lives (Some y) x e = refl
-
-pub rising_at : (ps : List Part) (q : Part) (qs : List Part) → HaveRising (parts_from (ps ++ q ∷ qs)) → HasRising q
-rising_at [] q qs h = h.0
-rising_at (p ∷ ps) q qs h = rising_at ps q qs h.1
 
 pub room_for : (ps : List Part) (q : Part) (qs : List Part) → nodes (parts_from ps) + part_nodes q ≤ nodes (parts_from (ps ++ q ∷ qs))
 room_for ps q qs = omega (arith, nodes-append ps (q ∷ qs))

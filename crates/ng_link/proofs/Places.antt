@@ -6,23 +6,22 @@ use Rattle.std.proofs.lemmas.Bool.Decides.{nat_tests}
 use Rattle.std.proofs.lemmas.Option.{slice_get_within}
 use Rattle.std.proofs.lemmas.Slice.Eq.{bytes_eq-Decides}
 use Rattle.ng_base.specs.declared.path.Key.{Key}
-use Rattle.ng_dom.specs.Drawing.{Place, in_text}
 use Rattle.ng_template.specs.Kept.{Named}
 use Rattle.ng_link.specs.Shape.{key_on}
 use Rattle.ng_link.specs.State.{is_in, is_site, is_site_of, page_of, linked_of, templates_of, state_of, spot_at, spot_in, places_of}
 use Rattle.ng_link.specs.declared.works.Linked.{Linked}
 use Rattle.ng_link.specs.declared.works.Works.{Works}
-use Rattle.ng_link.proofs.Shapes.{both_true}
+use Rattle.ng_link.proofs.Numbers.{both_true}
 
 -- what has a place is a site
-spot_site : (all : List Named) (p : Linked) (k : Key) → IsSome (option_map in_text (spot_at p k)) → is_site (linked_of all (Some p)) k ≡ true
+spot_site : (all : List Named) (p : Linked) (k : Key) → IsSome (spot_at p k) → is_site (linked_of all (Some p)) k ≡ true
 spot_site all p k = by_test (is_site_of (page_of p) k) refl
   where
-    by_test : (b : Bool) → is_site_of (page_of p) k ≡ b → IsSome (option_map in_text (cond b (slice_get p.spots.items (k.serial.0 - p.first)) None)) → is_site_of (page_of p) k ≡ true
+    by_test : (b : Bool) → is_site_of (page_of p) k ≡ b → IsSome (cond b (slice_get p.spots.items (k.serial.0 - p.first)) None) → is_site_of (page_of p) k ≡ true
     by_test true is h = is
     by_test false is h = absurd (cc)
 
-site_in : (all : List Named) (o : Option Linked) (k : Key) → IsSome (option_map in_text (spot_in o k)) → is_site (linked_of all o) k ≡ true
+site_in : (all : List Named) (o : Option Linked) (k : Key) → IsSome (spot_in o k) → is_site (linked_of all o) k ≡ true
 site_in all None k h = absurd (cc)
 site_in all (Some p) k h = spot_site all p k h
 

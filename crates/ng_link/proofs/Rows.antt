@@ -2,7 +2,6 @@
 use Rattle.std.proofs.Common.{◌≡◌, ◌<◌, ◌+◌, ℕ, zero, suc, List, [], ◌∷◌, Option, Some, None, refl, ap, ◌∙◌, sym, subst, length, arith, slice_get}
 use Rattle.std.specs.BTreeMap.{insert_entry}
 use Rattle.ng_base.specs.declared.path.Key.{Key}
-use Rattle.ng_dom.specs.Drawing.{Place, in_text}
 use Rattle.ng_drawing.specs.Template.{Site}
 use Rattle.ng_watch.specs.Keys.{key_cmp}
 use Rattle.ng_watch.specs.Seen.{Watcher}
@@ -43,10 +42,10 @@ sites_found path o n (y ∷ ys) t (suc j) x e =
     ∙ sites_found path o (n + 1) ys (insert_entry key_cmp t (key_on path n) (fresh o y)) j x e
 
 -- places at rising keys
-pub all_at : (site : Key → Option Place) (keys : ℕ → Key) (n : ℕ) (xs : List ℕ) → ((j x : ℕ) → slice_get xs j ≡ Some x → site (keys (n + j)) ≡ Some (in_text x)) → AllAt site keys n xs
+pub all_at : (site : Key → Option ℕ) (keys : ℕ → Key) (n : ℕ) (xs : List ℕ) → ((j x : ℕ) → slice_get xs j ≡ Some x → site (keys (n + j)) ≡ Some x) → AllAt site keys n xs
 all_at site keys n [] each = tt
 all_at site keys n (x ∷ xs) each =
-    let here : site (keys (n + 0)) ≡ Some (in_text x) = each 0 x refl in (
+    let here : site (keys (n + 0)) ≡ Some x = each 0 x refl in (
       ap (λ (k : ℕ). site (keys k)) (let same : n ≡ n + 0 = omega arith in same) ∙ here,
       all_at site keys (n + 1) xs (λ j y e. ap (λ (k : ℕ). site (keys k)) (let same : n + 1 + j ≡ n + suc j = omega arith in same) ∙ each (suc j) y e),
     )

@@ -1,5 +1,5 @@
 -- What stood stands, where watchers come and go.
-use Rattle.std.proofs.Common.{◌≡◌, ◌≤◌, Bool, true, false, List, [], Option, Some, None, refl, ap, ◌∙◌, sym, subst, length, arith}
+use Rattle.std.proofs.Common.{◌≡◌, Bool, true, false, List, Option, Some, None, refl, ap, ◌∙◌, sym, subst, length, arith}
 use Rattle.std.specs.BTreeMap.{BTreeMap}
 use Rattle.std.specs.List.{filter}
 use Rattle.std.specs.List.Sorted.{IsStrictlySortedBy}
@@ -9,17 +9,16 @@ use Rattle.ng_base.specs.declared.path.Key.{Key}
 use Rattle.ng_dom.specs.Document.{Shows}
 use Rattle.ng_dom.specs.Drawing.{Stands, shows}
 use Rattle.ng_dom.specs.Nodes.{NamedForest}
-use Rattle.ng_drawing.specs.Instance.{kept_text}
 use Rattle.ng_value.specs.declared.snapshot.Snap.{Snap}
 use Rattle.ng_watch.specs.Keys.{key_cmp, is_key}
 use Rattle.ng_watch.specs.Seen.{Watching, Watcher, WatchStands}
-use Rattle.ng_watch.specs.Table.{Table, watchers_of, found, with_kept, with_watch, without_watch}
+use Rattle.ng_watch.specs.Table.{watchers_of, found, with_kept, with_watch, without_watch}
 use Rattle.ng_watch.specs.declared.watched.Watched.{Watched}
 use Rattle.ng_link.specs.Calls.{rested}
 use Rattle.ng_link.specs.Laws.{StandingWithCore}
 use Rattle.ng_link.specs.Sources.{sources}
 use Rattle.ng_link.specs.Standing.{WatchersStand, Standing}
-use Rattle.ng_link.specs.State.{is_site, kept_or, resting_of, state_of, texts_of, texts_in, places_of}
+use Rattle.ng_link.specs.State.{is_site, kept_or, resting_of, state_of, look_of, looks_of, looks_in, places_of}
 use Rattle.ng_link.specs.declared.works.Listener.{Listener}
 use Rattle.ng_link.specs.declared.works.Works.{Works}
 use Rattle.ng_link.proofs.Agree.{all_agree}
@@ -28,17 +27,21 @@ use Rattle.ng_link.proofs.Rested.{kept_rested}
 use Rattle.ng_link.proofs.Tables.{put-other, removed-other, kept-other}
 use Rattle.ng_link.proofs.Watched.{stand_more, stand_kept, stand_put, stand_removed, stand_filtered}
 
+some_at : {X : Type 0} (o : Option X) (x : X) → o ≡ Some x → IsSome o
+some_at None x e = absurd (cc)
+some_at (Some y) x e = refl
+
 -- where each site shows what it showed
 pub same_stands : (w : Works) (ws : List (Key × Watched)) (rs : BTreeMap Key (Option Snap)) (ds : BTreeMap Key Listener)
-    → ((k : Key) → is_site (state_of w).linked k ≡ true → texts_of (watchers_of ws) (resting_of rs.entries) k ≡ texts_in (state_of w) k)
+    → ((k : Key) → is_site (state_of w).linked k ≡ true → looks_of (watchers_of ws) (resting_of rs.entries) k ≡ looks_in (state_of w) k)
     → WatchersStand (length (state_of w).core.objects) (watchers_of ws)
     → (ts : Stands) → Standing w ts → Standing (record w { watchers = ws; resting = rs; declared = ds }) ts
 same_stands w ws rs ds same watched ts g =
     let S : NamedForest → Type 0 = λ f. Shows w.dom f in
-    let texts : shows (texts_in (state_of w)) ts ≡ shows (texts_of (watchers_of ws) (resting_of rs.entries)) ts =
-    all_agree (places_of w) (sources w.dom) (texts_in (state_of w)) (texts_of (watchers_of ws) (resting_of rs.entries)) (λ k h. sym (same k (placed_site w k h))) ts g.held in
+    let looks : shows (looks_in (state_of w)) ts ≡ shows (looks_of (watchers_of ws) (resting_of rs.entries)) ts =
+    all_agree (places_of w) (sources w.dom) (looks_in (state_of w)) (looks_of (watchers_of ws) (resting_of rs.entries)) (λ k n at drawn. sym (same k (placed_site w k (some_at (places_of w k) n at)))) ts g.held in
     record {
-      shown = subst S texts g.shown;
+      shown = subst S looks g.shown;
       held = g.held;
       below = g.below;
       watched = watched;
@@ -51,8 +54,8 @@ apart_from w k q off site same = let two : true ≡ false = sym site ∙ (ap (is
 
 -- where the watcher of a declared watch is another, or none
 module _ (w : Works) (ws : List (Key × Watched)) (ds : BTreeMap Key Listener) (k : Key) (off : is_site (state_of w).linked k ≡ false) where
-  found_still : ((q : Key) → (q ≡ k → ⊥) → found q (watchers_of ws) ≡ found q (state_of w).watchers) → (q : Key) → is_site (state_of w).linked q ≡ true → texts_of (watchers_of ws) (state_of w).resting q ≡ texts_in (state_of w) q
-  found_still still q site = ap (λ (o : Option Watcher). kept_text (kept_or o (lookup (is_key q) (state_of w).resting))) (still q (apart_from w k q off site))
+  found_still : ((q : Key) → (q ≡ k → ⊥) → found q (watchers_of ws) ≡ found q (state_of w).watchers) → (q : Key) → is_site (state_of w).linked q ≡ true → looks_of (watchers_of ws) (state_of w).resting q ≡ looks_in (state_of w) q
+  found_still still q site = ap (λ (o : Option Watcher). look_of (kept_or o (lookup (is_key q) (state_of w).resting))) (still q (apart_from w k q off site))
 
   pub unset_stands : watchers_of ws ≡ with_kept k None (state_of w).watchers → (ts : Stands) → Standing w ts → Standing (record w { watchers = ws }) ts
   unset_stands is ts g =
@@ -79,7 +82,7 @@ pub rested_stands : (w : Works) (ws : List (Key × Watched)) (rs : BTreeMap Key 
     → (ts : Stands) → Standing w ts → Standing (record w { watchers = ws; resting = rs; declared = ds }) ts
 rested_stands w ws rs ds p ordered left rest ts g =
     same_stands w ws rs ds
-    (λ k site. rw (left, rest) (ap kept_text (kept_rested (state_of w).linked p (state_of w).watchers (state_of w).resting k ordered site)))
+    (λ k site. rw (left, rest) (ap look_of (kept_rested (state_of w).linked p (state_of w).watchers (state_of w).resting k ordered site)))
     (rw left (stand_filtered (length (state_of w).core.objects) (λ e. not (p e)) (state_of w).watchers g.watched)) ts g
 
 -- where the core is another

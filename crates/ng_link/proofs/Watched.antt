@@ -1,5 +1,5 @@
 -- The objects that watchers name are there, whatever watchers come and go.
-use Rattle.std.proofs.Common.{◌≡◌, ◌≤◌, ◌<◌, ◌+◌, ℕ, Bool, true, false, cond, List, [], ◌∷◌, Option, Some, None, refl, ap, ◌∙◌, sym, subst, arith}
+use Rattle.std.proofs.Common.{◌≡◌, ◌≤◌, ◌<◌, ◌+◌, ℕ, Bool, true, false, cond, List, [], ◌∷◌, Option, Some, None, subst, arith}
 use Rattle.std.specs.BTreeMap.{insert_entry}
 use Rattle.std.specs.List.{filter}
 use Rattle.std.specs.Map.{remove_entry}
@@ -13,7 +13,7 @@ use Rattle.ng_drawing.specs.Template.{Site}
 use Rattle.ng_drawing.specs.declared.kind.SiteKind.{SiteKind}
 use Rattle.ng_drawing.specs.declared.kind.SiteKind.TheVariants as sites
 use Rattle.ng_watch.specs.Keys.{key_cmp, is_key}
-use Rattle.ng_watch.specs.Seen.{Watching, Watcher, DestStands, WatchStands}
+use Rattle.ng_watch.specs.Seen.{Watcher, DestStands, WatchStands}
 use Rattle.ng_watch.specs.Table.{Table, found, keeping, with_kept, AllStand}
 use Rattle.ng_watch.specs.declared.watch.WatchKind.{WatchKind}
 use Rattle.ng_watch.specs.declared.watch.WatchKind.TheVariants as kinds

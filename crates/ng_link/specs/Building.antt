@@ -4,15 +4,15 @@ use Rattle.ng_base.specs.declared.name.NodeId.{NodeId}
 use Rattle.ng_base.specs.declared.path.Key.{Key}
 use Rattle.ng_dom.specs.Document.{rooms, homes, top, next_name, live_count, IsLive, Remains}
 use Rattle.ng_link.specs.Sources.{sources}
-use Rattle.ng_dom.specs.Drawing.{Place, Source, in_text, of_text, of_comment, of_element, Stand, Stands, Bodies, text_stands, comment_stands, element_stands, block_stands, none_stand, stand_then, no_bodies, body_then, shows}
+use Rattle.ng_dom.specs.Drawing.{Look, Source, of_text, of_comment, of_element, Stand, Stands, Bodies, text_stands, comment_stands, element_stands, block_stands, none_stand, stand_then, no_bodies, body_then, shows}
 use Rattle.ng_dom.specs.Nodes.{NamedNode, named_then, nothing_named}
 use Rattle.ng_dom.specs.Rooms.{Rooms, ReadsIn}
 use Rattle.ng_dom.specs.Nodes.{NamedForest}
 use Rattle.ng_dom.specs.declared.dom.Dom.{Dom}
 
 -- nothing is kept yet
-abbrev pub unset : Key → List ℕ
-unset k = []
+abbrev pub unset : Key → Look
+unset k = record { text = []; words = []; truth = None }
 
 -- each node is drawn from what stands
 abbrev mutual
@@ -59,6 +59,6 @@ pub record Builds (p : Option ℕ) (ts : Stands) (count : ℕ) (d e : Dom) : Typ
   pub top : top e ≡ top d
 
 -- names of nodes stand at keys that rise from a number on
-abbrev pub AllAt : (Key → Option Place) → (ℕ → Key) → ℕ → List ℕ → Type 0
+abbrev pub AllAt : (Key → Option ℕ) → (ℕ → Key) → ℕ → List ℕ → Type 0
 AllAt site keys n [] = Unit {0}
-AllAt site keys n (x ∷ xs) = (site (keys n) ≡ Some (in_text x)) × AllAt site keys (n + 1) xs
+AllAt site keys n (x ∷ xs) = (site (keys n) ≡ Some x) × AllAt site keys (n + 1) xs

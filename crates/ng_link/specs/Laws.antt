@@ -1,6 +1,7 @@
 -- What is proved of what stands.
-use Rattle.std.specs.Prelude.{ℕ, ◌≡◌, ◌≤◌, List, length}
+use Rattle.std.specs.Prelude.{ℕ, ◌≡◌, ◌≤◌, Option, length}
 use Rattle.ng_act.specs.declared.core_state.Core.{Core}
+use Rattle.ng_base.specs.Views.{ViewTree}
 use Rattle.ng_base.specs.declared.path.Key.{Key}
 use Rattle.ng_dom.specs.Drawing.{Stands, shows}
 use Rattle.ng_dom.specs.Nodes.{plain}
@@ -8,13 +9,13 @@ use Rattle.ng_drawing.specs.Drawing.{draw}
 use Rattle.ng_drawing.specs.Template.{Parts}
 use Rattle.ng_watch.specs.Table.{Table, AllStand}
 use Rattle.ng_link.specs.Shape.{shape}
-use Rattle.ng_link.specs.State.{state_of, shown}
+use Rattle.ng_link.specs.State.{look_of, state_of, shown}
 use Rattle.ng_link.specs.Standing.{WatchersStand, Standing, Displays}
 use Rattle.ng_link.specs.declared.works.Works.{Works}
 
--- what stands of parts is drawn as the parts are, whatever their sites show
+-- what stands of parts is drawn as the parts are, whatever their sites have kept
 abbrev pub ShapeDrawsParts : Type 0
-ShapeDrawsParts = (keys : ℕ → Key) (v : Key → List ℕ) (n : ℕ) (ps : Parts) → plain (shows v (shape keys n ps)) ≡ draw (λ k. v (keys k)) ps
+ShapeDrawsParts = (keys : ℕ → Key) (v : Key → Option ViewTree) (n : ℕ) (ps : Parts) → plain (shows (λ k. look_of (v k)) (shape keys n ps)) ≡ draw (λ k. v (keys k)) ps
 
 -- a page that stands displays the drawing of its template with what its instance has kept, and nothing where none is linked
 abbrev pub PageDisplaysInstance : Type 0

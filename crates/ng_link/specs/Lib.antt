@@ -1,7 +1,7 @@
+pub mod Seen
 pub mod Sources
 pub mod Shape
-pub mod Seen
-pub mod Order
+pub mod Holes
 pub mod Rows
 pub mod Building
 pub mod State

@@ -1,15 +1,15 @@
 -- What linking makes of a template: what stands of it, with a name for each node in document order, and a key for each site
 -- (guide: HTML Compiler, "How directives are compiled").
-use Rattle.std.specs.Prelude.{ℕ, ◌+◌, List, [], ◌∷◌, ◌++◌, map, Result, Ok, Err, nat_lt, if◌then◌else◌}
+use Rattle.std.specs.Prelude.{ℕ, ◌+◌, ◌==◌, List, [], ◌∷◌, ◌++◌, map, Result, Ok, Err, nat_lt, if◌then◌else◌}
 use Rattle.ng_base.specs.declared.fault.Fault.{Fault}
 use Rattle.ng_base.specs.declared.fault.Fault.TheVariants.{NodeLimit}
 use Rattle.ng_base.specs.declared.path.Key.{Key}
-use Rattle.ng_dom.specs.Drawing.{DrawnAttributes, Stand, Stands, text_stands, comment_stands, element_stands, none_stand, stand_then}
+use Rattle.ng_dom.specs.Drawing.{DrawnHiding, while_true, while_false, DrawnClass, DrawnValue, always, unless_empty, flag, classes, DrawnAttributes, Stand, Stands, text_stands, comment_stands, element_stands, none_stand, stand_then}
 use Rattle.ng_dom.specs.declared.record.Piece.{Piece}
 use Rattle.ng_dom.specs.declared.record.Piece.TheVariants.{Words, Hole}
 use Rattle.ng_drawing.specs.Nodes.{part_nodes, nodes, node_limit}
 use Rattle.ng_drawing.specs.Template as template
-use Rattle.ng_drawing.specs.Template.{word, hole, PartAttributes, Part, Parts, text_part, comment_part, element_part, no_parts, part_then}
+use Rattle.ng_drawing.specs.Template.{word, hole, PartAttributes, Part, Contents, Parts, text_part, comment_part, element_part, children, bound, no_parts, part_then}
 
 -- the key of a number on a scope's path
 abbrev pub key_on : List ℕ → ℕ → Key
@@ -27,21 +27,48 @@ linked_piece keys (hole n) = Hole (keys n)
 abbrev pub linked_pieces : (ℕ → Key) → List template.Piece → List Piece
 linked_pieces keys ps = map (linked_piece keys) ps
 
+abbrev pub linked_hiding : (ℕ → Key) → template.Hiding → DrawnHiding
+linked_hiding keys (template.while_true n) = while_true (keys n)
+linked_hiding keys (template.while_false n) = while_false (keys n)
+
+abbrev pub linked_class : (ℕ → Key) → template.PartClass → DrawnClass
+linked_class keys c = record {
+  written = c.written;
+  pieces = linked_pieces keys c.pieces;
+  words = map keys c.words;
+  hidings = map (linked_hiding keys) c.hidings;
+}
+
+abbrev pub linked_value : (ℕ → Key) → template.PartValue → DrawnValue
+linked_value keys (template.always ps) = always (linked_pieces keys ps)
+linked_value keys (template.unless_empty ps) = unless_empty (linked_pieces keys ps)
+linked_value keys (template.flag w n) = flag w (keys n)
+linked_value keys (template.classes c) = classes (linked_class keys c)
+
 abbrev pub linked_values : (ℕ → Key) → PartAttributes → DrawnAttributes
-linked_values keys ats = map (λ a. (a.0, linked_pieces keys a.1)) ats
+linked_values keys ats = map (λ a. (a.0, linked_value keys a.1)) ats
 
 -- what stands of parts, given the keys of the sites and the name of the first node
 abbrev mutual
   pub part_shape : (ℕ → Key) → ℕ → Part → Stand
   part_shape keys n (text_part ps) = text_stands n (linked_pieces keys ps)
   part_shape keys n (comment_part t) = comment_stands n t
-  part_shape keys n (element_part e ats ps) = element_stands n e (linked_values keys ats) (shape keys (n + 1) ps)
+  part_shape keys n (element_part e own acts ats c) = element_stands n e (linked_values keys ats) (content_shape keys (n + 1) c)
+
+  pub content_shape : (ℕ → Key) → ℕ → Contents → Stands
+  content_shape keys n (children ps) = shape keys n ps
+  content_shape keys n (bound k) = stand_then (text_stands n (Hole (keys k) ∷ [])) none_stand
 
   pub shape : (ℕ → Key) → ℕ → Parts → Stands
   shape keys n no_parts = none_stand
   shape keys n (part_then p ps) = stand_then (part_shape keys n p) (shape keys (n + part_nodes p) ps)
 
--- the names of the nodes in which the holes stand, in document order
+-- An element's own site is drawn in it, but for the one whose text its contents are.
+abbrev pub own_node : ℕ → Contents → ℕ → ℕ
+own_node n (children ps) k = n
+own_node n (bound b) k = if k == b then n + 1 else n
+
+-- the names of the nodes in which the sites are drawn, in document order
 abbrev pub piece_holes : ℕ → List template.Piece → List ℕ
 piece_holes n [] = []
 piece_holes n (word w ∷ ps) = piece_holes n ps
@@ -51,7 +78,11 @@ abbrev mutual
   pub part_holes : ℕ → Part → List ℕ
   part_holes n (text_part ps) = piece_holes n ps
   part_holes n (comment_part t) = []
-  part_holes n (element_part e ats ps) = holes (n + 1) ps
+  part_holes n (element_part e own acts ats c) = map (own_node n c) own ++ content_holes (n + 1) c
+
+  pub content_holes : ℕ → Contents → List ℕ
+  content_holes n (children ps) = holes n ps
+  content_holes n (bound k) = []
 
   pub holes : ℕ → Parts → List ℕ
   holes n no_parts = []

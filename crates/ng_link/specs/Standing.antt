@@ -8,12 +8,12 @@ use Rattle.ng_dom.specs.Nodes.{NamedForest, plain}
 use Rattle.ng_dom.specs.declared.dom.Dom.{Dom}
 use Rattle.ng_drawing.specs.Template.{Template}
 use Rattle.ng_markup.specs.Forest.{Forest}
-use Rattle.ng_template.specs.Holes.{HolesBelow}
 use Rattle.ng_watch.specs.Seen.{WatchStands}
 use Rattle.ng_watch.specs.Table.{Table}
+use Rattle.ng_link.specs.Holes.{HolesBelow}
 use Rattle.ng_link.specs.Shape.{shape}
 use Rattle.ng_link.specs.Sources.{sources}
-use Rattle.ng_link.specs.State.{Page, keys_of, Linked, state_of, places_of, texts_in}
+use Rattle.ng_link.specs.State.{Page, keys_of, Linked, state_of, places_of, looks_in}
 use Rattle.ng_link.specs.declared.works.Works.{Works}
 
 -- a template's parts stand with the keys of an instance, from a name on
@@ -39,9 +39,9 @@ abbrev pub WatchersStand : ℕ → Table → Type 0
 WatchersStand count t = AllByRecursion (λ e. WatchStands count e.1.watch) t
 
 -- The document shows what stands, with what its sites have kept. For each node it is known what it is drawn from, and for each
--- hole where it is. The numbers of sites are below the next number of registration, and the objects that watchers name are there.
+-- site in which node it is drawn. The numbers of sites are below the next number of registration, and the objects that watchers name are there.
 pub record Standing (w : Works) (ts : Stands) : Type 0 where
-  pub shown : Shows w.dom (shows (texts_in (state_of w)) ts)
+  pub shown : Shows w.dom (shows (looks_in (state_of w)) ts)
   pub held : HeldAll (places_of w) (sources w.dom) ts
   pub below : (k : Key) → IsSome (places_of w k) → k.serial.0 < (state_of w).core.serial
   pub watched : WatchersStand (length (state_of w).core.objects) (state_of w).watchers

@@ -6,10 +6,11 @@ use Rattle.ng_act.specs.Frames as cores
 use Rattle.ng_act.specs.State as act
 use Rattle.ng_base.specs.Views.{ViewTree}
 use Rattle.ng_base.specs.declared.path.Key.{Key}
-use Rattle.ng_dom.specs.Drawing.{Place, in_text}
+use Rattle.ng_dom.specs.Drawing.{Look}
 use Rattle.ng_drawing.specs.Drawing.{Rendered, shown_as}
 use Rattle.ng_drawing.specs.Instance as instances
-use Rattle.ng_drawing.specs.Instance.{SiteState, Instance, kept_text}
+use Rattle.ng_drawing.specs.Instance.{SiteState, Instance}
+use Rattle.ng_drawing.specs.Looks.{kept_text, kept_words, kept_truth}
 use Rattle.ng_drawing.specs.Template.{Template, no_parts}
 use Rattle.ng_language.specs.Trees.{Trees}
 use Rattle.ng_markup.specs.Forest.{Forest, no_nodes}
@@ -87,12 +88,15 @@ kept_or None None = None
 abbrev pub kept_in : Table → Resting → Key → Option ViewTree
 kept_in t r k = kept_or (found k t) (lookup (is_key k) r)
 
--- the text of that, or none
-abbrev pub texts_of : Table → Resting → Key → List ℕ
-texts_of t r k = kept_text (kept_in t r k)
+-- what is seen of that, or nothing
+abbrev pub look_of : Option ViewTree → Look
+look_of s = record { text = kept_text s; words = kept_words s; truth = kept_truth s }
 
-abbrev pub texts_in : State → Key → List ℕ
-texts_in s = texts_of s.watchers s.resting
+abbrev pub looks_of : Table → Resting → Key → Look
+looks_of t r k = look_of (kept_in t r k)
+
+abbrev pub looks_in : State → Key → Look
+looks_in s = looks_of s.watchers s.resting
 
 -- a site with what it shows; it rests where it has no watcher
 abbrev pub site_state : Table → Resting → ℕ → Key → SiteState
@@ -175,6 +179,6 @@ abbrev pub spot_in : Option code.Linked → Key → Option ℕ
 spot_in None k = None
 spot_in (Some p) k = spot_at p k
 
--- where the site of a key is drawn
-abbrev pub places_of : Works → Key → Option Place
-places_of w k = option_map in_text (spot_in w.page k)
+-- the node that the site of a key is drawn in, among all that stands
+abbrev pub places_of : Works → Key → Option ℕ
+places_of w k = spot_in w.page k

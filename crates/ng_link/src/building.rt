@@ -1,30 +1,28 @@
 //! Nodes are built apart, part by part.
-ghost use Rattle.std.specs.Prelude.{ℕ, List, Option, ◌≡◌, ◌+◌, ◌≤◌, ◌<◌, ◌++◌, [], map, true, IfOk, OnOk, IfErr};
+ghost use Rattle.std.specs.Prelude.{◌≡◌, ◌+◌, ◌≤◌, ◌<◌, ◌++◌, map, true, Some, IfOk, OnOk, IfErr};
 ghost use Rattle.ng_base.specs.Faults.{is_memory};
-ghost use Rattle.ng_dom.specs.Document.{rooms, next_name, live_count, Gains, Stays, Becomes};
-ghost use Rattle.ng_dom.specs.Drawing.{stand_then, none_stand, comment_stands, shows, joined, drawn_attributes};
+ghost use Rattle.ng_dom.specs.Document.{next_name, live_count, Gains, IsLive};
+ghost use Rattle.ng_dom.specs.Drawing.{stand_then, none_stand, comment_stands, element_stands, shows};
 ghost use Rattle.ng_dom.specs.Making.{new_part, node_limit as dom_limit};
 ghost use Rattle.ng_dom.specs.Nodes.{names_of};
-ghost use Rattle.ng_dom.specs.Rooms.{ReadsIn};
-ghost use Rattle.ng_dom.specs.Editing.{changed_in, with_attributes, attribute_set};
-ghost use Rattle.ng_drawing.specs.Nodes.{part_nodes, nodes};
-ghost use Rattle.ng_drawing.specs.Template.{parts_from, no_parts, text_part, element_part};
+ghost use Rattle.ng_drawing.specs.Nodes.{part_nodes, content_nodes, nodes};
+ghost use Rattle.ng_drawing.specs.Template.{parts_from, text_part, bound};
 ghost use Rattle.ng_template.specs.PieceOf.{piece_of as seen_piece};
-ghost use Rattle.ng_template.specs.Seen.{part_of, parts_of};
-ghost use Rattle.ng_link.specs.Building.{unset, parent_name, IsThere, IsMade, Spares, Builds};
-ghost use Rattle.ng_link.specs.Order.{names_rise, HasRising, HaveRising};
-ghost use Rattle.ng_link.specs.Shape.{keys_from, part_shape, shape, part_holes, piece_holes, holes};
-ghost use Rattle.ng_link.specs.Seen.{fault_of, named_as, drawn_of, lone_element};
+ghost use Rattle.ng_template.specs.Seen.{part_of, contents_of};
+ghost use Rattle.ng_link.specs.Building.{unset, parent_name, IsThere, IsMade, Builds};
+ghost use Rattle.ng_link.specs.Shape.{keys_from, linked_values, part_shape, content_shape, shape, own_node, piece_holes, part_holes, content_holes, holes};
+ghost use Rattle.ng_link.specs.Seen.{fault_of, named_as};
 
-use crate::copying::{copied_pieces, copied_values, unset_text};
+use crate::attributes::unset_attributes;
+use crate::copying::{copied_attributes, copied_pieces, key_at, unset_text};
 use ng_base::fault::Fault;
 use ng_base::name::NodeId;
 use ng_base::path::Path;
 use ng_base::txt::Txt;
 use ng_dom::dom::Dom;
 use ng_dom::fault::DomFault;
-use ng_dom::record::{Drawn, Group, Home, NewNode, Part as DomPart};
-use ng_template::{Part, Parts, Piece, Pieces, Values};
+use ng_dom::record::{Group, Home, NewNode, Part as DomPart, Piece as DrawnPiece};
+use ng_template::{Attributes, Contents, Part, Piece, Pieces};
 use std::alloc::{AllocError, Global};
 
 /// The fault of a page that a document's fault is.
@@ -62,7 +60,7 @@ fn make(dom: &mut Dom, parent: Option<NodeId>, part: DomPart, home: Home) -> Res
     }
 }
 
-/// Notes the node of each hole.
+/// Notes the node of each hole of a text.
 fn note_holes(spots: &mut Vec<u64>, n: NodeId, pieces: &[Piece]) -> Result<(), AllocError>
     ensures { OnOk result (spots.new.items ≡ spots.old.items ++ piece_holes n.made.0 (map seen_piece pieces.now)) }
 {
@@ -71,6 +69,33 @@ fn note_holes(spots: &mut Vec<u64>, n: NodeId, pieces: &[Piece]) -> Result<(), A
             Piece::Word(_) => {}
             Piece::Hole(_) => spots.push(n.made.0)?,
         }
+    }
+    Ok(())
+}
+
+/// Notes the node of each site of an element.
+fn note_own(spots: &mut Vec<u64>, n: NodeId, own: &[u32]) -> Result<(), AllocError>
+    ensures { OnOk result (spots.new.items ≡ spots.old.items ++ map (λ _. n.made.0) own.now) }
+{
+    for _ in own {
+        spots.push(n.made.0)?;
+    }
+    Ok(())
+}
+
+/// Notes the node of each site of an element, one of which is drawn in the text that follows it.
+fn note_bound(
+    spots: &mut Vec<u64>,
+    n: NodeId,
+    text: NodeId,
+    b: u32,
+    own: &[u32],
+) -> Result<(), AllocError>
+    requires { text.made.0 ≡ n.made.0 + 1 }
+    ensures { OnOk result (spots.new.items ≡ spots.old.items ++ map (own_node n.made.0 (bound b)) own.now) }
+{
+    for k in own {
+        spots.push(if *k == b { text.made.0 } else { n.made.0 })?;
     }
     Ok(())
 }
@@ -117,29 +142,29 @@ fn build_comment(dom: &mut Dom, parent: Option<NodeId>, text: &Txt) -> Result<No
     )
 }
 
-/// An element's attributes are set, one after another.
-fn set_values(alloc: Global, dom: &mut Dom, n: NodeId, values: &[Drawn]) -> Result<(), AllocError>
-    requires { names_rise (map drawn_of values.now) ≡ true }
-    ensures filled { OnOk result ((p : Option ℕ) (e : List ℕ) → ReadsIn (rooms dom.old) p (lone_element n.made.0 e []) → ReadsIn (rooms dom.new) p (lone_element n.made.0 e (drawn_attributes unset (map drawn_of values.now)))) }
-    ensures spares { OnOk result (Spares n.made.0 dom.old dom.new) }
-    ensures stays { OnOk result (Stays dom.old dom.new) }
+/// The node of a text that one site shows.
+fn build_bound(
+    alloc: Global,
+    dom: &mut Dom,
+    path: &Path,
+    first: u64,
+    parent: Option<NodeId>,
+    b: u32,
+) -> Result<NodeId, Fault>
+    requires there { IsThere dom.old parent }
+    requires room { live_count dom.old < dom_limit }
+    ensures name { IfOk result (λ n. n.made.0 ≡ next_name dom.old) }
+    ensures builds { OnOk result (Builds (parent_name parent) (content_shape (keys_from path.now first) (next_name dom.old) (bound b)) 1 dom.old dom.new) }
+    ensures faults { IfErr result (λ e. is_memory e ≡ true) }
 {
-    for value in values {
-        set_value(alloc, dom, n, value)?;
-    }
-    Ok(())
-}
-
-/// An element's attribute is set.
-fn set_value(alloc: Global, dom: &mut Dom, n: NodeId, value: &Drawn) -> Result<(), AllocError>
-    ensures becomes { OnOk result (Becomes dom.old dom.new (changed_in n.made.0 (with_attributes (attribute_set (drawn_of value.now).0 (joined unset (drawn_of value.now).1))))) }
-    ensures stays { Stays dom.old dom.new }
-{
-    let text = unset_text(alloc, value.pieces.as_slice())?;
-    match dom.set_attr(n, &value.name, text) {
-        Ok(_) => Ok(()),
-        Err(_) => Err(AllocError),
-    }
+    let mut drawn = Vec::new(alloc);
+    drawn.push(DrawnPiece::Hole(key_at(path, first, b as u64)?))?;
+    make(
+        dom,
+        parent,
+        DomPart::Node(NewNode::Text(Txt::new(alloc))),
+        Home::Text(drawn),
+    )
 }
 
 /// An element's node, with its attributes and without children.
@@ -150,17 +175,16 @@ fn build_element(
     first: u64,
     parent: Option<NodeId>,
     name: &Txt,
-    values: &Values,
+    attributes: &Attributes,
 ) -> Result<NodeId, Fault>
     requires there { IsThere dom.old parent }
     requires room { live_count dom.old < dom_limit }
-    requires rise { names_rise values.now ≡ true }
     ensures name { IfOk result (λ n. n.made.0 ≡ next_name dom.old) }
-    ensures builds { OnOk result (Builds (parent_name parent) (stand_then (part_shape (keys_from path.now first) (next_name dom.old) (element_part name.now values.now no_parts)) none_stand) 1 dom.old dom.new) }
+    ensures builds { OnOk result (Builds (parent_name parent) (stand_then (element_stands (next_name dom.old) name.now (linked_values (keys_from path.now first) attributes.now) none_stand) none_stand) 1 dom.old dom.new) }
     ensures faults { IfErr result (λ e. is_memory e ≡ true) }
 {
-    let drawn = copied_values(alloc, path, first, values.as_slice())?;
-    let attributes = copied_values(alloc, path, first, values.as_slice())?;
+    let drawn = copied_attributes(alloc, path, first, attributes.as_slice())?;
+    let shown = unset_attributes(alloc, drawn.as_slice())?;
     let name = name.copied()?;
     let n = make(
         dom,
@@ -168,7 +192,7 @@ fn build_element(
         DomPart::Node(NewNode::Element(name)),
         Home::Attributes(drawn),
     )?;
-    set_values(alloc, dom, n, attributes.as_slice())?;
+    dom.set_attrs(n, shown);
     Ok(n)
 }
 
@@ -185,7 +209,6 @@ fn build_part(
 ) -> Result<NodeId, Fault>
     requires there { IsThere dom.old parent }
     requires room { live_count dom.old + part_nodes (part_of part.now) ≤ dom_limit }
-    requires rising { HasRising (part_of part.now) }
     ensures name { IfOk result (λ n. n.made.0 ≡ next_name dom.old) }
     ensures builds { OnOk result (Builds (parent_name parent) (stand_then (part_shape (keys_from path.now first) (next_name dom.old) (part_of part.now)) none_stand) (part_nodes (part_of part.now)) dom.old dom.new) }
     ensures holes { OnOk result (spots.new.items ≡ spots.old.items ++ part_holes (next_name dom.old) (part_of part.now)) }
@@ -200,10 +223,21 @@ fn build_part(
         Part::Comment(text) => build_comment(dom, parent, text),
         Part::Element {
             name,
+            own,
             attributes,
-            parts,
+            contents,
+            ..
         } => build_whole(
-            alloc, dom, path, first, spots, parent, name, attributes, parts,
+            alloc,
+            dom,
+            path,
+            first,
+            spots,
+            parent,
+            name,
+            own.as_slice(),
+            attributes,
+            contents,
         ),
     }
 }
@@ -218,21 +252,56 @@ fn build_whole(
     spots: &mut Vec<u64>,
     parent: Option<NodeId>,
     name: &Txt,
-    attributes: &Values,
-    parts: &Parts,
+    own: &[u32],
+    attributes: &Attributes,
+    contents: &Contents,
 ) -> Result<NodeId, Fault>
     requires there { IsThere dom.old parent }
-    requires room { live_count dom.old + (1 + nodes (parts_of parts.now)) ≤ dom_limit }
-    requires rising { (names_rise attributes.now ≡ true) × HaveRising (parts_of parts.now) }
+    requires room { live_count dom.old + (1 + content_nodes (contents_of contents.now)) ≤ dom_limit }
     ensures name { IfOk result (λ n. n.made.0 ≡ next_name dom.old) }
-    ensures builds { OnOk result (Builds (parent_name parent) (stand_then (part_shape (keys_from path.now first) (next_name dom.old) (element_part name.now attributes.now (parts_of parts.now))) none_stand) (1 + nodes (parts_of parts.now)) dom.old dom.new) }
-    ensures holes { OnOk result (spots.new.items ≡ spots.old.items ++ holes (next_name dom.old + 1) (parts_of parts.now)) }
+    ensures builds { OnOk result (Builds (parent_name parent) (stand_then (element_stands (next_name dom.old) name.now (linked_values (keys_from path.now first) attributes.now) (content_shape (keys_from path.now first) (next_name dom.old + 1) (contents_of contents.now))) none_stand) (1 + content_nodes (contents_of contents.now)) dom.old dom.new) }
+    ensures holes { OnOk result (spots.new.items ≡ spots.old.items ++ (map (own_node (next_name dom.old) (contents_of contents.now)) own.now ++ content_holes (next_name dom.old + 1) (contents_of contents.now))) }
     ensures faults { IfErr result (λ e. is_memory e ≡ true) }
 {
     let n = build_element(alloc, dom, path, first, parent, name, attributes)?;
-    let kids = build_parts(alloc, dom, path, first, spots, Some(n), parts.as_slice())?;
+    let kids = build_contents(alloc, dom, path, first, spots, n, own, contents)?;
     dom.fill(n, kids);
     Ok(n)
+}
+
+/// The nodes that an element contains, which is the last that was made.
+#[cycle(build)]
+fn build_contents(
+    alloc: Global,
+    dom: &mut Dom,
+    path: &Path,
+    first: u64,
+    spots: &mut Vec<u64>,
+    n: NodeId,
+    own: &[u32],
+    contents: &Contents,
+) -> Result<Group, Fault>
+    requires there { IsLive dom.old n.made.0 }
+    requires last { next_name dom.old ≡ n.made.0 + 1 }
+    requires room { live_count dom.old + content_nodes (contents_of contents.now) ≤ dom_limit }
+    ensures names { IfOk result (λ g. g.nodes.items ≡ names_of (shows unset (content_shape (keys_from path.now first) (next_name dom.old) (contents_of contents.now)))) }
+    ensures builds { OnOk result (Builds (Some n.made.0) (content_shape (keys_from path.now first) (next_name dom.old) (contents_of contents.now)) (content_nodes (contents_of contents.now)) dom.old dom.new) }
+    ensures holes { OnOk result (spots.new.items ≡ spots.old.items ++ (map (own_node n.made.0 (contents_of contents.now)) own.now ++ content_holes (next_name dom.old) (contents_of contents.now))) }
+    ensures faults { IfErr result (λ e. is_memory e ≡ true) }
+{
+    match contents {
+        Contents::Children(parts) => {
+            note_own(spots, n, own)?;
+            build_parts(alloc, dom, path, first, spots, Some(n), parts.as_slice())
+        }
+        Contents::Bound(b) => {
+            let text = build_bound(alloc, dom, path, first, Some(n), *b)?;
+            note_bound(spots, n, text, *b, own)?;
+            let mut group = Group::new(alloc);
+            group.push(text)?;
+            Ok(group)
+        }
+    }
 }
 
 /// The nodes of parts, with all that they hold.
@@ -248,7 +317,6 @@ pub(crate) fn build_parts(
 ) -> Result<Group, Fault>
     requires there { IsThere dom.old parent }
     requires room { live_count dom.old + nodes (parts_from (map part_of parts.now)) ≤ dom_limit }
-    requires rising { HaveRising (parts_from (map part_of parts.now)) }
     ensures names { IfOk result (λ g. g.nodes.items ≡ names_of (shows unset (shape (keys_from path.now first) (next_name dom.old) (parts_from (map part_of parts.now))))) }
     ensures builds { OnOk result (Builds (parent_name parent) (shape (keys_from path.now first) (next_name dom.old) (parts_from (map part_of parts.now))) (nodes (parts_from (map part_of parts.now))) dom.old dom.new) }
     ensures holes { OnOk result (spots.new.items ≡ spots.old.items ++ holes (next_name dom.old) (parts_from (map part_of parts.now))) }

@@ -3,17 +3,19 @@ ghost use Rattle.std.specs.Prelude.{◌≡◌, ◌+◌, ◌++◌, ◌∷◌, [],
 ghost use Rattle.ng_base.specs.Faults.{is_memory};
 ghost use Rattle.ng_dom.specs.Drawing.{joined};
 ghost use Rattle.ng_template.specs.PieceOf.{piece_of as seen_piece};
-ghost use Rattle.ng_template.specs.ValueOf.{value_of};
-ghost use Rattle.ng_link.specs.Seen.{drawn_of};
+ghost use Rattle.ng_template.specs.AttributeOf.{hiding_of as seen_hiding, class_of as seen_class, value_of, attribute_of};
+ghost use Rattle.ng_link.specs.Seen.{hiding_of, class_of, drawn_value_of, drawn_of};
 ghost use Rattle.ng_link.specs.Building.{unset};
-ghost use Rattle.ng_link.specs.Shape.{key_on, keys_from, linked_piece, linked_pieces, linked_values};
+ghost use Rattle.ng_link.specs.Shape.{key_on, keys_from, linked_piece, linked_pieces, linked_hiding, linked_class, linked_value, linked_values};
 
 use ng_base::fault::{Fault, Memory};
 use ng_base::name::Serial;
 use ng_base::path::{Key, Path};
 use ng_base::txt::Txt;
-use ng_dom::record::{Drawn, Piece};
-use ng_template::{Piece as TemplatePiece, Value};
+use ng_dom::record::{Drawn, DrawnClass, DrawnValue, Hiding, Piece};
+use ng_template::{
+    Attribute, AttributeValue, ClassValue, Hiding as TemplateHiding, Piece as TemplatePiece,
+};
 use std::alloc::{AllocError, Global};
 
 /// The key of a number on a scope's path.
@@ -64,31 +66,123 @@ pub(crate) fn copied_pieces(
     Ok(copy)
 }
 
-/// Attributes with the keys of their holes.
-pub(crate) fn copied_values(
+/// The keys of sites.
+fn copied_keys(alloc: Global, path: &Path, first: u64, numbers: &[u32]) -> Result<Vec<Key>, Memory>
+    ensures { IfOk result (λ v. v.items ≡ map (keys_from path.now first) numbers.now) }
+{
+    let mut keys = Vec::new(alloc);
+    for n in numbers {
+        keys.push(key_at(path, first, *n as u64)?)?;
+    }
+    Ok(keys)
+}
+
+/// What hides an element, with the key of its site.
+fn copied_hiding(path: &Path, first: u64, hiding: &TemplateHiding) -> Result<Hiding, Memory>
+    ensures { IfOk result (λ h. hiding_of h ≡ linked_hiding (keys_from path.now first) (seen_hiding hiding.now)) }
+{
+    match hiding {
+        TemplateHiding::WhileTrue(n) => Ok(Hiding::WhileTrue(key_at(path, first, *n as u64)?)),
+        TemplateHiding::WhileFalse(n) => Ok(Hiding::WhileFalse(key_at(path, first, *n as u64)?)),
+    }
+}
+
+/// All that hides an element, with the keys of its sites.
+fn copied_hidings(
     alloc: Global,
     path: &Path,
     first: u64,
-    values: &[Value],
-) -> Result<Vec<Drawn>, Fault>
-    ensures values { IfOk result (λ v. map drawn_of v.items ≡ linked_values (keys_from path.now first) (map value_of values.now)) }
-    ensures faults { IfErr result (λ e. is_memory e ≡ true) }
+    hidings: &[TemplateHiding],
+) -> Result<Vec<Hiding>, Memory>
+    ensures { IfOk result (λ v. map hiding_of v.items ≡ map (linked_hiding (keys_from path.now first)) (map seen_hiding hidings.now)) }
 {
     let mut copy = Vec::new(alloc);
-    for value in values {
-        copy.push(copied_value(alloc, path, first, value)?)?;
+    for hiding in hidings {
+        copy.push(copied_hiding(path, first, hiding)?)?;
     }
     Ok(copy)
 }
 
-/// An attribute with the keys of its holes.
-fn copied_value(alloc: Global, path: &Path, first: u64, value: &Value) -> Result<Drawn, Fault>
-    ensures value { IfOk result (λ a. drawn_of a ≡ ((value_of value.now).0, linked_pieces (keys_from path.now first) (value_of value.now).1)) }
+/// What a class is drawn from, with the keys of its sites.
+fn copied_class(
+    alloc: Global,
+    path: &Path,
+    first: u64,
+    class: &ClassValue,
+) -> Result<DrawnClass, Fault>
+    ensures class { IfOk result (λ c. class_of c ≡ linked_class (keys_from path.now first) (seen_class class.now)) }
     ensures faults { IfErr result (λ e. is_memory e ≡ true) }
 {
-    let pieces = copied_pieces(alloc, path, first, value.pieces.as_slice())?;
-    let name = value.name.copied()?;
-    Ok(Drawn { name, pieces })
+    let pieces = copied_pieces(alloc, path, first, class.pieces.as_slice())?;
+    let words = copied_keys(alloc, path, first, class.words.as_slice())?;
+    let hidings = copied_hidings(alloc, path, first, class.hidings.as_slice())?;
+    Ok(DrawnClass {
+        written: class.written,
+        pieces,
+        words,
+        hidings,
+    })
+}
+
+/// What an attribute is drawn from, with the keys of its holes.
+fn copied_value(
+    alloc: Global,
+    path: &Path,
+    first: u64,
+    value: &AttributeValue,
+) -> Result<DrawnValue, Fault>
+    ensures value { IfOk result (λ v. drawn_value_of v ≡ linked_value (keys_from path.now first) (value_of value.now)) }
+    ensures faults { IfErr result (λ e. is_memory e ≡ true) }
+{
+    match value {
+        AttributeValue::Always(pieces) => {
+            let copy = copied_pieces(alloc, path, first, pieces.as_slice())?;
+            Ok(DrawnValue::Always(copy))
+        }
+        AttributeValue::UnlessEmpty(pieces) => {
+            let copy = copied_pieces(alloc, path, first, pieces.as_slice())?;
+            Ok(DrawnValue::UnlessEmpty(copy))
+        }
+        AttributeValue::Flag(word, n) => {
+            let key = key_at(path, first, *n as u64)?;
+            Ok(DrawnValue::Flag(word.copied()?, key))
+        }
+        AttributeValue::Classes(class) => {
+            Ok(DrawnValue::Classes(copied_class(alloc, path, first, class)?))
+        }
+    }
+}
+
+/// An attribute with the keys of its holes.
+fn copied_attribute(
+    alloc: Global,
+    path: &Path,
+    first: u64,
+    attribute: &Attribute,
+) -> Result<Drawn, Fault>
+    ensures attribute { IfOk result (λ a. drawn_of a ≡ ((attribute_of attribute.now).0, linked_value (keys_from path.now first) (attribute_of attribute.now).1)) }
+    ensures faults { IfErr result (λ e. is_memory e ≡ true) }
+{
+    let value = copied_value(alloc, path, first, &attribute.value)?;
+    let name = attribute.name.copied()?;
+    Ok(Drawn { name, value })
+}
+
+/// Attributes with the keys of their holes.
+pub(crate) fn copied_attributes(
+    alloc: Global,
+    path: &Path,
+    first: u64,
+    attributes: &[Attribute],
+) -> Result<Vec<Drawn>, Fault>
+    ensures attributes { IfOk result (λ v. map drawn_of v.items ≡ linked_values (keys_from path.now first) (map attribute_of attributes.now)) }
+    ensures faults { IfErr result (λ e. is_memory e ≡ true) }
+{
+    let mut copy = Vec::new(alloc);
+    for attribute in attributes {
+        copy.push(copied_attribute(alloc, path, first, attribute)?)?;
+    }
+    Ok(copy)
 }
 
 /// Adds words at the end. The first are shared.

@@ -1,121 +1,119 @@
-//! What a text shows, joined from what the sites of its holes have kept, and the call that has a watcher keep something.
-ghost use Rattle.std.specs.Prelude.{◌≡◌, ◌++◌, None, Some, IsSome, IfOk, OnOk, IfErr, option_map};
-ghost use Rattle.ng_dom.specs.Drawing.{Stands, joined};
-ghost use Rattle.ng_drawing.specs.Instance.{kept_text};
+//! What a node shows, drawn from what its sites have kept, and the call that has a watcher keep something.
+ghost use Rattle.std.specs.Prelude.{◌≡◌, Some, IsSome, IfOk, OnOk, IfErr, map, option_map};
+ghost use Rattle.ng_dom.specs.Drawing.{Stands, classes, drawn_value, drawn_attributes};
 ghost use Rattle.ng_value.specs.Snaps.{snap_of};
 ghost use Rattle.ng_watch.specs.Table.{found, kept_at};
 ghost use Rattle.ng_link.specs.Calls.{keeping_at};
-ghost use Rattle.ng_link.specs.Firing.{text_in, Writes, Fires};
+ghost use Rattle.ng_link.specs.Firing.{drawn_anew, redraw_of, Writes, Fires};
+ghost use Rattle.ng_link.specs.Seen.{class_of, drawn_value_of, drawn_of};
 ghost use Rattle.ng_link.specs.Sources.{source_of, sources};
 ghost use Rattle.ng_link.specs.Standing.{Standing};
-ghost use Rattle.ng_link.specs.State.{kept_in, texts_in, state_of, templates_of};
+ghost use Rattle.ng_link.specs.State.{looks_in, state_of, templates_of};
 
-use crate::copying::add_words;
+use crate::attributes::{if_any, set};
+use crate::looks::{is_hidden, is_kept_true, joined_text, shown_words};
 use crate::placing::spot_in;
 use crate::works::Works;
 use ng_base::fault::Memory;
 use ng_base::name::NodeId;
 use ng_base::path::Key;
 use ng_base::txt::Txt;
-use ng_base::value::Value;
-use ng_base::view::View;
-use ng_dom::record::{Home, Piece};
+use ng_dom::record::{Drawn, DrawnClass, DrawnValue, Home};
+use ng_drawing::classes::class_text;
 use ng_value::snapshot::Snap;
 use std::alloc::AllocError;
+use std::collections::BTreeMap;
 
-/// What a site has kept at rest, where it rests.
-fn kept_at_rest<'a>(works: &'a Works, key: &Key) -> Option<&'a Snap>
-    requires { kept_at key.now (state_of works.now).watchers ≡ None }
-    ensures { option_map (λ s. snap_of s.now) result ≡ kept_in (state_of works.now).watchers (state_of works.now).resting key.now }
+/// What a class is with what is kept.
+fn kept_class(works: &Works, class: &DrawnClass) -> Result<Option<Txt>, AllocError>
+    ensures { IfOk result (λ t. t ≡ drawn_value (looks_in (state_of works.now)) (classes (class_of class.now))) }
 {
-    if works.watchers.has(key) {
-        return None;
-    }
-    match works.resting.get(key) {
-        None => None,
-        Some(kept) => kept.as_ref(),
-    }
+    let text = joined_text(works, class.pieces.as_slice())?;
+    let words = shown_words(works, class.words.as_slice())?;
+    let hidden = is_hidden(works, class.hidings.as_slice());
+    class_text(works.alloc, class.written, &text, &words, hidden)
 }
 
-/// What the site of a key shows.
-pub(crate) fn kept_in<'a>(works: &'a Works, key: &Key) -> Option<&'a Snap>
-    ensures { option_map (λ s. snap_of s.now) result ≡ kept_in (state_of works.now).watchers (state_of works.now).resting key.now }
+/// What an attribute is with what is kept.
+fn kept_value(works: &Works, value: &DrawnValue) -> Result<Option<Txt>, AllocError>
+    ensures { IfOk result (λ t. t ≡ drawn_value (looks_in (state_of works.now)) (drawn_value_of value.now)) }
 {
-    match works.watchers.kept_at(key) {
-        Some(s) => Some(s),
-        None => kept_at_rest(works, key),
-    }
-}
-
-/// Adds what a snapshot holds.
-fn add_snap(text: &mut Txt, s: &Snap) -> Result<(), AllocError>
-    ensures { IfOk result (λ _. text.new ≡ text.old ++ kept_text (Some (snap_of s.now))) }
-{
-    match s.view() {
-        View::Prim(Value::Text(words)) => add_words(text, words),
-        _ => Ok(()),
-    }
-}
-
-/// Adds the text that the site of a key shows.
-fn add_kept(works: &Works, text: &mut Txt, key: &Key) -> Result<(), AllocError>
-    ensures { IfOk result (λ _. text.new ≡ text.old ++ texts_in (state_of works.now) key.now) }
-{
-    match kept_in(works, key) {
-        None => Ok(()),
-        Some(s) => add_snap(text, s),
-    }
-}
-
-/// The text of pieces.
-fn joined_text(works: &Works, pieces: &[Piece]) -> Result<Txt, AllocError>
-    ensures { IfOk result (λ t. t ≡ joined (texts_in (state_of works.now)) pieces.now) }
-{
-    let mut text = Txt::new(works.alloc);
-    for piece in pieces {
-        match piece {
-            Piece::Words(words) => add_words(&mut text, words)?,
-            Piece::Hole(key) => add_kept(works, &mut text, key)?,
+    match value {
+        DrawnValue::Always(pieces) => Ok(Some(joined_text(works, pieces.as_slice())?)),
+        DrawnValue::UnlessEmpty(pieces) => Ok(if_any(joined_text(works, pieces.as_slice())?)),
+        DrawnValue::Flag(word, key) => {
+            if is_kept_true(works, key) {
+                Ok(Some(word.copied()?))
+            } else {
+                Ok(None)
+            }
         }
+        DrawnValue::Classes(class) => kept_class(works, class),
     }
-    Ok(text)
 }
 
-/// The text that is drawn from a home, where it is a text's.
-fn home_text(works: &Works, home: &Home) -> Result<Option<Txt>, AllocError>
-    ensures { IfOk result (λ t. t ≡ text_in (texts_in (state_of works.now)) (Some (source_of home.now))) }
+/// The attributes of an element with what is kept.
+fn kept_attributes(works: &Works, drawn: &[Drawn]) -> Result<BTreeMap<Txt, Txt>, AllocError>
+    ensures { IfOk result (λ ats. ats.entries ≡ drawn_attributes (looks_in (state_of works.now)) (map drawn_of drawn.now)) }
+{
+    let mut attributes = BTreeMap::new(works.alloc);
+    for one in drawn {
+        let value = kept_value(works, &one.value)?;
+        set(&mut attributes, &one.name, value)?;
+    }
+    Ok(attributes)
+}
+
+/// What is drawn anew: nothing, a text, or the attributes of an element.
+#[derive(Drop)]
+pub enum Redraw {
+    Nothing,
+    Text(Txt),
+    Attributes(BTreeMap<Txt, Txt>),
+}
+
+/// What is drawn anew from a home.
+fn home_redraw(works: &Works, home: &Home) -> Result<Redraw, AllocError>
+    ensures { IfOk result (λ r. redraw_of r ≡ drawn_anew (looks_in (state_of works.now)) (Some (source_of home.now))) }
 {
     match home {
-        Home::Text(pieces) => Ok(Some(joined_text(works, pieces.as_slice())?)),
-        Home::Plain => Ok(None),
-        Home::Attributes(_) => Ok(None),
+        Home::Plain => Ok(Redraw::Nothing),
+        Home::Text(pieces) => Ok(Redraw::Text(joined_text(works, pieces.as_slice())?)),
+        Home::Attributes(drawn) => Ok(Redraw::Attributes(kept_attributes(
+            works,
+            drawn.as_slice(),
+        )?)),
     }
 }
 
-/// The text that a node shows, where it is a text.
-fn text_of(works: &Works, n: NodeId) -> Result<Option<Txt>, AllocError>
-    ensures { IfOk result (λ t. t ≡ text_in (texts_in (state_of works.now)) (sources works.now.dom n.made.0)) }
+/// What is drawn anew in a node.
+fn node_redraw(works: &Works, n: NodeId) -> Result<Redraw, AllocError>
+    ensures { IfOk result (λ r. redraw_of r ≡ drawn_anew (looks_in (state_of works.now)) (sources works.now.dom n.made.0)) }
 {
     match works.dom.home(n) {
-        None => Ok(None),
-        Some(home) => home_text(works, home),
+        None => Ok(Redraw::Nothing),
+        Some(home) => home_redraw(works, home),
     }
 }
 
 impl Works {
-    /// A node shows what the sites of its holes have kept.
-    fn write_text(&mut self, n: NodeId) -> Result<(), Memory>
-        ensures written { OnOk result (Writes (texts_in (state_of self.old)) n.made.0 self.old.dom self.new.dom) }
+    /// A node shows what its sites have kept.
+    fn draw_anew(&mut self, n: NodeId) -> Result<(), Memory>
+        ensures written { OnOk result (Writes (looks_in (state_of self.old)) n.made.0 self.old.dom self.new.dom) }
         ensures rest { self.new ≡ record self.old { dom = self.new.dom } }
         ensures refused { IfErr result (λ e. e ≡ Memory.Refused) }
     {
-        match text_of(self, n)? {
-            None => Ok(()),
-            Some(text) => self.dom.set_text(n, text),
+        match node_redraw(self, n)? {
+            Redraw::Nothing => Ok(()),
+            Redraw::Text(text) => self.dom.set_text(n, text),
+            Redraw::Attributes(attributes) => {
+                self.dom.set_attrs(n, attributes);
+                Ok(())
+            }
         }
     }
 
-    /// The node of a hole shows what is kept now.
+    /// The node of a site shows what is kept now.
     fn show_kept(&mut self, key: &Key) -> Result<(), Memory>
         ensures fires { OnOk result (Fires key.now self.old self.new) }
         ensures rest { self.new ≡ record self.old { dom = self.new.dom } }
@@ -123,7 +121,7 @@ impl Works {
     {
         match spot_in(&self.page, key) {
             None => Ok(()),
-            Some(n) => self.write_text(n),
+            Some(n) => self.draw_anew(n),
         }
     }
 

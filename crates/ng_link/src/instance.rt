@@ -5,7 +5,7 @@ ghost use Rattle.ng_value.specs.Snaps.{snap_of};
 ghost use Rattle.ng_link.specs.State.{page_of, kept_in, site_state, site_states, instance_at, instance, state_of};
 
 use crate::copying::key_at;
-use crate::firing::kept_in;
+use crate::looks::kept_in;
 use crate::works::{Linked, Works};
 use ng_base::fault::Memory;
 use ng_base::name::ScopeId;

@@ -8,38 +8,37 @@
 //! - `link` makes the nodes of a template, puts its sites among the watchers, all of them unset, and notes its instance. The nodes
 //!   are counted before the first is made, so that after the fault `NodeLimit` all is as before. Nodes are made apart, with
 //!   what each is drawn from, and are shown by one call at the end.
-//! - `keep` has the watcher of a key keep a snapshot, and the node of its hole shows the text that is joined from what all its
-//!   holes show.
+//! - `keep` has the watcher of a key keep a snapshot, and the node that its site is drawn in is drawn anew: a text joined from what
+//!   all its holes show, or the attributes of an element.
 //! - `declare`, `undeclare` and `unset` are for the watches that programs declare, which are drawn nowhere.
 //! - A site rests where its scope has died (`leave`) or its one-time binding has ended (`end_over`): it has no watcher any more,
 //!   and goes on showing what it had kept.
 //! - `instance` reads the instance off the tables.
 //!
 //! What stands of a template, its nodes and keys without any value, exists in the definitions alone. `Standing` of
-//! `specs/Standing.antt` is the relation between works and what stands: the document shows it with the kept texts, it is known
-//! what each node is drawn from and where each hole is. Each call says that what stood stands. `specs/Shape.antt` has the
+//! `specs/Standing.antt` is the relation between works and what stands: the document shows it with what its sites have kept, it is
+//! known what each node is drawn from and in which node each site is. Each call says that what stood stands. `specs/Shape.antt` has the
 //! definition of linking, `specs/Rows.antt` the watchers that it makes, and [`laws`] what it comes to: the document of a page that
 //! stands is the drawing of its template with what its instance has kept.
 //!
-//! In reading order: `works`; `order` counts nodes and looks at a template's numbers, `copying` copies pieces with the keys
-//! of their holes, `building` makes nodes, `placing` the places and watchers of sites, `linking`; `firing` joins texts, `declaring`,
-//! `resting`; `instance`; `laws`.
+//! In reading order: `works`; `counting` counts nodes, `copying` copies pieces with the keys of their holes, `attributes`
+//! sets those of an element, `building` makes nodes, `placing` has the places and watchers of sites, `linking`; `looks` says what is seen of a site, `firing` draws a node anew, `declaring`, `resting`; `instance`; `laws`.
 //!
-//! Today there is one instance, the page's, at the top of an empty document, and its attributes have no holes. A template whose
-//! holes aren't numbered in document order, or whose attributes aren't in order of their names, comes from no document, and `link`
-//! answers it like one for which a counter is worn out.
+//! Today there is one instance, the page's, at the top of an empty document.
 //!
 //! Not here: when a watcher fires, what its snapshot is, and what programs do.
 #![tactic(auto)]
 
+mod attributes;
 mod building;
 mod copying;
+mod counting;
 mod declaring;
 mod firing;
 pub mod instance;
 pub mod laws;
 pub mod linking;
-mod order;
+mod looks;
 mod placing;
 mod resting;
 pub mod works;

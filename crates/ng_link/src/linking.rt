@@ -10,14 +10,13 @@ ghost use Rattle.ng_drawing.specs.Template.{Template};
 ghost use Rattle.ng_template.specs.Seen.{parts_of};
 ghost use Rattle.ng_link.specs.Building.{unset, HomedAll};
 ghost use Rattle.ng_link.specs.Calls.{linked_in};
-ghost use Rattle.ng_link.specs.Order.{HaveRising};
 ghost use Rattle.ng_link.specs.Shape.{keys_from, shape, holes, linked};
 ghost use Rattle.ng_link.specs.Sources.{sources};
 ghost use Rattle.ng_link.specs.Standing.{Standing, IsStanding};
 ghost use Rattle.ng_link.specs.State.{state_of, templates_of, template_at};
 
 use crate::building::build_parts;
-use crate::order::{is_regular, is_too_large};
+use crate::counting::is_too_large;
 use crate::placing::watch_all;
 use crate::works::{InstId, Linked, Works};
 use ng_base::fault::{Fault, Memory};
@@ -27,7 +26,7 @@ use ng_dom::dom::Dom;
 use ng_template::Parts;
 use std::alloc::Global;
 
-/// Parts become the whole document. The answer is the node of each hole.
+/// Parts become the whole document. The answer is the node of each site.
 fn link_document(
     alloc: Global,
     dom: &mut Dom,
@@ -36,7 +35,6 @@ fn link_document(
     parts: &Parts,
 ) -> Result<Vec<u64>, Fault>
     requires room { live_count dom.old + nodes (parts_of parts.now) ≤ node_limit }
-    requires rising { HaveRising (parts_of parts.now) }
     ensures shows { OnOk result (Shows dom.new (shows unset (shape (keys_from path.now first) (next_name dom.old) (parts_of parts.now)))) }
     ensures homed { OnOk result (HomedAll (sources dom.new) (shape (keys_from path.now first) (next_name dom.old) (parts_of parts.now))) }
     ensures holes { IfOk result (λ h. h.items ≡ holes (next_name dom.old) (parts_of parts.now)) }
@@ -52,8 +50,7 @@ impl Works {
     /// A template becomes the page's on a scope: its nodes are the document, each of its sites is watched, and its instance is
     /// the page's (guide: HTML Compiler, "How directives are compiled"). Whatever is linked is linked at the top of an empty
     /// document today; watches may have been declared before. The nodes are counted before the first is made, so that after the
-    /// fault `NodeLimit` all is as before. A template whose holes aren't numbered in document order, or whose attributes aren't
-    /// plain and in order of their names, comes from no document; it is answered like one whose numbers are worn out.
+    /// fault `NodeLimit` all is as before.
     pub fn link(
         &mut self,
         t: TplId,
@@ -78,9 +75,6 @@ impl Works {
         ensures same { IfErr result (λ e. is_memory e ≡ false → self.new ≡ self.old) }
     {
         let tpl = self.templates.get(t);
-        if !is_regular(tpl) {
-            return Err(Fault::Memory(Memory::Worn));
-        }
         if is_too_large(tpl.parts()) {
             return Err(Fault::NodeLimit);
         }

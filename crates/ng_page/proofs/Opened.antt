@@ -15,7 +15,7 @@ use Rattle.ng_dom.specs.Drawing.{Stands}
 use Rattle.ng_drawing.specs.Template.{Site, Template}
 use Rattle.ng_fire.specs.Whole.{IsWhole, ListenersStand, RowStands, RowsStand}
 use Rattle.ng_link.specs.Calls.{linked_in, left_at}
-use Rattle.ng_link.specs.Rows.{watch_kind, watching_site, with_sites}
+use Rattle.ng_link.specs.Rows.{watching_site, with_sites}
 use Rattle.ng_link.specs.Shape.{key_on}
 use Rattle.ng_link.specs.Standing.{Standing, IsStanding}
 use Rattle.ng_link.specs.State.{State, Linked, Listening, is_site, state_of}
@@ -27,9 +27,9 @@ use Rattle.ng_link.specs.State.{template_at}
 use Rattle.ng_watch.specs.Keys.{key_cmp, key_cmp_total, is_key, begins}
 use Rattle.ng_watch.specs.Seen.{Watching, Watcher}
 use Rattle.ng_watch.specs.Table.{Table, found}
-use Rattle.ng_page.specs.Opening.{AreTexts, linked_root}
+use Rattle.ng_page.specs.Opening.{linked_root}
 use Rattle.ng_page.specs.PageLaws.{is_itself, key_is}
-use Rattle.ng_page.specs.Settled.{text_watch, WatchesAt, AreWatched, IsWatched}
+use Rattle.ng_page.specs.Settled.{WatchesAt, AreWatched, IsWatched}
 use Rattle.ng_page.proofs.Sites.{left_sites}
 use Rattle.ng_page.proofs.Watched.{watched_stays}
 
@@ -53,24 +53,21 @@ found_all k w (x ∷ t) h e = by_key (is_key k x.0) refl e (λ g. found_all k w 
     by_key false i e more = (λ same. absurd (let g : false ≡ true = sym i ∙ (ap (is_key k) same ∙ is_itself k) in cc), more e)
 
 -- the sites are watched
-all_watched : (t : Table) (o : ℕ) (path : List ℕ) (n : ℕ) (xs : List Site) → ((j : ℕ) (x : Site) → slice_get xs j ≡ Some x → WatchesAt (key_on path (n + j)) (watching_site o x) t) → AreTexts xs → AreWatched t o path n xs
-all_watched t o path n [] each h = tt
-all_watched t o path n (x ∷ xs) each h =
-    let here : WatchesAt (key_on path (n + 0)) (watching_site o x) t = each 0 x refl in
-    let kind : watching_site o x ≡ text_watch x o = ap (λ y. record (text_watch x o) { kind = y }) (ap watch_kind h.0) in (
-      subst (λ v. WatchesAt (key_on path n) v t) kind (subst (λ m. WatchesAt (key_on path m) (watching_site o x) t) (let same : n + 0 ≡ n = omega arith in same) here),
-      all_watched t o path (n + 1) xs (λ j y e. subst (λ m. WatchesAt (key_on path m) (watching_site o y) t) (let same : n + suc j ≡ n + 1 + j = omega arith in same) (each (suc j) y e)) h.1,
-    )
+all_watched : (t : Table) (o : ℕ) (path : List ℕ) (n : ℕ) (xs : List Site) → ((j : ℕ) (x : Site) → slice_get xs j ≡ Some x → WatchesAt (key_on path (n + j)) (watching_site o x) t) → AreWatched t o path n xs
+all_watched t o path n [] each = tt
+all_watched t o path n (x ∷ xs) each = (
+  subst (λ m. WatchesAt (key_on path m) (watching_site o x) t) (let same : n + 0 ≡ n = omega arith in same) (each 0 x refl),
+  all_watched t o path (n + 1) xs (λ j y e. subst (λ m. WatchesAt (key_on path m) (watching_site o y) t) (let same : n + suc j ≡ n + 1 + j = omega arith in same) (each (suc j) y e)),
+)
 
-linked_watched : (t : Template) (s : State) → IsStrictlySortedBy key_cmp (keys_of (linked_in 0 0 t s).watchers) → AreTexts t.sites → IsWatched (linked_in 0 0 t s)
-linked_watched t s order texts = record {
+linked_watched : (t : Template) (s : State) → IsStrictlySortedBy key_cmp (keys_of (linked_in 0 0 t s).watchers) → IsWatched (linked_in 0 0 t s)
+linked_watched t s order = record {
   template = refl;
   scope = refl;
   count = refl;
   watched = all_watched (linked_in 0 0 t s).watchers (object_at s.core.scopes 0) (path_at s.core.scopes 0) s.core.serial t.sites
       (λ j x e. found_all (key_on (path_at s.core.scopes 0) (s.core.serial + j)) (fresh (object_at s.core.scopes 0) x) (linked_in 0 0 t s).watchers order
-      (sites_found (path_at s.core.scopes 0) (object_at s.core.scopes 0) s.core.serial t.sites s.watchers j x e))
-      texts;
+      (sites_found (path_at s.core.scopes 0) (object_at s.core.scopes 0) s.core.serial t.sites s.watchers j x e));
 }
 
 rest_cases : (P : State → Type 0) (b : Bool) (s t : State) → P s → P t → P (cond b s t)
@@ -78,10 +75,10 @@ rest_cases P true s t h g = h
 rest_cases P false s t h g = g
 
 -- on a root that died its sites rest
-pub root_watched : (t : Template) (s : State) → IsStrictlySortedBy key_cmp (keys_of (linked_in 0 0 t s).watchers) → AreTexts t.sites → IsWatched (linked_root t s)
-root_watched t s order texts =
+pub root_watched : (t : Template) (s : State) → IsStrictlySortedBy key_cmp (keys_of (linked_in 0 0 t s).watchers) → IsWatched (linked_root t s)
+root_watched t s order =
     let u : State = linked_in 0 0 t s in
-    let h : IsWatched u = linked_watched t s order texts in
+    let h : IsWatched u = linked_watched t s order in
     rest_cases IsWatched (live_at s.core.scopes 0) u (left_at (path_at s.core.scopes 0) u) h (watched_stays u (left_at (path_at s.core.scopes 0) u) (left_sites (path_at s.core.scopes 0) u) h)
 
 -- ---- what holds of the works

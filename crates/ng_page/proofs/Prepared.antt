@@ -23,7 +23,7 @@ use Rattle.ng_template.specs.Kept.{Named}
 use Rattle.ng_watch.specs.Keys.{key_cmp}
 use Rattle.ng_link.specs.declared.works.Works.{Works}
 use Rattle.ng_page.specs.Commands.{program_run}
-use Rattle.ng_page.specs.Opening.{prepared, linked_by, linked_on, AreTexts}
+use Rattle.ng_page.specs.Opening.{prepared, linked_by, linked_on}
 use Rattle.ng_page.specs.PlaceOf.{WorksAre}
 use Rattle.ng_page.specs.Settled.{IsLinkedIn, IsWatched}
 use Rattle.ng_page.proofs.Opened.{whole_left, whole_linked, root_watched, template_there}
@@ -86,7 +86,7 @@ pub first_there : (ts : List Named) (n : ℕ) → n ≡ 0 → 0 < length ts → 
 first_there ts n z l = template_there ts n (subst (λ k. k < length ts) (sym z) l)
 
 pub watched_linked : (u : Template) (s t r : State) → t ≡ linked_in 0 0 u s → r ≡ (if live_at t.core.scopes 0 then t else left_at (path_at t.core.scopes 0) t)
-    → IsStrictlySortedBy key_cmp (keys_of t.watchers) → AreTexts u.sites → IsWatched r
-watched_linked u s t r e h order texts =
+    → IsStrictlySortedBy key_cmp (keys_of t.watchers) → IsWatched r
+watched_linked u s t r e h order =
     subst IsWatched (sym (h ∙ ap (λ (x : State). if live_at x.core.scopes 0 then x else left_at (path_at x.core.scopes 0) x) e))
-    (root_watched u s (subst (λ (x : State). IsStrictlySortedBy key_cmp (keys_of x.watchers)) e order) texts)
+    (root_watched u s (subst (λ (x : State). IsStrictlySortedBy key_cmp (keys_of x.watchers)) e order))

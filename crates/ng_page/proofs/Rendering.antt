@@ -5,48 +5,54 @@ use Rattle.std.specs.Map.{lookup}
 use Rattle.ng_act.specs.State as act
 use Rattle.ng_base.specs.Meets.{◌>>=◌}
 use Rattle.ng_base.specs.Objects.{Object}
-use Rattle.ng_base.specs.Views.{ViewTree}
-use Rattle.ng_base.specs.declared.fault.Fault.{Fault}
 use Rattle.ng_base.specs.declared.path.Key.{Key}
 use Rattle.ng_behaviour.specs.Scopes.{object_at}
 use Rattle.ng_digest.specs.declared.log.Report.{Report}
 use Rattle.ng_digest.specs.declared.rounds.DigestFault.{DigestFault}
 use Rattle.ng_drawing.specs.Drawing.{shown_as}
-use Rattle.ng_drawing.specs.Instance.{SiteState, kept_text, state_text, text_now, rendered_text, site_now}
+use Rattle.ng_drawing.specs.Instance.{SiteState, state_kept, snapshot_as, snapshot_now, rendered_now, site_now}
 use Rattle.ng_drawing.specs.Template.{Site}
+use Rattle.ng_drawing.specs.declared.kind.SiteKind.{SiteKind}
+use Rattle.ng_drawing.specs.declared.kind.SiteKind.TheVariants as sites
 use Rattle.ng_drawing.proofs.Fresh.{fresh_parts}
-use Rattle.ng_language.specs.Texts.{show_text}
+use Rattle.ng_link.specs.Rows.{watch_kind, watching_site}
 use Rattle.ng_link.specs.Shape.{key_on}
 use Rattle.ng_link.specs.State.{State, Linked, Resting, kept_or, site_state, site_states, instance_at, shown_in, shown, rendering_in, rendering}
 use Rattle.ng_watch.specs.Keys.{is_key}
 use Rattle.ng_watch.specs.Laws.{is_two_way}
-use Rattle.ng_watch.specs.Now.{value_now, text_view, now}
+use Rattle.ng_watch.specs.Now.{value_now, snapshot_of, now}
 use Rattle.ng_watch.specs.Seen.{Watching, Watcher}
 use Rattle.ng_watch.specs.Table.{Table, found}
 use Rattle.ng_watch.specs.Verdicts.{clean, verdict}
 use Rattle.ng_watch.proofs.Judging.{clean_has_kept}
 use Rattle.ng_page.specs.Answered.{WhenOk}
 use Rattle.ng_page.specs.PageLaws.{key_is}
-use Rattle.ng_page.specs.Settled.{IsSettled, text_watch, WatchesAt, AreWatched, IsLinkedIn, IsWatched}
+use Rattle.ng_page.specs.Settled.{IsSettled, WatchesAt, AreWatched, IsLinkedIn, IsWatched}
 
--- what a text keeps is the text that it shows
-shows_kept : (objects : List Object) (r : Result ViewTree Fault) (s : ViewTree) → (r >>= λ v. show_text objects v >>= λ t. Ok (text_view t)) ≡ Ok s → rendered_text (r >>= show_text objects) ≡ shown_as (kept_text (Some s))
-shows_kept objects (Err f) s e = cc
-shows_kept objects (Ok v) s e = by_text (show_text objects v) e
-  where
-    by_text : (t : Result (List ℕ) Fault) → (t >>= λ x. Ok (text_view x)) ≡ Ok s → rendered_text t ≡ shown_as (kept_text (Some s))
-    by_text (Err f) e = cc
-    by_text (Ok x) e = let i : text_view x ≡ s = cc in ap (λ v. shown_as (kept_text (Some v))) i
+-- a site keeps what its watcher keeps
+same_kind : (kind : SiteKind) → snapshot_of (watch_kind kind) ≡ snapshot_as kind
+same_kind sites.Text = refl
+same_kind sites.Words = refl
+same_kind sites.Reference = refl
+same_kind sites.Collection = refl
+same_kind sites.Deep = refl
 
-now_shows : (objects : List Object) (x : Site) (o : ℕ) (s : ViewTree) → now objects (text_watch x o) ≡ Ok s → rendered_text (text_now objects o x.program) ≡ shown_as (kept_text (Some s))
-unfolding value_now text_now
-now_shows objects x o s e = shows_kept objects (value_now objects (text_watch x o)) s e
+one_way : (kind : SiteKind) → is_two_way (watch_kind kind) ≡ false
+one_way sites.Text = refl
+one_way sites.Words = refl
+one_way sites.Reference = refl
+one_way sites.Collection = refl
+one_way sites.Deep = refl
 
--- a watcher that is clean shows what is there now
-clean_shows : (objects : List Object) (x : Site) (o : ℕ) (w : Watcher) → w.watch ≡ text_watch x o → verdict objects w ≡ Ok clean → rendered_text (text_now objects o x.program) ≡ shown_as (kept_text w.kept)
+same_now : (objects : List Object) (o : ℕ) (x : Site) → snapshot_now objects o x ≡ now objects (watching_site o x)
+unfolding value_now snapshot_now
+same_now objects o x = ap (λ f. value_now objects (watching_site o x) >>= f objects) (sym (same_kind x.kind))
+
+-- a watcher that is clean has kept what is there now
+clean_shows : (objects : List Object) (x : Site) (o : ℕ) (w : Watcher) → w.watch ≡ watching_site o x → verdict objects w ≡ Ok clean → rendered_now (snapshot_now objects o x) ≡ shown_as w.kept
 clean_shows objects x o w is e =
-    let k = (clean_has_kept objects w (ap (λ (v : Watching). is_two_way v.kind) is)).0 e in
-    now_shows objects x o k.0 (ap (now objects) (sym is) ∙ k.1) ∙ ap (λ v. shown_as (kept_text v)) (sym k.2)
+    let k = (clean_has_kept objects w (ap (λ (v : Watching). is_two_way v.kind) is ∙ one_way x.kind)).0 e in
+    ap rendered_now (same_now objects o x ∙ (ap (now objects) (sym is) ∙ k.1)) ∙ ap (λ s. shown_as s) (sym k.2)
 
 -- what is found under a site's key watches the site
 found_watches : (k : Key) (v : Watching) (t : Table) (w : Watcher) → WatchesAt k v t → found k t ≡ Some w → w.watch ≡ v
@@ -58,19 +64,19 @@ found_watches k v (x ∷ t) w h e = by_key (is_key k x.0) refl e (λ g. found_wa
     by_key false i e more = more e
 
 module _ (c : act.State) (t : Table) (r : Resting) (settled : (k : Key) (w : Watcher) → found k t ≡ Some w → verdict c.objects w ≡ Ok clean) where
-  site_shows : (scope : ℕ) (x : Site) (k : Key) → WatchesAt k (text_watch x (object_at c.scopes scope)) t
-      → site_now c.objects c.scopes (Some x) (Some (site_state t r scope k)) ≡ shown_as (state_text (Some (site_state t r scope k)))
+  site_shows : (scope : ℕ) (x : Site) (k : Key) → WatchesAt k (watching_site (object_at c.scopes scope) x) t
+      → site_now c.objects c.scopes (Some x) (Some (site_state t r scope k)) ≡ shown_as (state_kept (Some (site_state t r scope k)))
   site_shows scope x k h = by_watcher (found k t) refl
     where
       state : Option Watcher → SiteState
       state o = record { key = k; scope = scope; kept = kept_or o (lookup (is_key k) r); rests = not (is_some o) }
 
-      by_watcher : (o : Option Watcher) → found k t ≡ o → site_now c.objects c.scopes (Some x) (Some (state o)) ≡ shown_as (state_text (Some (state o)))
+      by_watcher : (o : Option Watcher) → found k t ≡ o → site_now c.objects c.scopes (Some x) (Some (state o)) ≡ shown_as (state_kept (Some (state o)))
       by_watcher None e = refl
-      by_watcher (Some w) e = clean_shows c.objects x (object_at c.scopes scope) w (found_watches k (text_watch x (object_at c.scopes scope)) t w h e) (settled k w e)
+      by_watcher (Some w) e = clean_shows c.objects x (object_at c.scopes scope) w (found_watches k (watching_site (object_at c.scopes scope) x) t w h e) (settled k w e)
 
   sites_show : (scope : ℕ) (path : List ℕ) (n : ℕ) (xs : List Site) (i : ℕ) → AreWatched t (object_at c.scopes scope) path n xs
-      → site_now c.objects c.scopes (slice_get xs i) (slice_get (site_states t r scope path n (length xs)) i) ≡ shown_as (state_text (slice_get (site_states t r scope path n (length xs)) i))
+      → site_now c.objects c.scopes (slice_get xs i) (slice_get (site_states t r scope path n (length xs)) i) ≡ shown_as (state_kept (slice_get (site_states t r scope path n (length xs)) i))
   sites_show scope path n [] i h = refl
   sites_show scope path n (x ∷ xs) zero h = site_shows scope x (key_on path n) h.0
   sites_show scope path n (x ∷ xs) (suc i) h = sites_show scope path (n + 1) xs i h.1
@@ -78,8 +84,8 @@ module _ (c : act.State) (t : Table) (r : Resting) (settled : (k : Key) (w : Wat
 settled_in : (c : act.State) (t : Table) (r : Resting) (o : Option Linked) → ((k : Key) (w : Watcher) → found k t ≡ Some w → verdict c.objects w ≡ Ok clean) → IsLinkedIn c t o → rendering_in c t r o ≡ shown_as (shown_in t r o)
 settled_in c t r None settled h = refl
 settled_in c t r (Some l) settled h =
-    fresh_parts (λ n. state_text (slice_get (instance_at t r l.page).sites n)) (λ n. site_now c.objects c.scopes (slice_get l.template.sites n) (slice_get (instance_at t r l.page).sites n))
-    (λ n. subst (λ k. site_now c.objects c.scopes (slice_get l.template.sites n) (slice_get (site_states t r l.page.scope l.page.path l.page.first k) n) ≡ shown_as (state_text (slice_get (site_states t r l.page.scope l.page.path l.page.first k) n)))
+    fresh_parts (λ n. state_kept (slice_get (instance_at t r l.page).sites n)) (λ n. site_now c.objects c.scopes (slice_get l.template.sites n) (slice_get (instance_at t r l.page).sites n))
+    (λ n. subst (λ k. site_now c.objects c.scopes (slice_get l.template.sites n) (slice_get (site_states t r l.page.scope l.page.path l.page.first k) n) ≡ shown_as (state_kept (slice_get (site_states t r l.page.scope l.page.path l.page.first k) n)))
     (sym h.count) (sites_show c t r settled l.page.scope l.page.path l.page.first l.template.sites n
     (subst (λ s. AreWatched t (object_at c.scopes s) l.page.path l.page.first l.template.sites) (sym h.scope) h.watched)))
     l.template.parts

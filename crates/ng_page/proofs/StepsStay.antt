@@ -5,7 +5,7 @@ use Rattle.serde_json.specs.Data.{Data}
 use Rattle.ng_act.specs.Actions.{Asked, a_body, an_emit, a_broadcast, does, programmed, stores, nothing}
 use Rattle.ng_act.specs.Running.{as_value_run}
 use Rattle.ng_act.specs.State as act
-use Rattle.ng_act.specs.State.{Change, adds, removes, leaves, Run, Task, ◌>>=◌, handed, with_fault, with_locals, with_objects}
+use Rattle.ng_act.specs.State.{Change, adds, removes, leaves, Run, Task, ◌>>=◌, handed, with_locals}
 use Rattle.ng_base.specs.Views.{ViewTree, prim}
 use Rattle.ng_base.specs.declared.fault.Fault.{Fault}
 use Rattle.ng_base.specs.declared.path.Key.{Key}

@@ -9,11 +9,12 @@ use Rattle.ng_base.specs.declared.path.Key.{Key}
 use Rattle.ng_behaviour.specs.Scopes.{object_at}
 use Rattle.ng_drawing.specs.Template.{Site}
 use Rattle.ng_link.specs.Calls.{with_core}
+use Rattle.ng_link.specs.Rows.{watching_site}
 use Rattle.ng_link.specs.Shape.{key_on}
 use Rattle.ng_link.specs.State.{State, Linked, is_site, is_in}
 use Rattle.ng_watch.specs.Seen.{Watching}
 use Rattle.ng_watch.specs.Table.{Table}
-use Rattle.ng_page.specs.Settled.{text_watch, WatchesAt, AreWatched, IsLinkedIn, IsWatched}
+use Rattle.ng_page.specs.Settled.{WatchesAt, AreWatched, IsLinkedIn, IsWatched}
 use Rattle.ng_page.proofs.Sites.{SitesStay}
 
 -- a key of a page's sites
@@ -28,7 +29,7 @@ all_stay : (l : Linked) (t u : Table) (o : ℕ) → ((k : Key) (v : Watching) �
     → (n : ℕ) (xs : List Site) → l.page.first ≤ n → n + length xs ≤ l.page.first + l.page.count → AreWatched t o l.page.path n xs → AreWatched u o l.page.path n xs
 all_stay l t u o each n [] a b h = tt
 all_stay l t u o each n (x ∷ xs) a b h = (
-  each (key_on l.page.path n) (text_watch x o) (site_in l.page.path l.page.first l.page.count n a (omega (arith, b))) h.0,
+  each (key_on l.page.path n) (watching_site o x) (site_in l.page.path l.page.first l.page.count n a (omega (arith, b))) h.0,
   all_stay l t u o each (n + 1) xs (omega (arith, a)) (omega (arith, b)) h.1,
 )
 

@@ -1,14 +1,12 @@
 -- How a page is opened: what the application installs and registers, its first program, and its template, which is linked on
 -- the root scope (guide: HTML Compiler; Scopes, "Integration with the browser event loop").
-use Rattle.std.specs.Prelude.{◌≡◌, List, Result, Ok, Err, if◌then◌else◌}
-use Rattle.std.specs.List.{AllByRecursion}
+use Rattle.std.specs.Prelude.{Result, Ok, Err, if◌then◌else◌}
 use Rattle.ng_act.specs.State as act
 use Rattle.ng_app.specs.App.{Facts}
 use Rattle.ng_app.specs.Installing.{installed}
 use Rattle.ng_base.specs.declared.fault.Fault.{Fault}
 use Rattle.ng_behaviour.specs.Scopes.{path_at, live_at}
-use Rattle.ng_drawing.specs.Template.{Site, Template}
-use Rattle.ng_drawing.specs.declared.kind.SiteKind.TheVariants.{Text}
+use Rattle.ng_drawing.specs.Template.{Template}
 use Rattle.ng_fire.specs.Runs.{followed}
 use Rattle.ng_link.specs.Calls.{blank, with_core, linked_in, left_at}
 use Rattle.ng_link.specs.Shape.{linked}
@@ -34,10 +32,3 @@ linked_on t s = linked_by t (linked 0 t.parts) s
 -- a page right after its template was linked
 abbrev pub opening : Facts → Template → link.State
 opening f t = linked_on t (prepared f)
-
--- holes of texts are all that is watched
-abbrev pub IsText : Site → Type 0
-IsText x = x.kind ≡ Text
-
-abbrev pub AreTexts : List Site → Type 0
-AreTexts xs = AllByRecursion IsText xs

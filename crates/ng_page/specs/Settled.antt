@@ -5,20 +5,16 @@ use Rattle.ng_act.specs.State as act
 use Rattle.ng_base.specs.declared.path.Key.{Key}
 use Rattle.ng_behaviour.specs.Scopes.{object_at}
 use Rattle.ng_drawing.specs.Template as template
+use Rattle.ng_link.specs.Rows.{watching_site}
 use Rattle.ng_link.specs.Shape.{key_on}
 use Rattle.ng_link.specs.State.{State, Linked}
 use Rattle.ng_watch.specs.Seen.{Watching, Watcher}
 use Rattle.ng_watch.specs.Table.{Table, found}
 use Rattle.ng_watch.specs.Verdicts.{clean, verdict}
-use Rattle.ng_watch.specs.declared.watch.WatchKind.TheVariants as kinds
 
 -- No watcher is dirty, and none meets a fault: each has kept what is there now.
 abbrev pub IsSettled : State → Type 0
 IsSettled s = (k : Key) (w : Watcher) → found k s.watchers ≡ Some w → verdict s.core.objects w ≡ Ok clean
-
--- a text's site is watched over its scope's object
-abbrev pub text_watch : template.Site → ℕ → Watching
-text_watch x o = record { kind = kinds.Text; program = x.program; one_time = x.one_time; scope = o }
 
 -- a watcher under this key watches this
 abbrev pub WatchesAt : Key → Watching → Table → Type 0
@@ -27,7 +23,7 @@ WatchesAt k v t = AllByRecursion (λ (e : Key × Watcher). e.0 ≡ k → e.1.wat
 -- the sites that have watchers are watched over an object, under keys on a path that rise from a number on
 abbrev pub AreWatched : Table → ℕ → List ℕ → ℕ → List template.Site → Type 0
 AreWatched t o path n [] = Unit {0}
-AreWatched t o path n (x ∷ xs) = WatchesAt (key_on path n) (text_watch x o) t × AreWatched t o path (n + 1) xs
+AreWatched t o path n (x ∷ xs) = WatchesAt (key_on path n) (watching_site o x) t × AreWatched t o path (n + 1) xs
 
 -- what is linked is the first template, on the root
 pub record IsLinked (c : act.State) (t : Table) (l : Linked) : Type 0 where

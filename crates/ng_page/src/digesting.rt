@@ -1,15 +1,14 @@
 //! Digests of a page, and the end of a step.
-ghost use Rattle.std.specs.Prelude.{◌≡◌, [], IfOk, OnOk};
+ghost use Rattle.std.specs.Prelude.{◌≡◌, IfOk, OnOk};
 ghost use Rattle.ng_digest.specs.Causes.{Unless};
 ghost use Rattle.ng_digest.specs.Early.{plain_of, plain_answer};
 ghost use Rattle.ng_digest.specs.Plain.{PlainDigests};
 ghost use Rattle.ng_digest.specs.Short.{Digests};
-ghost use Rattle.ng_drawing.specs.Drawing.{shown_as};
 ghost use Rattle.ng_link.specs.State as link;
 ghost use Rattle.ng_page.specs.Answered.{ready_place, PlainlyDigests, ShortlyDigests, WhenOk};
 ghost use Rattle.ng_page.specs.OutcomeOf.{outcome_of};
 ghost use Rattle.ng_page.specs.PageMachine.{page_machine, readied};
-ghost use Rattle.ng_page.specs.PlaceOf.{seen_of, state_of, place_of, WorksAre, PageIs};
+ghost use Rattle.ng_page.specs.PlaceOf.{state_of, place_of, WorksAre, PageIs};
 ghost use Rattle.ng_page.specs.Settled.{IsSettled};
 ghost use Rattle.ng_page.specs.Steps.{Ends, EndsShort};
 

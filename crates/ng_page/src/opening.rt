@@ -7,7 +7,7 @@ ghost use Rattle.ng_link.specs.Calls.{left_at};
 ghost use Rattle.ng_link.specs.State.{state_of, templates_of, template_at};
 ghost use Rattle.ng_template.specs.Kept.{templates_of as kept_templates};
 ghost use Rattle.ng_template.specs.TemplateOf.{template_of};
-ghost use Rattle.ng_page.specs.Opening.{prepared, linked_on, opening, AreTexts};
+ghost use Rattle.ng_page.specs.Opening.{prepared, linked_on, opening};
 ghost use Rattle.ng_page.specs.PlaceOf.{WorksAre, PageIs};
 ghost use Rattle.ng_page.specs.Settled.{IsWatched};
 
@@ -56,7 +56,7 @@ fn link_page(works: &mut Works, t: TplId) -> Result<(), Memory>
     requires bare { (state_of works.old).linked ≡ None }
     ensures state { OnOk result ((u : Template) → template_at (templates_of works.old) t.0 ≡ Some u → state_of works.new ≡ linked_on u (state_of works.old)) }
     ensures works { OnOk result (WorksAre works.new) }
-    ensures watched { OnOk result ((u : Template) → template_at (templates_of works.old) t.0 ≡ Some u → AreTexts u.sites → IsWatched (state_of works.new)) }
+    ensures watched { OnOk result (IsWatched (state_of works.new)) }
 {
     match works.link(t, ScopeId(0), None, 0) {
         Ok(_) => {
@@ -73,7 +73,6 @@ fn link_page(works: &mut Works, t: TplId) -> Result<(), Memory>
 
 /// The works of a page whose template was linked.
 pub(crate) fn open(alloc: Global, t: Tpl, app: App) -> Result<Works, Memory>
-    requires texts { AreTexts (template_of t).sites }
     ensures state { IfOk result (λ w. state_of w ≡ opening (facts app) (template_of t)) }
     ensures page { IfOk result PageIs }
 {

@@ -1,5 +1,5 @@
 //! The page: opened, commanded, read and printed.
-ghost use Rattle.std.specs.Prelude.{◌≡◌, ◌<◌, ◌++◌, ◌||◌, true, false, is_some, length, option_map, IfOk, OnOk, IfErr, encode_utf8_all};
+ghost use Rattle.std.specs.Prelude.{◌≡◌, ◌↔◌, ◌<◌, ◌++◌, ◌||◌, true, false, is_some, length, option_map, IfOk, OnOk, IfErr, encode_utf8_all};
 ghost use Rattle.std.specs.Option.{IfSome};
 ghost use Rattle.serde_json.specs.Find.{as_array};
 ghost use Rattle.serde_json.specs.View.{view};
@@ -21,7 +21,6 @@ ghost use Rattle.ng_template.specs.TemplateOf.{template_of};
 ghost use Rattle.ng_view.specs.Purity.{are_pure, all_filters_known};
 ghost use Rattle.ng_page.specs.Answered.{WhenOk};
 ghost use Rattle.ng_page.specs.Commands.{applies, queues, probes, digests, destroys_scope, emits, broadcasts, is_dead};
-ghost use Rattle.ng_page.specs.Opening.{AreTexts};
 ghost use Rattle.ng_page.specs.OutcomeOf.{outcome_of};
 ghost use Rattle.ng_page.specs.PlaceOf.{PageIs};
 ghost use Rattle.ng_page.specs.Settled.{IsSettled};
@@ -92,7 +91,6 @@ impl Page {
     /// linked there, and a digest is made (guide: Scopes, "Integration with the browser event loop"). The program and the
     /// linking count together as one program.
     pub fn start(alloc: Global, t: Tpl, app: App) -> Result<(Page, Outcome), Memory>
-        requires texts { AreTexts (template_of t).sites }
         // The page is where the plain digest over the linked template ends, with its answer.
         ensures step { IfOk result (λ r. Opens (facts app) (template_of t) (outcome_of r.1) (state_of r.0)) }
         // Its counts, the tests among them, are those of the digest that stops early.
@@ -304,7 +302,9 @@ impl Page {
     }
 
     /// The document, whose nodes have names.
-    pub fn shown(&self) -> &Dom {
+    pub fn shown(&self) -> &Dom
+        ensures { (f : NamedForest) → Names self.now f ↔ Shows result.now f }
+    {
         self.engine.works.dom()
     }
 

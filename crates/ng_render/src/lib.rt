@@ -1,20 +1,22 @@
 //! The rendering of an instance: the document that a template shows over the data as it stands (guide: Templates).
 //!
-//! `render` computes it afresh, in document order: plain words as they stand, and for each hole what its expression shows now
-//! over its scope; a site that rests shows what it has kept. No watcher and no node is asked, so a page whose watchers are all
-//! clean is checked by it. The contract is `rendering` of `ng_drawing`: the document, or the fault that stands first.
+//! `render` computes it afresh, in document order: plain words as they stand, and for each site what its expression shows now
+//! over its scope, those of an element in the order of its directives and before its children; a site that rests shows what it has
+//! kept. No watcher and no node is asked, so a page whose watchers are all clean is checked by it. The contract is `rendering` of `ng_drawing`: the document, or the fault that stands first.
 //!
 //! The document is an option since blocks are to come, which don't always fit what their expressions call for; in a template
 //! without blocks it is always there.
 //!
-//! In reading order: `over` is what is asked, `sites` what a hole shows, `texts` joins pieces, `parts` walks the template, and
-//! `rendering` has the call. Nothing here changes data.
+//! In reading order: `over` is what is asked, `snapshots` and `sites` what a site shows, `texts` joins pieces and sets attributes,
+//! `classes` has what a class shows, `parts` walks the template, and `rendering` has the call. Nothing here changes data.
 #![tactic(auto)]
 
+mod classes;
 mod over;
 mod parts;
 pub mod rendering;
 mod sites;
+mod snapshots;
 mod texts;
 
 pub use rendering::render;

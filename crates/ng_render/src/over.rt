@@ -1,11 +1,25 @@
 //! What a rendering is computed over.
+ghost use Rattle.std.specs.Prelude.{◌≡◌, option_map};
+ghost use Rattle.std.specs.Option.{IfSome};
+ghost use Rattle.ng_drawing.specs.Drawing.{Now, shown_as};
+ghost use Rattle.ng_render.specs.OverOf.{AreKnown};
+ghost use Rattle.ng_value.specs.Snaps.{snap_of};
+
 use ng_drawing::instance::SiteState;
 use ng_scopes::scopes::Scopes;
 use ng_store::store::Store;
 use ng_template::Site;
+use ng_value::snapshot::Snap;
 use std::alloc::Global;
 
-/// The sites of a template with what an instance adds to them, and the data and scopes.
+/// What the site of a number shows now, once it was asked.
+#[derive(Drop)]
+pub(crate) struct Known {
+    pub(crate) number: u32,
+    pub(crate) shown: Option<Snap>,
+}
+
+/// The sites of a template with what an instance adds to them, the data and scopes, and what is known of an element's own sites.
 #[derive(Clone, Copy)]
 pub(crate) struct Over<'a> {
     pub(crate) alloc: Global,
@@ -13,4 +27,20 @@ pub(crate) struct Over<'a> {
     pub(crate) states: &'a [SiteState],
     pub(crate) store: &'a Store,
     pub(crate) scopes: &'a Scopes,
+    pub(crate) known: &'a [Known],
+}
+
+/// What is known of the site of a number. An element's own sites have consecutive numbers, so it is looked for at one place.
+pub(crate) fn known_at<'a>(known: &'a [Known], n: u32) -> Option<&'a Known>
+    ensures { (now : Now) → AreKnown now known.now → IfSome result (λ one. now n ≡ shown_as (option_map snap_of one.now.shown)) }
+{
+    let first = known.first()?;
+    if n < first.number {
+        return None;
+    }
+    let one = known.get((n - first.number) as usize)?;
+    if one.number != n {
+        return None;
+    }
+    Some(one)
 }

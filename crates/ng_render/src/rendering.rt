@@ -38,6 +38,7 @@ fn rendering_of(
         states: i.sites.as_slice(),
         store,
         scopes,
+        known: &[],
     };
     Ok(Some(rendered(&over, template.parts())?))
 }

@@ -1,19 +1,20 @@
-//! What the hole of a site shows.
+//! What a site shows.
 ghost use Rattle.std.specs.Prelude.{◌≡◌, ◌<◌, [], length, option_map, Some, IfOk};
 ghost use Rattle.ng_base.specs.Faults.{is_memory};
-ghost use Rattle.ng_base.specs.Meets.{Meets, Gives};
+ghost use Rattle.ng_base.specs.Meets.{Gives};
 ghost use Rattle.ng_base.specs.ViewOf.{view_of};
-ghost use Rattle.ng_behaviour.specs.Scopes.{object_at};
-ghost use Rattle.ng_drawing.specs.Instance.{kept_text as kept_text_of, text_now as text_now_of, site_now};
+ghost use Rattle.ng_drawing.specs.Instance.{snapshot_now as snapshot_now_of, site_now as site_now_of};
 ghost use Rattle.ng_drawing.specs.InstanceOf.{state_of};
+ghost use Rattle.ng_drawing.specs.Looks.{kept_text as kept_text_of};
 ghost use Rattle.ng_language.specs.Views.{ViewStands};
 ghost use Rattle.ng_template.specs.SiteOf.{site_of};
 ghost use Rattle.ng_value.specs.Snaps.{snap_of};
 ghost use Rattle.ng_view.specs.Evaluation.{evaluated_program};
-ghost use Rattle.ng_render.specs.OverOf.{now_over, NamesStand, StateStands, stands_over};
+ghost use Rattle.ng_render.specs.OverOf.{now_over, StateStands, Stands};
 
-use crate::over::Over;
-use ng_base::fault::Fault;
+use crate::over::{Over, known_at};
+use crate::snapshots::snapshot;
+use ng_base::fault::{Fault, Memory};
 use ng_base::locals::Locals;
 use ng_base::name::Oid;
 use ng_base::txt::Txt;
@@ -22,8 +23,8 @@ use ng_base::view::View;
 use ng_drawing::instance::SiteState;
 use ng_store::store::Store;
 use ng_template::Site;
+use ng_value::copies::copied;
 use ng_value::snapshot::Snap;
-use ng_value::texts::show_text;
 use ng_view::view;
 use std::alloc::{AllocError, Global};
 
@@ -38,7 +39,7 @@ fn text_in(alloc: Global, kept: &Snap) -> Result<Txt, AllocError>
 }
 
 /// The text that was kept, if one was.
-fn kept_text(alloc: Global, kept: &Option<Snap>) -> Result<Txt, AllocError>
+pub(crate) fn kept_text(alloc: Global, kept: &Option<Snap>) -> Result<Txt, AllocError>
     ensures { IfOk result (λ t. t ≡ kept_text_of (option_map snap_of kept.now)) }
 {
     match kept {
@@ -58,38 +59,60 @@ fn value_now(alloc: Global, store: &Store, object: Oid, site: &Site) -> Result<V
     view(alloc, store, object, &locals, site.program())
 }
 
-/// What a site's expression shows over a scope's object.
-#[tactic(auto, unfolding(ng_drawing::specs::Instance::text_now))]
-fn text_now(alloc: Global, store: &Store, object: Oid, site: &Site) -> Result<Txt, Fault>
+/// What a site would keep now over a scope's object.
+#[tactic(auto, unfolding(ng_drawing::specs::Instance::snapshot_now))]
+fn snapshot_now(alloc: Global, store: &Store, object: Oid, site: &Site) -> Result<Snap, Fault>
     requires { object.0 < length store.now }
-    ensures { Meets is_memory (text_now_of store.now object.0 (site_of site.now).program) result }
+    ensures { Gives is_memory snap_of (snapshot_now_of store.now object.0 (site_of site.now)) result }
 {
     let value = value_now(alloc, store, object, site)?;
-    show_text(alloc, store, &value)
+    snapshot(alloc, site.kind(), store, &value)
+}
+
+/// What was kept, copied.
+fn kept_copy(alloc: Global, kept: &Option<Snap>) -> Result<Option<Snap>, Memory>
+    ensures { IfOk result (λ s. option_map snap_of s ≡ option_map snap_of kept.now) }
+{
+    match kept {
+        None => Ok(None),
+        Some(kept) => Ok(Some(Snap::of_view(copied(alloc, kept.view())?))),
+    }
 }
 
 /// What a site shows: its value now, or where it rests what it has kept.
-fn site_text(over: &Over<'_>, site: &Site, state: &SiteState) -> Result<Txt, Fault>
+fn site_now(over: &Over<'_>, site: &Site, state: &SiteState) -> Result<Option<Snap>, Fault>
     requires { StateStands over.now.store.now over.now.scopes.now (state_of state.now) }
-    ensures { Gives is_memory Some (site_now over.now.store.now over.now.scopes.now (Some (site_of site.now)) (Some (state_of state.now))) result }
+    ensures { Gives is_memory (λ s. Some (option_map snap_of s)) (site_now_of over.now.store.now over.now.scopes.now (Some (site_of site.now)) (Some (state_of state.now))) result }
 {
     if state.rests {
-        return Ok(kept_text(over.alloc, &state.kept)?);
+        return Ok(kept_copy(over.alloc, &state.kept)?);
     }
     let object = over.scopes.object(state.scope);
-    text_now(over.alloc, over.store, object, site)
+    let now = snapshot_now(over.alloc, over.store, object, site)?;
+    Ok(Some(now))
 }
 
-/// What the hole of a site shows.
-pub(crate) fn hole_text(over: &Over<'_>, n: u32) -> Result<Txt, Fault>
-    requires { stands_over over.now }
-    ensures { Gives is_memory Some (now_over over.now n) result }
+/// What the site of a number shows, computed.
+fn computed(over: &Over<'_>, n: u32) -> Result<Option<Snap>, Fault>
+    requires { Stands over.now }
+    ensures { Gives is_memory (λ s. Some (option_map snap_of s)) (now_over over.now n) result }
 {
     let Some(site) = over.sites.get(n as usize) else {
-        return Ok(Txt::new(over.alloc));
+        return Ok(None);
     };
     let Some(state) = over.states.get(n as usize) else {
-        return Ok(Txt::new(over.alloc));
+        return Ok(None);
     };
-    site_text(over, site, state)
+    site_now(over, site, state)
+}
+
+/// What the site of a number shows. What is known isn't computed again.
+pub(crate) fn shown_now(over: &Over<'_>, n: u32) -> Result<Option<Snap>, Fault>
+    requires { Stands over.now }
+    ensures { Gives is_memory (λ s. Some (option_map snap_of s)) (now_over over.now n) result }
+{
+    match known_at(over.known, n) {
+        None => computed(over, n),
+        Some(known) => Ok(kept_copy(over.alloc, &known.shown)?),
+    }
 }

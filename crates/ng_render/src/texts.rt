@@ -1,21 +1,36 @@
-//! Texts and values of attributes, joined from their pieces.
-ghost use Rattle.std.specs.Prelude.{◌≡◌, [], map, Some};
+//! Texts and attributes, joined from their pieces.
+ghost use Rattle.std.specs.Prelude.{◌≡◌, [], Some, IfOk, OnOk};
 ghost use Rattle.ng_base.specs.Faults.{is_memory};
 ghost use Rattle.ng_base.specs.Meets.{Gives};
-ghost use Rattle.ng_drawing.specs.Drawing.{render_piece, render_pieces, render_attributes};
+ghost use Rattle.ng_drawing.specs.Drawing.{render_piece, render_pieces, render_value, render_attributes};
+ghost use Rattle.ng_drawing.specs.Template.{hole, flag};
+ghost use Rattle.ng_markup.specs.Attributes.{if_any as if_any_of, with_value};
+ghost use Rattle.ng_template.specs.AttributeOf.{value_of};
 ghost use Rattle.ng_template.specs.PieceOf.{piece_of};
-ghost use Rattle.ng_render.specs.OverOf.{now_over, stands_over};
+ghost use Rattle.ng_render.specs.OverOf.{now_over, Stands};
 
+use crate::classes::{class_now, is_kept_true};
 use crate::over::Over;
-use crate::sites::hole_text;
+use crate::sites::{kept_text, shown_now};
 use ng_base::fault::Fault;
 use ng_base::txt::Txt;
 use ng_html::attrs::Attrs;
-use ng_template::{Piece, Pieces, Values};
+use ng_template::{AttributeValue, Attributes, Piece, Pieces};
+use std::alloc::{AllocError, Global};
+use std::collections::BTreeMap;
+
+/// What the hole of a site shows.
+pub(crate) fn hole_text(over: &Over<'_>, n: u32) -> Result<Txt, Fault>
+    requires { Stands over.now }
+    ensures { Gives is_memory Some (render_piece (now_over over.now) (hole n)) result }
+{
+    let shown = shown_now(over, n)?;
+    Ok(kept_text(over.alloc, &shown)?)
+}
 
 /// What a piece shows.
 fn piece_text(over: &Over<'_>, piece: &Piece) -> Result<Txt, Fault>
-    requires { stands_over over.now }
+    requires { Stands over.now }
     ensures { Gives is_memory Some (render_piece (now_over over.now) (piece_of piece.now)) result }
 {
     match piece {
@@ -26,7 +41,7 @@ fn piece_text(over: &Over<'_>, piece: &Piece) -> Result<Txt, Fault>
 
 /// What pieces show, one after the other.
 fn joined_text(over: &Over<'_>, pieces: &Pieces) -> Result<Txt, Fault>
-    requires { stands_over over.now }
+    requires { Stands over.now }
     ensures { Gives is_memory Some (render_pieces (now_over over.now) pieces.now) result }
 {
     let mut text = Txt::new(over.alloc);
@@ -39,7 +54,7 @@ fn joined_text(over: &Over<'_>, pieces: &Pieces) -> Result<Txt, Fault>
 
 /// What pieces show. A single piece shares its text.
 pub(crate) fn pieces_text(over: &Over<'_>, pieces: &Pieces) -> Result<Txt, Fault>
-    requires { stands_over over.now }
+    requires { Stands over.now }
     ensures { Gives is_memory Some (render_pieces (now_over over.now) pieces.now) result }
 {
     let all = pieces.as_slice();
@@ -49,15 +64,88 @@ pub(crate) fn pieces_text(over: &Over<'_>, pieces: &Pieces) -> Result<Txt, Fault
     joined_text(over, pieces)
 }
 
-/// The attributes of an element, with what their pieces show.
-pub(crate) fn attributes(over: &Over<'_>, values: &Values) -> Result<Attrs, Fault>
-    requires { stands_over over.now }
-    ensures { Gives is_memory Some (render_attributes (now_over over.now) values.now) result }
+/// A text, unless it is empty.
+fn if_any(text: Txt) -> Option<Txt>
+    ensures { result ≡ if_any_of text }
 {
-    let mut attrs = Attrs::new(over.alloc);
-    for value in values.as_slice() {
-        let text = pieces_text(over, &value.pieces)?;
-        attrs.push(value.name.copied()?, text)?;
+    if text.is_empty() { None } else { Some(text) }
+}
+
+/// A word, where the value of a site is true.
+fn flag_text(over: &Over<'_>, word: &Txt, n: u32) -> Result<Option<Txt>, Fault>
+    requires { Stands over.now }
+    ensures { Gives is_memory Some (render_value (now_over over.now) (flag word.now n)) result }
+{
+    let shown = shown_now(over, n)?;
+    if is_kept_true(&shown) {
+        Ok(Some(word.copied()?))
+    } else {
+        Ok(None)
+    }
+}
+
+/// What an attribute is.
+fn value_text(over: &Over<'_>, value: &AttributeValue) -> Result<Option<Txt>, Fault>
+    requires { Stands over.now }
+    ensures { Gives is_memory Some (render_value (now_over over.now) (value_of value.now)) result }
+{
+    match value {
+        AttributeValue::Always(pieces) => Ok(Some(pieces_text(over, pieces)?)),
+        AttributeValue::UnlessEmpty(pieces) => Ok(if_any(pieces_text(over, pieces)?)),
+        AttributeValue::Flag(word, n) => flag_text(over, word, *n),
+        AttributeValue::Classes(class) => class_now(over, class),
+    }
+}
+
+/// An attribute has this value, or is not there.
+fn set(
+    attributes: &mut BTreeMap<Txt, Txt>,
+    name: &Txt,
+    value: Option<Txt>,
+) -> Result<(), AllocError>
+    ensures { OnOk result (attributes.new.entries ≡ with_value name.now value attributes.old.entries) }
+{
+    match value {
+        None => {
+            let _ = attributes.remove(name);
+        }
+        Some(text) => {
+            let key = name.copied()?;
+            let _ = attributes.insert(key, text)?;
+        }
+    }
+    Ok(())
+}
+
+/// The attributes of an element by name, set one after another.
+fn set_all(over: &Over<'_>, attributes: &Attributes) -> Result<BTreeMap<Txt, Txt>, Fault>
+    requires { Stands over.now }
+    ensures { Gives is_memory (λ ats. Some ats.entries) (render_attributes (now_over over.now) attributes.now []) result }
+{
+    let mut made = BTreeMap::new(over.alloc);
+    for attribute in attributes.as_slice() {
+        let value = value_text(over, &attribute.value)?;
+        set(&mut made, &attribute.name, value)?;
+    }
+    Ok(made)
+}
+
+/// Attributes in order of their names.
+fn listed(alloc: Global, made: BTreeMap<Txt, Txt>) -> Result<Attrs, AllocError>
+    ensures { IfOk result (λ ats. ats ≡ made.entries) }
+{
+    let mut attrs = Attrs::new(alloc);
+    for (name, value) in made {
+        attrs.push(name, value)?;
     }
     Ok(attrs)
+}
+
+/// The attributes of an element.
+pub(crate) fn attributes_text(over: &Over<'_>, values: &Attributes) -> Result<Attrs, Fault>
+    requires { Stands over.now }
+    ensures { Gives is_memory Some (render_attributes (now_over over.now) values.now []) result }
+{
+    let made = set_all(over, values)?;
+    Ok(listed(over.alloc, made)?)
 }

@@ -1,5 +1,5 @@
 //! The reply to the words of a run.
-ghost use Rattle.std.specs.Prelude.{◌≡◌, ◌++◌, codes, false, IfOk, map};
+ghost use Rattle.std.specs.Prelude.{◌≡◌, false, IfOk, map};
 ghost use Rattle.ng_inputs.specs.Free.{is_want};
 ghost use Rattle.ng_inputs.specs.InputsOf.{file_of, inputs_of};
 ghost use Rattle.ng_inputs.specs.Words.{words_of};

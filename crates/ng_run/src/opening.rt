@@ -1,6 +1,5 @@
 //! The step that opens a page.
-ghost use Rattle.std.specs.Prelude.{◌≡◌, IfOk};
-ghost use Rattle.ng_page.specs.Opening.{AreTexts};
+ghost use Rattle.std.specs.Prelude.{IfOk};
 ghost use Rattle.ng_inputs.specs.Acts.{AreSound};
 ghost use Rattle.ng_inputs.specs.InputsOf.{accepted_of};
 ghost use Rattle.ng_run.specs.ReplyOf.{IsPageTo};
@@ -16,7 +15,6 @@ use std::alloc::Global;
 
 /// Opens the page, and tells what its step prints.
 pub(crate) fn open(alloc: Global, flags: Flags, accepted: Accepted) -> Result<Opened, Memory>
-    requires texts { AreTexts (accepted_of accepted).template.sites }
     requires sound { AreSound (accepted_of accepted).commands }
     ensures { IfOk result (λ o. IsPageTo (λ e r. Runs e flags.trace (accepted_of accepted) r) o) }
 {

@@ -1,46 +1,36 @@
--- Nodes in document order: their places, their sites and the first of them that is refused.
-use Rattle.std.proofs.Common.{◌≡◌, ◌+◌, ◌⊎◌, inl, inr, ℕ, Bool, true, false, cond, List, [], ◌∷◌, ◌++◌, length, Option, None, Some, Result, Ok, Err, refl, ap, sym, subst, ◌∙◌, append_assoc, append-nil, length-append, arith}
-use Rattle.std.specs.Prelude.{nat_lt}
-use Rattle.std.specs.List.{flat_map}
+-- Nodes in document order: their places, their sites, their numbers, and the first of them that is refused.
+use Rattle.std.proofs.Common.{◌≡◌, ◌+◌, ◌⊎◌, inl, inr, ℕ, Bool, true, false, cond, List, [], ◌∷◌, ◌++◌, length, Option, None, Some, Result, Ok, Err, refl, ap, sym, subst, ◌∙◌, append_assoc, append-nil, length-append}
+use Rattle.std.proofs.lemmas.Bool.{and_from}
+use Rattle.std.specs.Prelude.{nat_lt, is_some, option_and_then}
+use Rattle.std.specs.List.{flat_map, list_any}
 use Rattle.std.proofs.lemmas.Grind.{flat_map-append}
 use Rattle.ng_base.specs.Meets.{◌>>=◌}
-use Rattle.ng_collect.specs.Cloak.{kept_attributes}
 use Rattle.ng_collect.specs.Collected.{picked_for}
 use Rattle.ng_collect.specs.declared.definition.DirectiveDef.{DirectiveDef}
 use Rattle.ng_collect.specs.declared.fault.CollectFault.{CollectFault}
 use Rattle.ng_collect.specs.declared.fault.CollectFault.TheVariants as collect
 use Rattle.ng_collect.specs.declared.pick.Pick.{Pick}
-use Rattle.ng_drawing.specs.Template.{Site, Part, Parts, element_part, part_then}
+use Rattle.ng_drawing.specs.Template.{Site, Part, Contents, Parts, part_then}
+use Rattle.ng_drawing.specs.declared.kind.SiteKind.TheVariants as kinds
 use Rattle.ng_interp.specs.Parts as interp
-use Rattle.ng_interp.specs.declared.pieces.InterpFault.{InterpFault}
 use Rattle.ng_markup.specs.Forest.{Attributes, Node, Forest, element, text, comment, no_nodes, node}
-use Rattle.ng_template.specs.Compiles.{Made, first_place, other_places, site_limit, worn, past, with_text, text_made, plain_values, attributes_at, compiled_node, compiled_forest}
-use Rattle.ng_template.specs.Order.{node_order, in_order, placed, picks_refusal, text_refusal, FirstRefusal, refused_here, refused_after, NoneRefused, text_sites, node_sites, piece_holes, value_holes, part_holes, holes, counted}
-use Rattle.ng_template.specs.Texts.{wrong, judged_as, judged, numbered, sites_in}
+use Rattle.ng_template.specs.Compiles.{Made, first_place, other_places, with_text, text_made, bare, head_with, with_head, element_with, after_node, after_forest, contents_made, compiled_node, compiled_forest}
+use Rattle.ng_template.specs.Directives.{Head, with_picks, attributes_of}
+use Rattle.ng_template.specs.Limits.{site_limit, worn}
+use Rattle.ng_template.specs.Manners.{are_built}
+use Rattle.ng_template.specs.Numbering.{is_within, are_drawn, after_own, after_part, after_contents, after_parts}
+use Rattle.ng_template.specs.Order.{are_binding, is_bind, picks_refusal, first_pick_refusal, text_refusal, FirstRefusal, refused_here, refused_after, NoneRefused, text_sites, pick_sites, picked_sites, node_sites, sites_at, part_holes, content_holes, holes}
+use Rattle.ng_template.specs.Texts.{refused, judged, counted, sites_in}
 use Rattle.ng_template.specs.declared.fault.TplFault.{TplFault}
-use Rattle.ng_template.specs.declared.fault.TplKind.{TplKind}
-
--- the places that are left after these nodes
-abbrev pub after : List Node → List ℕ → List ℕ
-after [] places = places
-after (n ∷ ns) places = after ns (other_places places)
-
-after-append : (xs ys : List Node) (places : List ℕ) → after (xs ++ ys) places ≡ after ys (after xs places)
-after-append [] ys places = refl
-after-append (x ∷ xs) ys places = after-append xs ys (other_places places)
-
-placed-append : (xs ys : List Node) (places : List ℕ) → placed (xs ++ ys) places ≡ placed xs places ++ placed ys (after xs places)
-placed-append [] ys places = refl
-placed-append (x ∷ xs) ys places = ap (λ (zs : List (Node × ℕ)). (x, first_place places) ∷ zs) (placed-append xs ys (other_places places))
-
-counted-append : {A : Type 0} (n : ℕ) (xs ys : List A) → counted n (xs ++ ys) ≡ counted n xs ++ counted (n + length xs) ys
-counted-append n [] ys = ap (λ k. counted k ys) (omega arith)
-counted-append n (x ∷ xs) ys =
-    let e : n + 1 + length xs ≡ n + length (x ∷ xs) = omega arith in
-    ap (λ (zs : List ℕ). n ∷ zs) (counted-append (n + 1) xs ys ∙ ap (λ k. counted (n + 1) xs ++ counted k ys) e)
+use Rattle.ng_template.specs.declared.fault.TplKind.TheVariants.{Later}
+use Rattle.ng_template.proofs.Drawn.{apart_from, is_bound_within, Drawn, bare_drawn, all_drawn}
+use Rattle.ng_template.proofs.Judging.{Judged, fine, faulty, judged_is}
+use Rattle.ng_template.proofs.Numbers.{counted-append, after_own-counted, numbered-holes, after-numbered}
+use Rattle.ng_template.proofs.Picking.{Picked, Answers, picks_answer}
+use Rattle.ng_template.proofs.Walks.{node_walk, walk}
 
 module _ (defs : List DirectiveDef) where
-  none-append : (xs ys : List Node) → NoneRefused defs xs → NoneRefused defs ys → NoneRefused defs (xs ++ ys)
+  none-append : (xs ys : List (Node × ℕ)) → NoneRefused defs xs → NoneRefused defs ys → NoneRefused defs (xs ++ ys)
   none-append [] ys h k = k
   none-append (x ∷ xs) ys h k = (h.0, none-append xs ys h.1 k)
 
@@ -49,107 +39,193 @@ module _ (defs : List DirectiveDef) where
   first_in (x ∷ xs) ys f (refused_here e) = refused_here e
   first_in (x ∷ xs) ys f (refused_after e h) = refused_after e (first_in xs ys f h)
 
-  first_past : (ns : List Node) (places : List ℕ) (ys : List (Node × ℕ)) (f : TplFault) → NoneRefused defs ns → FirstRefusal defs ys f → FirstRefusal defs (placed ns places ++ ys) f
-  first_past [] places ys f none h = h
-  first_past (n ∷ ns) places ys f none h = refused_after none.0 (first_past ns (other_places places) ys f none.1 h)
+  first_past : (xs ys : List (Node × ℕ)) (f : TplFault) → NoneRefused defs xs → FirstRefusal defs ys f → FirstRefusal defs (xs ++ ys) f
+  first_past [] ys f none h = h
+  first_past (x ∷ xs) ys f none h = refused_after none.0 (first_past xs ys f none.1 h)
 
--- what was made of these nodes: no place of another node was taken, the sites are theirs, the holes are numbered on, none is refused
-pub record Follows (defs : List DirectiveDef) (ns : List Node) (m : Made) (hs : List ℕ) (n : Made) : Type 0 where
-  pub left : n.places ≡ after ns m.places
-  pub sites : n.sites ≡ m.sites ++ flat_map node_sites ns
-  pub numbers : hs ≡ counted (length m.sites) (flat_map node_sites ns)
+-- What was made of these nodes: these places are left, the sites are theirs, the holes are numbered on, the numbers end where the sites
+-- do, and none is refused.
+pub record Follows (defs : List DirectiveDef) (ns : List (Node × ℕ)) (after : List ℕ) (m : Made) (hs : List ℕ) (end : Option ℕ) (n : Made) : Type 0 where
+  pub left : n.places ≡ after
+  pub sites : n.sites ≡ m.sites ++ sites_at defs ns
+  pub numbers : hs ≡ counted (length m.sites) (sites_at defs ns)
+  pub regular : end ≡ Some (length n.sites)
   pub none : NoneRefused defs ns
 
-abbrev pub Good : {A : Type 0} → (A → List ℕ) → List DirectiveDef → List Node → Made → Result (A × Made) TplFault → Type 0
-Good hs defs ns m (Ok r) = Follows defs ns m (hs r.0) r.1
-Good hs defs ns m (Err f) = FirstRefusal defs (placed ns m.places) f ⊎ (f ≡ worn)
-
-numbered-holes : (n : ℕ) (ps : List interp.Piece) → flat_map piece_holes (numbered n ps) ≡ counted n (sites_in ps)
-numbered-holes n [] = refl
-numbered-holes n (interp.words t ∷ ps) = numbered-holes n ps
-numbered-holes n (interp.hole once p ∷ ps) = ap (λ (zs : List ℕ). n ∷ zs) (numbered-holes (n + 1) ps)
-
-plain-none : (ats : Attributes) → flat_map value_holes (plain_values ats) ≡ []
-plain-none [] = refl
-plain-none (a ∷ ats) = plain-none ats
+abbrev pub Good : {A : Type 0} → (A → List ℕ) → (ℕ → A → Option ℕ) → List DirectiveDef → List (Node × ℕ) → List ℕ → Made → Result (A × Made) TplFault → Type 0
+Good hs end defs ns left m (Ok r) = Follows defs ns left m (hs r.0) (end (length m.sites) r.0) r.1
+Good hs end defs ns left m (Err f) = FirstRefusal defs ns f ⊎ (f ≡ worn)
 
 module _ (defs : List DirectiveDef) where
   -- a text
   module _ (t : List ℕ) (m : Made) where
-    own : (ps : List interp.Piece) → interp.pieces_in t ≡ Ok ps → flat_map node_sites (text t ∷ []) ≡ sites_in ps
-    own ps e = append-nil (node_sites (text t)) ∙ ap text_sites e
+    abbrev ThisText : Result (Part × Made) TplFault → Type 0
+    ThisText r = Good part_holes after_part defs ((text t, first_place m.places) ∷ []) (other_places m.places) m r
 
-    text_fits : (ps : List interp.Piece) → interp.pieces_in t ≡ Ok ps → wrong ps ≡ None → (b : Bool) → Good part_holes defs (text t ∷ []) m (cond b (Err worn) (Ok (with_text m ps)))
-    text_fits ps e w true = inr refl
-    text_fits ps e w false = record {
-      left = refl;
-      sites = ap (λ (ss : List Site). m.sites ++ ss) (sym (own ps e));
-      numbers = numbered-holes (length m.sites) ps ∙ ap (counted (length m.sites)) (sym (own ps e));
-      none = (ap text_refusal e ∙ w, tt);
+    fitting : (ps : List interp.Piece) → interp.pieces_in t ≡ Ok ps → text_refusal (interp.pieces_in t) ≡ None → (b : Bool) → ThisText (cond b (Err worn) (Ok (with_text m ps)))
+    fitting ps e none true = inr refl
+    fitting ps e none false =
+        let own : sites_at defs ((text t, first_place m.places) ∷ []) ≡ sites_in kinds.Text ps = append-nil (text_sites kinds.Text (interp.pieces_in t)) ∙ ap (text_sites kinds.Text) e in
+        record {
+          left = refl;
+          sites = ap (λ (ss : List Site). m.sites ++ ss) (sym own);
+          numbers = numbered-holes kinds.Text (length m.sites) ps ∙ ap (counted (length m.sites)) (sym own);
+          regular = after-numbered kinds.Text (length m.sites) ps ∙ ap Some (sym (length-append m.sites (sites_in kinds.Text ps)));
+          none = (none, tt);
+        }
+
+    text_judged : (j : Result (List interp.Piece) TplFault) → Judged (first_place m.places) (interp.pieces_in t) j → ThisText (text_made m j)
+    text_judged (Ok ps) (fine e none) = fitting ps e none (nat_lt site_limit (length m.sites + length (sites_in kinds.Text ps)))
+    text_judged (Err f) (faulty is) = inl (refused_here is)
+
+    text_good : ThisText (text_made m (judged (first_place m.places) (interp.pieces_in t)))
+    text_good = text_judged (judged (first_place m.places) (interp.pieces_in t)) (judged_is (first_place m.places) (interp.pieces_in t))
+
+  -- an element's contents
+  module _ (kids : Forest) (m : Made) (h : Head) (n : ℕ) (places : List ℕ) where
+    abbrev TheseContents : Option ℕ → Result (Contents × Made) TplFault → Type 0
+    TheseContents o r =
+        Good content_holes (λ c x. after_contents n c (attributes_of h) x) defs (cond (is_some o) [] (walk defs kids places)) (after_forest kids places) (record { places = places; sites = h.sites }) r
+
+    contents_good : (o : Option ℕ) → is_bound_within n (length h.sites) o ≡ true → are_drawn (apart_from o n (length h.sites)) (attributes_of h) ≡ true
+        → (r : Result (Parts × Made) TplFault) → Good holes after_parts defs (walk defs kids places) (after_forest kids places) (record { places = places; sites = h.sites }) r
+        → TheseContents o (contents_made o kids (record { places = places; sites = h.sites }) r)
+    contents_good None b e (Ok s) g = record {
+      left = g.left;
+      sites = g.sites;
+      numbers = g.numbers;
+      regular = ap (λ x. cond x (after_parts (length h.sites) s.0) None) e ∙ g.regular;
+      none = g.none;
     }
-
-    text_judged : (ps : List interp.Piece) → interp.pieces_in t ≡ Ok ps → (o : Option TplKind) → wrong ps ≡ o → Good part_holes defs (text t ∷ []) m (text_made m (judged_as (first_place m.places) o ps))
-    text_judged ps e None w = text_fits ps e w (nat_lt site_limit (length m.sites + length (sites_in ps)))
-    text_judged ps e (Some kind) w = inl (refused_here (ap text_refusal e ∙ w))
-
-    text_good : (r : Result (List interp.Piece) InterpFault) → interp.pieces_in t ≡ r → Good part_holes defs (text t ∷ []) m (text_made m (judged (first_place m.places) r))
-    text_good (Ok ps) e = text_judged ps e (wrong ps) refl
-    text_good (Err f) e = inl (refused_here (ap text_refusal e))
+    contents_good None b e (Err f) g = g
+    contents_good (Some k) b e r g = record {
+      left = refl;
+      sites = sym (append-nil h.sites);
+      numbers = refl;
+      regular = ap (λ x. cond x (Some (length h.sites)) None) (and_from (is_within n (length h.sites) k) (are_drawn (apart_from (Some k) n (length h.sites)) (attributes_of h)) b e);
+      none = tt;
+    }
 
   -- an element
   module _ (name : List ℕ) (ats : Attributes) (kids : Forest) (m : Made) where
-    kids_good : picked_for defs None name ats ≡ Ok [] → (r : Result (Parts × Made) TplFault) → Good holes defs (in_order kids) (past m) r
-        → Good part_holes defs (node_order (element name ats kids)) m (r >>= λ s. Ok (element_part name (plain_values (kept_attributes ats)) s.0, s.1))
-    kids_good e (Ok s) h = record {
-      left = h.left;
-      sites = h.sites;
-      numbers = ap (λ (hs : List ℕ). hs ++ holes s.0) (plain-none (kept_attributes ats)) ∙ h.numbers;
-      none = (ap picks_refusal e, h.none);
-    }
-    kids_good e (Err f) (inl h) = inl (refused_after (ap picks_refusal e) h)
-    kids_good e (Err f) (inr h) = inr h
+    abbrev others : List ℕ
+    others = other_places m.places
 
-    element_good : (r : Result (List Pick) CollectFault) → picked_for defs None name ats ≡ r → Good holes defs (in_order kids) (past m) (compiled_forest defs kids (past m))
-        → Good part_holes defs (node_order (element name ats kids)) m (attributes_at r ats (first_place m.places) >>= λ kept. compiled_forest defs kids (past m) >>= λ s. Ok (element_part name kept s.0, s.1))
-    element_good (Err collect.MultiDir) e h = inl (refused_here (ap picks_refusal e))
-    element_good (Err collect.LeftOut) e h = inl (refused_here (ap picks_refusal e))
-    element_good (Err (collect.Memory k)) e h = inl (refused_here (ap picks_refusal e))
-    element_good (Ok []) e h = kids_good e (compiled_forest defs kids (past m)) h
-    element_good (Ok (p ∷ ps)) e h = inl (refused_here (ap picks_refusal e))
+    abbrev ThisElement : Result (Part × Made) TplFault → Type 0
+    ThisElement r = Good part_holes after_part defs (node_walk defs (element name ats kids) m.places) (after_forest kids others) m r
+
+    abbrev walked_in : Bool → List (Node × ℕ)
+    walked_in b = cond b [] (walk defs kids others)
+
+    -- with its contents
+    module _ (ps : List Pick) (e : picked_for defs None name ats ≡ Ok ps) (none : picks_refusal (Ok ps) ≡ None) (h : Head) (own : Picked (flat_map pick_sites ps) (list_any is_bind ps) (bare ats m.sites) h) where
+      abbrev inner : Made
+      inner = record { places = others; sites = h.sites }
+
+      kept : walked_in (are_binding (picked_for defs None name ats)) ≡ walked_in (is_some h.bound)
+      kept = ap (λ r. walked_in (are_binding r)) e ∙ ap walked_in (sym own.bound)
+
+      abbrev there : List Site
+      there = sites_at defs (walked_in (is_some h.bound))
+
+      all_sites : sites_at defs (node_walk defs (element name ats kids) m.places) ≡ flat_map pick_sites ps ++ there
+      all_sites = ap (λ r. picked_sites r ++ sites_at defs (walked_in (are_binding (picked_for defs None name ats)))) e ∙ ap (λ (ns : List (Node × ℕ)). flat_map pick_sites ps ++ sites_at defs ns) kept
+
+      size : length h.sites ≡ length m.sites + length (flat_map pick_sites ps)
+      size = ap length own.sites ∙ length-append m.sites (flat_map pick_sites ps)
+
+      with_contents : (r : Result (Contents × Made) TplFault) → TheseContents kids m h (length m.sites) others h.bound r → ThisElement (r >>= λ q. Ok (element_with name h q.0, q.1))
+      with_contents (Ok q) g = record {
+        left = g.left;
+        sites = g.sites ∙ (ap (λ (ss : List Site). ss ++ there) own.sites ∙ (append_assoc m.sites (flat_map pick_sites ps) there ∙ ap (λ (ss : List Site). m.sites ++ ss) (sym all_sites)));
+        numbers = ap (λ (ks : List ℕ). ks ++ content_holes q.0) own.own ∙ (ap (λ (ks : List ℕ). counted (length m.sites) (flat_map pick_sites ps) ++ ks) (g.numbers ∙ ap (λ k. counted k there) size)
+            ∙ (sym (counted-append (length m.sites) (flat_map pick_sites ps) there) ∙ ap (counted (length m.sites)) (sym all_sites)));
+        regular = ap (λ (ks : List ℕ). option_and_then (λ c. after_contents (length m.sites) c (attributes_of h) q.0) (after_own (length m.sites) ks)) own.own
+            ∙ (ap (option_and_then (λ c. after_contents (length m.sites) c (attributes_of h) q.0)) (after_own-counted (length m.sites) (flat_map pick_sites ps) ∙ ap Some (sym size)) ∙ g.regular);
+        none = (ap picks_refusal e ∙ none, subst (NoneRefused defs) (sym kept) g.none);
+      }
+      with_contents (Err f) (inl g) = inl (refused_after (ap picks_refusal e ∙ none) (subst (λ ns. FirstRefusal defs ns f) (sym kept) g))
+      with_contents (Err f) (inr g) = inr g
+
+      drawn : Drawn (length m.sites) h
+      drawn = own.drawn (length m.sites) (bare_drawn ats m.sites)
+
+      element_made : Good holes after_parts defs (walk defs kids others) (after_forest kids others) inner (compiled_forest defs kids inner)
+          → ThisElement (contents_made h.bound kids inner (compiled_forest defs kids inner) >>= λ q. Ok (element_with name h q.0, q.1))
+      element_made g =
+          let d : Drawn (length m.sites) h = drawn in
+          with_contents (contents_made h.bound kids inner (compiled_forest defs kids inner))
+          (contents_good kids m h (length m.sites) others h.bound d.bound (all_drawn (length m.sites) h d) (compiled_forest defs kids inner) g)
+
+    abbrev finished : Result Head TplFault → Result (Part × Made) TplFault
+    finished r = r >>= λ h. contents_made h.bound kids (with_head h m) (compiled_forest defs kids (with_head h m)) >>= λ q. Ok (element_with name h q.0, q.1)
+
+    abbrev KidsGood : Type 0
+    KidsGood = (k : Made) → Good holes after_parts defs (walk defs kids k.places) (after_forest kids k.places) k (compiled_forest defs kids k)
+
+    picked_good : KidsGood → (ps : List Pick) → picked_for defs None name ats ≡ Ok ps → are_built ps ≡ true → (r : Result Head TplFault)
+        → Answers (first_place m.places) (flat_map pick_sites ps) (list_any is_bind ps) (first_pick_refusal ps) (bare ats m.sites) r → ThisElement (finished r)
+    picked_good go ps e built (Ok h) g = element_made ps e (ap (λ b. cond b (first_pick_refusal ps) (Some Later)) built ∙ g.1) h g.0 (go (with_head h m))
+    picked_good go ps e built (Err f) (inl g) =
+        let here : picks_refusal (picked_for defs None name ats) ≡ Some f.kind = ap picks_refusal e ∙ (ap (λ b. cond b (first_pick_refusal ps) (Some Later)) built ∙ g.1) in
+        let at : refused f.kind (first_place m.places) ≡ f = ap (refused f.kind) (sym g.0) in
+        inl (subst (λ x. FirstRefusal defs (node_walk defs (element name ats kids) m.places) x) at (refused_here here))
+    picked_good go ps e built (Err f) (inr g) = inr g
+
+    built_good : KidsGood → (ps : List Pick) → picked_for defs None name ats ≡ Ok ps → (b : Bool) → are_built ps ≡ b
+        → ThisElement (finished (cond b (with_picks (first_place m.places) ps (bare ats m.sites)) (Err (refused Later (first_place m.places)))))
+    built_good go ps e true built = picked_good go ps e built (with_picks (first_place m.places) ps (bare ats m.sites)) (picks_answer (first_place m.places) ps (bare ats m.sites))
+    built_good go ps e false built = inl (refused_here (ap picks_refusal e ∙ ap (λ b. cond b (first_pick_refusal ps) (Some Later)) built))
+
+    element_good : KidsGood → (r : Result (List Pick) CollectFault) → picked_for defs None name ats ≡ r → ThisElement (finished (head_with r ats m))
+    element_good go (Err collect.MultiDir) e = inl (refused_here (ap picks_refusal e))
+    element_good go (Err collect.LeftOut) e = inl (refused_here (ap picks_refusal e))
+    element_good go (Err (collect.Memory k)) e = inl (refused_here (ap picks_refusal e))
+    element_good go (Ok ps) e = built_good go ps e (are_built ps) refl
 
   -- one after another
-  module _ (xs ys : List Node) (m : Made) where
-    both : (p : Part) (n : Made) (ps : Parts) (k : Made) → Follows defs xs m (part_holes p) n → Follows defs ys n (holes ps) k → Follows defs (xs ++ ys) m (holes (part_then p ps)) k
-    both p n ps k h g =
-        let split : flat_map node_sites (xs ++ ys) ≡ flat_map node_sites xs ++ flat_map node_sites ys = flat_map-append node_sites xs ys in
-        let size : length n.sites ≡ length m.sites + length (flat_map node_sites xs) = ap length h.sites ∙ length-append m.sites (flat_map node_sites xs) in
+  module _ (xs ys : List (Node × ℕ)) (m : Made) where
+    both : (p : Part) (n : Made) (ps : Parts) (k : Made) (left last : List ℕ) → Follows defs xs left m (part_holes p) (after_part (length m.sites) p) n → Follows defs ys last n (holes ps) (after_parts (length n.sites) ps) k
+        → Follows defs (xs ++ ys) last m (holes (part_then p ps)) (after_parts (length m.sites) (part_then p ps)) k
+    both p n ps k left last h g =
+        let split : sites_at defs (xs ++ ys) ≡ sites_at defs xs ++ sites_at defs ys = flat_map-append (λ (x : Node × ℕ). node_sites defs x.0) xs ys in
+        let size : length n.sites ≡ length m.sites + length (sites_at defs xs) = ap length h.sites ∙ length-append m.sites (sites_at defs xs) in
         record {
-          left = g.left ∙ ap (after ys) h.left ∙ sym (after-append xs ys m.places);
-          sites = g.sites ∙ ap (λ (ss : List Site). ss ++ flat_map node_sites ys) h.sites ∙ append_assoc m.sites (flat_map node_sites xs) (flat_map node_sites ys) ∙ ap (λ (ss : List Site). m.sites ++ ss) (sym split);
-          numbers = ap (λ (hs : List ℕ). hs ++ holes ps) h.numbers ∙ ap (λ (hs : List ℕ). counted (length m.sites) (flat_map node_sites xs) ++ hs) (g.numbers ∙ ap (λ k. counted k (flat_map node_sites ys)) size)
-              ∙ sym (counted-append (length m.sites) (flat_map node_sites xs) (flat_map node_sites ys)) ∙ ap (counted (length m.sites)) (sym split);
+          left = g.left;
+          sites = g.sites ∙ (ap (λ (ss : List Site). ss ++ sites_at defs ys) h.sites ∙ (append_assoc m.sites (sites_at defs xs) (sites_at defs ys) ∙ ap (λ (ss : List Site). m.sites ++ ss) (sym split)));
+          numbers = ap (λ (hs : List ℕ). hs ++ holes ps) h.numbers ∙ (ap (λ (hs : List ℕ). counted (length m.sites) (sites_at defs xs) ++ hs) (g.numbers ∙ ap (λ k. counted k (sites_at defs ys)) size)
+              ∙ (sym (counted-append (length m.sites) (sites_at defs xs) (sites_at defs ys)) ∙ ap (counted (length m.sites)) (sym split)));
+          regular = ap (option_and_then (λ c. after_parts c ps)) h.regular ∙ g.regular;
           none = none-append defs xs ys h.none g.none;
         }
 
-    rest_good : (p : Part) (n : Made) → Follows defs xs m (part_holes p) n → (r : Result (Parts × Made) TplFault) → Good holes defs ys n r → Good holes defs (xs ++ ys) m (r >>= λ s. Ok (part_then p s.0, s.1))
-    rest_good p n h (Ok s) g = both p n s.0 s.1 h g
-    rest_good p n h (Err f) (inl g) =
-        let here : FirstRefusal defs (placed ys (after xs m.places)) f = subst (λ (places : List ℕ). FirstRefusal defs (placed ys places) f) h.left g in
-        inl (subst (λ (zs : List (Node × ℕ)). FirstRefusal defs zs f) (sym (placed-append xs ys m.places)) (first_past defs xs m.places (placed ys (after xs m.places)) f h.none here))
-    rest_good p n h (Err f) (inr g) = inr g
+    rest_good : (p : Part) (n : Made) (left last : List ℕ) → Follows defs xs left m (part_holes p) (after_part (length m.sites) p) n → (r : Result (Parts × Made) TplFault) → Good holes after_parts defs ys last n r
+        → Good holes after_parts defs (xs ++ ys) last m (r >>= λ s. Ok (part_then p s.0, s.1))
+    rest_good p n left last h (Ok s) g = both p n s.0 s.1 left last h g
+    rest_good p n left last h (Err f) (inl g) = inl (first_past defs xs ys f h.none g)
+    rest_good p n left last h (Err f) (inr g) = inr g
 
-    then_good : (f : Forest) → ys ≡ in_order f → (r : Result (Part × Made) TplFault) → Good part_holes defs xs m r → ((n : Made) → Good holes defs ys n (compiled_forest defs f n))
-        → Good holes defs (xs ++ ys) m (r >>= λ q. compiled_forest defs f q.1 >>= λ s. Ok (part_then q.0 s.0, s.1))
-    then_good f e (Ok q) h go = rest_good q.0 q.1 h (compiled_forest defs f q.1) (go q.1)
-    then_good f e (Err d) (inl h) go = inl (subst (λ (zs : List (Node × ℕ)). FirstRefusal defs zs d) (sym (placed-append xs ys m.places)) (first_in defs (placed xs m.places) (placed ys (after xs m.places)) d h))
-    then_good f e (Err d) (inr h) go = inr h
+  abbrev NodeGood : Node → Made → Type 0
+  NodeGood n m = Good part_holes after_part defs (node_walk defs n m.places) (after_node n m.places) m (compiled_node defs n m)
+
+  abbrev ForestGood : Forest → Made → Type 0
+  ForestGood f m = Good holes after_parts defs (walk defs f m.places) (after_forest f m.places) m (compiled_forest defs f m)
+
+  then_good : (n : Node) (f : Forest) (m : Made) → (r : Result (Part × Made) TplFault) → Good part_holes after_part defs (node_walk defs n m.places) (after_node n m.places) m r → ((k : Made) → ForestGood f k)
+      → Good holes after_parts defs (walk defs (node n f) m.places) (after_forest (node n f) m.places) m (r >>= λ q. compiled_forest defs f q.1 >>= λ s. Ok (part_then q.0 s.0, s.1))
+  then_good n f m (Ok q) h go =
+      let rest : Good holes after_parts defs (walk defs f (after_node n m.places)) (after_forest f (after_node n m.places)) q.1 (compiled_forest defs f q.1)
+      = subst (λ (places : List ℕ). Good holes after_parts defs (walk defs f places) (after_forest f places) q.1 (compiled_forest defs f q.1)) h.left (go q.1) in
+      rest_good (node_walk defs n m.places) (walk defs f (after_node n m.places)) m q.0 q.1 (after_node n m.places) (after_forest f (after_node n m.places)) h (compiled_forest defs f q.1) rest
+  then_good n f m (Err d) (inl h) go = inl (first_in defs (node_walk defs n m.places) (walk defs f (after_node n m.places)) d h)
+  then_good n f m (Err d) (inr h) go = inr h
 
   mutual
-    pub node_good : (n : Node) (m : Made) → Good part_holes defs (node_order n) m (compiled_node defs n m)
-    node_good (element name ats kids) m = element_good name ats kids m (picked_for defs None name ats) refl (forest_good kids (past m))
-    node_good (text t) m = text_good t m (interp.pieces_in t) refl
-    node_good (comment t) m = record { left = refl; sites = sym (append-nil m.sites); numbers = refl; none = (refl, tt) }
+    node_good : (n : Node) (m : Made) → NodeGood n m
+    node_good (element name ats kids) m = element_good name ats kids m (λ k. forest_good kids k) (picked_for defs None name ats) refl
+    node_good (text t) m = text_good t m
+    node_good (comment t) m = record { left = refl; sites = sym (append-nil m.sites); numbers = refl; regular = refl; none = (refl, tt) }
 
-    pub forest_good : (f : Forest) (m : Made) → Good holes defs (in_order f) m (compiled_forest defs f m)
-    forest_good no_nodes m = record { left = refl; sites = sym (append-nil m.sites); numbers = refl; none = tt }
-    forest_good (node n f) m = then_good (node_order n) (in_order f) m f refl (compiled_node defs n m) (node_good n m) (λ k. forest_good f k)
+    pub forest_good : (f : Forest) (m : Made) → ForestGood f m
+    forest_good no_nodes m = record { left = refl; sites = sym (append-nil m.sites); numbers = refl; regular = refl; none = tt }
+    forest_good (node n f) m = then_good n f m (compiled_node defs n m) (node_good n m) (λ k. forest_good f k)

@@ -1,6 +1,11 @@
 pub mod PartLists
 pub mod NodeLists
 pub mod HolePlaces
+pub mod Walks
+pub mod Judging
+pub mod Numbers
+pub mod Drawn
+pub mod Picking
 pub mod Following
 pub mod Compiled
-pub mod Below
+pub mod Fitting

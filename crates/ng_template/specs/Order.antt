@@ -1,17 +1,26 @@
 -- Document order, in the words of documents: what a node is refused for by itself, and which holes and sites it has.
-use Rattle.std.specs.Prelude.{◌≡◌, ℕ, ◌+◌, List, [], ◌∷◌, ◌++◌, Option, None, Some, Result, Ok, Err}
-use Rattle.std.specs.List.{flat_map}
+use Rattle.std.specs.Prelude.{◌≡◌, ℕ, zero, suc, Bool, true, false, List, [], ◌∷◌, ◌++◌, length, Option, None, Some, Result, Ok, Err, if◌then◌else◌}
+use Rattle.std.specs.List.{flat_map, list_any}
 use Rattle.ng_collect.specs.Collected.{picked_for}
 use Rattle.ng_collect.specs.declared.definition.DirectiveDef.{DirectiveDef}
 use Rattle.ng_collect.specs.declared.fault.CollectFault.{CollectFault}
 use Rattle.ng_collect.specs.declared.fault.CollectFault.TheVariants as collect
 use Rattle.ng_collect.specs.declared.pick.Pick.{Pick}
-use Rattle.ng_drawing.specs.Template.{Site, Piece, word, hole, Part, Parts, text_part, comment_part, element_part, no_parts, part_then}
+use Rattle.ng_drawing.specs.Template.{Site, Piece, word, hole, Part, Contents, Parts, text_part, comment_part, element_part, children, bound, no_parts, part_then}
 use Rattle.ng_interp.specs.Parts as interp
 use Rattle.ng_interp.specs.declared.pieces.InterpFault.{InterpFault}
 use Rattle.ng_markup.specs.Forest.{Node, Forest, element, text, comment, no_nodes, node}
 use Rattle.ng_template.specs.Compiles.{first_place, other_places}
+use Rattle.ng_drawing.specs.declared.kind.SiteKind.{SiteKind}
+use Rattle.ng_drawing.specs.declared.kind.SiteKind.TheVariants as kinds
+use Rattle.ng_tags.specs.declared.attrs.Attr.{Attr}
+use Rattle.ng_template.specs.Directives.{text_on, parts_for, kind_for}
+use Rattle.ng_template.specs.Manners.{manner_of, are_built}
+use Rattle.ng_template.specs.Programs.{program_in, program_refusal}
 use Rattle.ng_template.specs.Texts.{refused, wrong, sites_in}
+use Rattle.ng_template.specs.declared.manners.Manner.{Manner}
+use Rattle.ng_template.specs.declared.manners.Manner.TheVariants.{Sets, Starts, Handles}
+use Rattle.ng_template.specs.declared.manners.Setting.TheVariants.{Binds}
 use Rattle.ng_template.specs.declared.fault.TplFault.{TplFault}
 use Rattle.ng_template.specs.declared.fault.TplKind.{TplKind}
 use Rattle.ng_template.specs.declared.fault.TplKind.TheVariants.{LeftOut, MultiDir, Later, Expression, Memory}
@@ -32,18 +41,65 @@ abbrev pub placed : List Node → List ℕ → List (Node × ℕ)
 placed [] places = []
 placed (n ∷ ns) places = (n, first_place places) ∷ placed ns (other_places places)
 
--- why an element with these directives is refused: what is left out, what cannot stand together, or a directive that is not built yet
-abbrev pub picks_refusal : Result (List Pick) CollectFault → Option TplKind
-picks_refusal (Err collect.MultiDir) = Some MultiDir
-picks_refusal (Err collect.LeftOut) = Some LeftOut
-picks_refusal (Err (collect.Memory m)) = Some (Memory m)
-picks_refusal (Ok []) = None
-picks_refusal (Ok (p ∷ ps)) = Some Later
+-- whether a directive puts a text in place of the element's children
+abbrev pub is_binding : Option Manner → Bool
+is_binding (Some (Sets Binds)) = true
+is_binding _ = false
+
+abbrev pub is_bind : Pick → Bool
+is_bind p = is_binding (manner_of p.directive)
+
+abbrev pub are_binding : Result (List Pick) CollectFault → Bool
+are_binding (Ok ps) = list_any is_bind ps
+are_binding (Err f) = false
+
+-- how many nodes after a node are in it and not compiled
+abbrev pub left_out_in : List DirectiveDef → Node → ℕ
+left_out_in defs (element name attributes kids) = if are_binding (picked_for defs None name attributes) then length (in_order kids) else 0
+left_out_in defs (text t) = 0
+left_out_in defs (comment t) = 0
+
+-- the first k nodes are left out, and after an element that has `ng-bind` those in it
+abbrev pub without_replaced : List DirectiveDef → ℕ → List (Node × ℕ) → List (Node × ℕ)
+without_replaced defs k [] = []
+without_replaced defs zero (n ∷ ns) = n ∷ without_replaced defs (left_out_in defs n.0) ns
+without_replaced defs (suc k) (n ∷ ns) = without_replaced defs k ns
+
+-- the nodes of a document that are compiled, in document order, each with its place
+abbrev pub nodes_compiled : List DirectiveDef → Forest × List ℕ → List (Node × ℕ)
+nodes_compiled defs source = without_replaced defs 0 (placed (in_order source.0) source.1)
 
 -- why a text with these parts is refused
 abbrev pub text_refusal : Result (List interp.Piece) InterpFault → Option TplKind
 text_refusal (Err f) = Some Expression
 text_refusal (Ok ps) = wrong ps
+
+-- why a directive is refused: it is not built yet, or something is wrong with its text
+abbrev pub manner_refusal : Option Manner → Option Attr → Option TplKind
+manner_refusal None a = Some Later
+manner_refusal (Some (Sets s)) a = text_refusal (parts_for s (text_on a))
+manner_refusal (Some Starts) a = program_refusal (program_in (text_on a))
+manner_refusal (Some (Handles e)) a = program_refusal (program_in (text_on a))
+
+abbrev pub pick_refusal : Pick → Option TplKind
+pick_refusal p = manner_refusal (manner_of p.directive) p.attribute
+
+abbrev pub first_of : Option TplKind → Option TplKind → Option TplKind
+first_of None o = o
+first_of (Some k) o = Some k
+
+-- the first that is refused, in the order of the directives
+abbrev pub first_pick_refusal : List Pick → Option TplKind
+first_pick_refusal [] = None
+first_pick_refusal (p ∷ ps) = first_of (pick_refusal p) (first_pick_refusal ps)
+
+-- why an element with these directives is refused: what is left out, what cannot stand together, one that is not built yet, or what
+-- is wrong with the first of them
+abbrev pub picks_refusal : Result (List Pick) CollectFault → Option TplKind
+picks_refusal (Err collect.MultiDir) = Some MultiDir
+picks_refusal (Err collect.LeftOut) = Some LeftOut
+picks_refusal (Err (collect.Memory m)) = Some (Memory m)
+picks_refusal (Ok ps) = if are_built ps then first_pick_refusal ps else Some Later
 
 -- why a node is refused by itself, whatever stands around it
 abbrev pub refusal : List DirectiveDef → Node → Option TplKind
@@ -57,39 +113,54 @@ pub data FirstRefusal (defs : List DirectiveDef) : List (Node × ℕ) → TplFau
   refused_after : {n : Node} {place : ℕ} {ns : List (Node × ℕ)} {f : TplFault} → refusal defs n ≡ None → FirstRefusal defs ns f → FirstRefusal defs ((n, place) ∷ ns) f
 
 -- no node is refused
-abbrev pub NoneRefused : List DirectiveDef → List Node → Type 0
+abbrev pub NoneRefused : List DirectiveDef → List (Node × ℕ) → Type 0
 NoneRefused defs [] = Unit {0}
-NoneRefused defs (n ∷ ns) = (refusal defs n ≡ None) × NoneRefused defs ns
+NoneRefused defs (n ∷ ns) = (refusal defs n.0 ≡ None) × NoneRefused defs ns
 
 -- the sites of a text: one for each of its holes
-abbrev pub text_sites : Result (List interp.Piece) InterpFault → List Site
-text_sites (Err f) = []
-text_sites (Ok ps) = sites_in ps
+abbrev pub text_sites : SiteKind → Result (List interp.Piece) InterpFault → List Site
+text_sites kind (Err f) = []
+text_sites kind (Ok ps) = sites_in kind ps
 
-abbrev pub node_sites : Node → List Site
-node_sites (element name attributes kids) = []
-node_sites (text t) = text_sites (interp.pieces_in t)
-node_sites (comment t) = []
+-- the sites of a directive, and of an element: those of its directives in their order
+abbrev pub manner_sites : Option Manner → Option Attr → List Site
+manner_sites None a = []
+manner_sites (Some (Sets s)) a = text_sites (kind_for s) (parts_for s (text_on a))
+manner_sites (Some Starts) a = []
+manner_sites (Some (Handles e)) a = []
 
--- the holes of parts in document order, by number
+abbrev pub pick_sites : Pick → List Site
+pick_sites p = manner_sites (manner_of p.directive) p.attribute
+
+abbrev pub picked_sites : Result (List Pick) CollectFault → List Site
+picked_sites (Err f) = []
+picked_sites (Ok ps) = flat_map pick_sites ps
+
+-- the sites of a node by itself
+abbrev pub node_sites : List DirectiveDef → Node → List Site
+node_sites defs (element name attributes kids) = picked_sites (picked_for defs None name attributes)
+node_sites defs (text t) = text_sites kinds.Text (interp.pieces_in t)
+node_sites defs (comment t) = []
+
+-- the sites of these nodes
+abbrev pub sites_at : List DirectiveDef → List (Node × ℕ) → List Site
+sites_at defs ns = flat_map (λ n. node_sites defs n.0) ns
+
+-- the sites of parts in document order, by number: the holes of texts, and an element's own before those of its children
 abbrev pub piece_holes : Piece → List ℕ
 piece_holes (word t) = []
 piece_holes (hole n) = n ∷ []
-
-abbrev pub value_holes : List ℕ × List Piece → List ℕ
-value_holes a = flat_map piece_holes a.1
 
 abbrev mutual
   pub part_holes : Part → List ℕ
   part_holes (text_part ps) = flat_map piece_holes ps
   part_holes (comment_part t) = []
-  part_holes (element_part name attributes parts) = flat_map value_holes attributes ++ holes parts
+  part_holes (element_part name own acts attributes contents) = own ++ content_holes contents
+
+  pub content_holes : Contents → List ℕ
+  content_holes (children ps) = holes ps
+  content_holes (bound n) = []
 
   pub holes : Parts → List ℕ
   holes no_parts = []
   holes (part_then p ps) = part_holes p ++ holes ps
-
--- as many numbers from n on as a list has entries
-abbrev pub counted : {A : Type 0} → ℕ → List A → List ℕ
-counted n [] = []
-counted n (x ∷ xs) = n ∷ counted (n + 1) xs

@@ -1,9 +1,9 @@
 -- A text by itself: its parts, or why it is refused.
-use Rattle.std.specs.Prelude.{ℕ, ◌+◌, Bool, true, false, not, List, [], ◌∷◌, Option, None, Some, Result, Ok, Err, if◌then◌else◌}
+use Rattle.std.specs.Prelude.{ℕ, ◌+◌, Bool, true, not, List, [], ◌∷◌, Option, None, Some, Result, Ok, Err, if◌then◌else◌}
 use Rattle.std.specs.List.{list_all, flat_map}
 use Rattle.ng_drawing.specs.Template.{Site}
 use Rattle.ng_drawing.specs.Template as template
-use Rattle.ng_drawing.specs.declared.kind.SiteKind.TheVariants as kinds
+use Rattle.ng_drawing.specs.declared.kind.SiteKind.{SiteKind}
 use Rattle.ng_interp.specs.Parts.{Piece, words, hole}
 use Rattle.ng_interp.specs.declared.pieces.InterpFault.{InterpFault}
 use Rattle.ng_view.specs.Purity.{are_pure, all_filters_known}
@@ -48,9 +48,14 @@ numbered n (words t ∷ ps) = template.word t ∷ numbered n ps
 numbered n (hole once p ∷ ps) = template.hole n ∷ numbered (n + 1) ps
 
 -- the site of a hole, which is a one-time binding where the hole begins with `::`
-abbrev pub piece_sites : Piece → List Site
-piece_sites (words t) = []
-piece_sites (hole once p) = site_with kinds.Text once p ∷ []
+abbrev pub piece_sites : SiteKind → Piece → List Site
+piece_sites kind (words t) = []
+piece_sites kind (hole once p) = site_with kind once p ∷ []
 
-abbrev pub sites_in : List Piece → List Site
-sites_in ps = flat_map piece_sites ps
+abbrev pub sites_in : SiteKind → List Piece → List Site
+sites_in kind ps = flat_map (piece_sites kind) ps
+
+-- as many numbers from n on as a list has entries
+abbrev pub counted : {A : Type 0} → ℕ → List A → List ℕ
+counted n [] = []
+counted n (x ∷ xs) = n ∷ counted (n + 1) xs

@@ -1,42 +1,29 @@
 //! Compiles a document.
-ghost use Rattle.std.specs.Prelude.{◌≡◌, [], length, IfOk};
+ghost use Rattle.std.specs.Prelude.{◌≡◌, true, IfOk};
 ghost use Rattle.ng_base.specs.Meets.{Gives};
 ghost use Rattle.ng_html.specs.Seen.{node_of, forest_of};
 ghost use Rattle.ng_html.specs.TreeSeen.{source_of};
 ghost use Rattle.ng_interp.specs.Parts.{pieces_in};
-ghost use Rattle.ng_template.specs.Compiles.{first_place, other_places, past as past_of, text_made, compiled_node, compiled_forest, compiled};
+ghost use Rattle.ng_template.specs.Compiles.{first_place, past as past_of, text_made, after_node as after_node_of, after_forest as after_forest_of, contents_made, compiled_node, compiled_forest, compiled};
 ghost use Rattle.ng_template.specs.Free.{is_tpl_want};
-ghost use Rattle.ng_template.specs.Holes.{HolesBelow};
-ghost use Rattle.ng_template.specs.Seen.{part_of, parts_of};
+ghost use Rattle.ng_template.specs.Numbering.{is_regular};
+ghost use Rattle.ng_template.specs.Seen.{part_of, contents_of, parts_of};
 ghost use Rattle.ng_template.specs.TemplateOf.{template_of, made_of};
 ghost use Rattle.ng_template.specs.Texts.{judged};
 
-use crate::elements::attributes_of;
-use crate::fault::{TplFault, TplKind};
+use crate::elements::{Element, element_of};
+use crate::fault::TplFault;
 use crate::known::Known;
-use crate::parts::{Part, Parts, comment, element, text};
-use crate::texts::{count_holes, place_text, read_text, refusal};
+use crate::parts::{Contents, Part, Parts, bound as bound_to, children, comment, element, text};
+use crate::settings::with_class;
+use crate::texts::{SITE_LIMIT, count_holes, first_of, place_parts, read_text, worn};
 use crate::tpl::{Making, Tpl};
-use ng_base::fault::Memory;
 use ng_base::txt::Txt;
 use ng_collect::Registry;
+use ng_drawing::kind::SiteKind;
 use ng_html::forest::{Forest, Node};
 use ng_html::source::Source;
 use std::alloc::Global;
-
-/// The most sites of a template.
-const SITE_LIMIT: usize = 4_294_967_295;
-
-/// The first place, and those after it.
-fn first_of(places: &[u64]) -> (u64, &[u64])
-    ensures first { result.0 ≡ first_place places.now }
-    ensures others { result.1.now ≡ other_places places.now }
-{
-    match places.split_first() {
-        None => (0, places),
-        Some((first, others)) => (*first, others),
-    }
-}
 
 /// A text, whose sites come after those before.
 fn text_at<'a>(
@@ -50,9 +37,9 @@ fn text_at<'a>(
     let (first, others) = first_of(made.places);
     let parts = read_text(alloc, known, first, whole)?;
     if made.sites.len() + count_holes(parts.as_slice()) > SITE_LIMIT {
-        return Err(refusal(TplKind::Memory(Memory::Worn), 0));
+        return Err(worn());
     }
-    let (pieces, sites) = place_text(alloc, made.sites, parts)?;
+    let (pieces, sites) = place_parts(alloc, SiteKind::Text, made.sites, parts)?;
     Ok((
         text(pieces),
         Making {
@@ -73,6 +60,31 @@ fn past(made: Making<'_>) -> Making<'_>
     }
 }
 
+/// The places that are left after a node and all nodes in it.
+#[cycle(pass)]
+fn after_node<'a>(node: &Node, places: &'a [u64]) -> &'a [u64]
+    ensures { result.now ≡ after_node_of (node_of node.now) places.now }
+{
+    let (_, others) = first_of(places);
+    match node {
+        Node::Text(_) => others,
+        Node::Comment(_) => others,
+        Node::Element { kids, .. } => after_forest(kids, others),
+    }
+}
+
+/// The places that are left after a forest.
+#[cycle(pass)]
+fn after_forest<'a>(forest: &Forest, places: &'a [u64]) -> &'a [u64]
+    ensures { result.now ≡ after_forest_of (forest_of forest.now) places.now }
+{
+    let mut left = places;
+    for node in &forest.items {
+        left = after_node(node, left);
+    }
+    left
+}
+
 /// The part of a node.
 #[cycle(build)]
 fn part_at<'a>(
@@ -88,11 +100,52 @@ fn part_at<'a>(
         Node::Text(whole) => text_at(alloc, known, whole, made),
         Node::Comment(whole) => Ok((comment(whole.copied()?), past(made))),
         Node::Element { name, attrs, kids } => {
-            let (first, _) = first_of(made.places);
-            let attributes = attributes_of(alloc, node, attrs, r, first)?;
-            let (parts, after) = parts_at(alloc, r, known, kids, past(made))?;
-            Ok((element(name.copied()?, attributes, parts), after))
+            let name = name.copied()?;
+            let Making { places, sites } = made;
+            let Element {
+                attributes,
+                class,
+                bound,
+                own,
+                acts,
+                sites,
+            } = element_of(alloc, known, node, attrs, r, places, sites)?;
+            let attributes = with_class(alloc, attributes, class)?;
+            let (_, others) = first_of(places);
+            let inner = Making {
+                places: others,
+                sites,
+            };
+            let (contents, after) = contents_at(alloc, r, known, bound, kids, inner)?;
+            Ok((element(name, own, acts, attributes, contents), after))
         }
+    }
+}
+
+/// The contents of an element: its children, unless the text of a site stands in their place.
+#[cycle(build)]
+fn contents_at<'a>(
+    alloc: Global,
+    r: &Registry,
+    known: &mut Known,
+    bound: Option<u32>,
+    kids: &Forest,
+    made: Making<'a>,
+) -> Result<(Contents, Making<'a>), TplFault>
+    ensures { Gives is_tpl_want (λ q. (contents_of q.0, made_of q.1)) (contents_made bound (forest_of kids.now) (made_of made.entry) (compiled_forest r.now (forest_of kids.now) (made_of made.entry))) result }
+{
+    match bound {
+        None => {
+            let (parts, after) = parts_at(alloc, r, known, kids, made)?;
+            Ok((children(parts), after))
+        }
+        Some(n) => Ok((
+            bound_to(n),
+            Making {
+                places: after_forest(kids, made.places),
+                sites: made.sites,
+            },
+        )),
     }
 }
 
@@ -117,12 +170,13 @@ fn parts_at<'a>(
     Ok((parts, now))
 }
 
-/// Compiles a document (guide: HTML Compiler). The first refusal in document order stands, at the `<` of its element or
-/// at the first byte of its text: in an element LeftOut, MultiDir, and Later where it has a directive, since none is built yet;
-/// in a text Expression of all its holes, UnknownFilter of all, then Impure of all.
+/// Compiles a document (guide: HTML Compiler). The first refusal in document order stands, at the `<` of its element or at the first
+/// byte of its text: in an element LeftOut, MultiDir, Later where a directive is not built yet, and then directive by directive, in
+/// their order, Expression, UnknownFilter and, unless it is a program that runs, Impure; in a text Expression of all its holes,
+/// UnknownFilter of all, then Impure of all. The children in whose place a bound text stands are neither compiled nor refused.
 pub fn compile(alloc: Global, s: &Source, r: &Registry, slots: bool) -> Result<Tpl, TplFault>
     ensures template { Gives is_tpl_want template_of (compiled (source_of s.now) r.now slots) result }
-    ensures holes { IfOk result (λ t. HolesBelow (length (template_of t).sites) (template_of t).parts) }
+    ensures regular { IfOk result (λ t. is_regular (template_of t) ≡ true) }
 {
     let made = Making {
         places: s.places.as_slice(),

@@ -1,54 +1,246 @@
-//! Elements: their directives and the attributes that stay (guide: HTML Compiler, "How directives are compiled").
-ghost use Rattle.std.specs.Prelude.{◌≡◌, ◌++◌, map, None, IfOk};
+//! Elements: their directives, and what these set (guide: HTML Compiler, "How directives are compiled").
+ghost use Rattle.std.specs.Prelude.{List, [], ◌≡◌, ◌++◌, ◌+◌, ◌≤◌, map, length, true, None, IfOk, IfErr, OnOk};
+ghost use Rattle.std.specs.List.{list_all};
 ghost use Rattle.ng_base.specs.Meets.{Gives};
 ghost use Rattle.ng_collect.specs.Collected.{collected};
-ghost use Rattle.ng_html.specs.Attrs.{attr_of};
+ghost use Rattle.ng_drawing.specs.Template.{Site as TemplateSite};
 ghost use Rattle.ng_html.specs.Seen.{node_of};
-ghost use Rattle.ng_template.specs.Compiles.{plain_values as plain_values_of, attributes_at};
+ghost use Rattle.ng_interp.specs.Parts.{piece_of};
+ghost use Rattle.ng_parse.specs.ProgramOf.{program as trees};
+ghost use Rattle.ng_template.specs.AttributeOf.{class_of};
+ghost use Rattle.ng_template.specs.Compiles.{plain_values as plain_values_of, class_in as class_in_of, bare as bare_of, head_with};
+ghost use Rattle.ng_template.specs.Directives.{if_it_fits, with_start as with_start_of, with_handler as with_handler_of, with_manner, with_picks};
 ghost use Rattle.ng_template.specs.Free.{is_tpl_want};
+ghost use Rattle.ng_template.specs.Manners.{manner_of, event_name as event_name_of};
+ghost use Rattle.ng_template.specs.TemplateOf.{sites_of, head_of};
+ghost use Rattle.ng_template.specs.Texts.{is_known, is_pure, counted};
 
+use crate::acts::{Acts, Handler};
+use crate::classes::ClassValue;
+use crate::directives::{directive_parts, directive_program, kind_for};
 use crate::fault::{TplFault, TplKind};
-use crate::pieces::{Pieces, Values};
-use crate::texts::{refusal, want};
-use ng_collect::{CollectFault, Registry, collect, kept_attrs};
+use crate::known::Known;
+use crate::manners::{Manner, Setting, are_built, event_name, manner_for};
+use crate::pieces::{AttributeValue, Attributes, Pieces};
+use crate::settings::{add_to_class, bound_after, set};
+use crate::site::Site;
+use crate::texts::{SITE_LIMIT, count_holes, first_of, place_parts, refusal, want, worn};
+use ng_collect::{CollectFault, DomEvent, Pick, Registry, collect, kept_attrs};
 use ng_html::attrs::Attrs;
 use ng_html::forest::Node;
+use ng_interp::Part;
+use ng_parse::Program;
 use std::alloc::{AllocError, Global};
 
+/// An element that is being made: its attributes in the order in which they are set, what its class is made of, the site whose text
+/// stands in place of its children, the numbers of its own sites, what it does, and all sites so far.
+#[derive(Drop)]
+pub(crate) struct Element {
+    pub(crate) attributes: Attributes,
+    pub(crate) class: ClassValue,
+    pub(crate) bound: Option<u32>,
+    pub(crate) own: Vec<u32>,
+    pub(crate) acts: Acts,
+    pub(crate) sites: Vec<Site>,
+}
+
 /// Attributes whose values are plain words.
-fn plain_values(alloc: Global, attrs: &Attrs) -> Result<Values, AllocError>
+fn plain_values(alloc: Global, attrs: &Attrs) -> Result<Attributes, AllocError>
     ensures { IfOk result (λ a. a ≡ plain_values_of attrs.now) }
 {
-    let mut values = Values::new(alloc);
+    let mut values = Attributes::new(alloc);
     for attr in attrs.as_slice() {
         let pieces = Pieces::word(alloc, attr.value.copied()?)?;
-        values.push(attr.name.copied()?, pieces)?;
+        values.push(attr.name.copied()?, AttributeValue::Always(pieces))?;
     }
     Ok(values)
 }
 
-/// The attributes that an element without directives keeps, or its refusal.
-pub(crate) fn attributes_of(
+/// What a class is made of where this text is written.
+fn class_from(alloc: Global, written: bool, pieces: Pieces) -> ClassValue
+    ensures { class_of result ≡ record { written = written; pieces = pieces; words = []; hidings = [] } }
+{
+    ClassValue {
+        written,
+        pieces,
+        words: Vec::new(alloc),
+        hidings: Vec::new(alloc),
+    }
+}
+
+/// What the class of an element with these attributes is made of before its directives.
+fn class_in(alloc: Global, attrs: &Attrs) -> Result<ClassValue, AllocError>
+    ensures { IfOk result (λ c. class_of c ≡ class_in_of attrs.now) }
+{
+    for attr in attrs.as_slice() {
+        if attr.name.is_word("class") {
+            let pieces = Pieces::word(alloc, attr.value.copied()?)?;
+            return Ok(class_from(alloc, true, pieces));
+        }
+    }
+    Ok(class_from(alloc, false, Pieces::new(alloc)))
+}
+
+/// The numbers from one on up to another are added.
+#[tactic(auto, using(crate::proofs::Numbers::number_steps))]
+fn add_numbers(own: &mut Vec<u32>, first: u32, count: usize) -> Result<(), AllocError>
+    requires { first + count ≤ 4294967295 }
+    ensures { OnOk result ((xs : List TemplateSite) → length xs ≡ count → own.new.items ≡ own.old.items ++ counted first xs) }
+{
+    for i in 0..count {
+        own.push(first + i as u32)?;
+    }
+    Ok(())
+}
+
+/// An element after one directive more, which has these parts.
+fn with_parts(
     alloc: Global,
+    setting: Setting,
+    pick: &Pick,
+    parts: Vec<Part>,
+    element: Element,
+) -> Result<Element, TplFault>
+    requires known { list_all is_known (map piece_of parts.items) ≡ true }
+    requires pure { list_all is_pure (map piece_of parts.items) ≡ true }
+    ensures { Gives is_tpl_want head_of (if_it_fits pick.now setting (map piece_of parts.items) (head_of element)) result }
+{
+    let Element {
+        mut attributes,
+        mut class,
+        bound,
+        mut own,
+        acts,
+        sites,
+    } = element;
+    let count = count_holes(parts.as_slice());
+    if sites.len() + count > SITE_LIMIT {
+        return Err(worn());
+    }
+    let first = sites.len() as u32;
+    let (pieces, sites) = place_parts(alloc, kind_for(setting), sites, parts)?;
+    add_numbers(&mut own, first, count)?;
+    set(alloc, &mut attributes, setting, pick, first, &pieces)?;
+    add_to_class(alloc, &mut class, setting, pick, first, &pieces)?;
+    Ok(Element {
+        attributes,
+        class,
+        bound: bound_after(setting, first, bound),
+        own,
+        acts,
+        sites,
+    })
+}
+
+/// An element after a program more that runs when it is linked.
+fn with_start(element: Element, program: Program) -> Result<Element, AllocError>
+    ensures { IfOk result (λ e. head_of e ≡ with_start_of (trees program) (head_of element)) }
+{
+    let mut made = element;
+    made.acts.starts.push(program)?;
+    Ok(made)
+}
+
+/// An element after a program more that handles an event.
+fn with_handler(
+    alloc: Global,
+    element: Element,
+    event: DomEvent,
+    program: Program,
+) -> Result<Element, AllocError>
+    ensures { IfOk result (λ e. head_of e ≡ with_handler_of (event_name_of event) (trees program) (head_of element)) }
+{
+    let mut made = element;
+    let event = event_name(alloc, event)?;
+    made.acts.handlers.push(Handler { event, program })?;
+    Ok(made)
+}
+
+/// An element after one directive more.
+fn with_pick(
+    alloc: Global,
+    known: &mut Known,
+    place: u64,
+    pick: &Pick,
+    element: Element,
+) -> Result<Element, TplFault>
+    ensures { Gives is_tpl_want head_of (with_manner place pick.now (manner_of pick.now.directive) (head_of element)) result }
+{
+    match manner_for(pick.directive) {
+        None => Err(refusal(TplKind::Later, place)),
+        Some(Manner::Sets(setting)) => {
+            let parts = directive_parts(alloc, known, place, setting, pick)?;
+            with_parts(alloc, setting, pick, parts, element)
+        }
+        Some(Manner::Starts) => {
+            let program = directive_program(alloc, place, pick)?;
+            Ok(with_start(element, program)?)
+        }
+        Some(Manner::Handles(event)) => {
+            let program = directive_program(alloc, place, pick)?;
+            Ok(with_handler(alloc, element, event, program)?)
+        }
+    }
+}
+
+/// An element after its directives, in their order.
+fn with_all(
+    alloc: Global,
+    known: &mut Known,
+    place: u64,
+    picks: &[Pick],
+    element: Element,
+) -> Result<Element, TplFault>
+    ensures { Gives is_tpl_want head_of (with_picks place picks.now (head_of element)) result }
+{
+    let mut made = element;
+    for pick in picks {
+        made = with_pick(alloc, known, place, pick, made)?;
+    }
+    Ok(made)
+}
+
+/// An element that has these attributes and no directive yet, or want of memory.
+fn bare(alloc: Global, attrs: &Attrs, sites: Vec<Site>) -> Result<Element, TplFault>
+    ensures ok { IfOk result (λ e. head_of e ≡ bare_of attrs.now (sites_of sites.items)) }
+    ensures err { IfErr result (λ f. is_tpl_want f ≡ true) }
+{
+    match kept_attrs(alloc, attrs) {
+        Err(_) => Err(want()),
+        Ok(kept) => Ok(Element {
+            attributes: plain_values(alloc, &kept)?,
+            class: class_in(alloc, &kept)?,
+            bound: None,
+            own: Vec::new(alloc),
+            acts: Acts::new(alloc),
+            sites,
+        }),
+    }
+}
+
+/// An element with its directives, all but its contents, or its refusal.
+pub(crate) fn element_of(
+    alloc: Global,
+    known: &mut Known,
     e: &Node,
     attrs: &Attrs,
     r: &Registry,
-    place: u64,
-) -> Result<Values, TplFault>
-    ensures { Gives is_tpl_want (λ a. a) (attributes_at (collected r.now None (node_of e.now)) attrs.now place) result }
+    places: &[u64],
+    sites: Vec<Site>,
+) -> Result<Element, TplFault>
+    ensures { Gives is_tpl_want head_of (head_with (collected r.now None (node_of e.now)) attrs.now (record { places = places.now; sites = sites_of sites.items })) result }
 {
+    let (place, _) = first_of(places);
     match collect(alloc, e, r) {
         Err(CollectFault::MultiDir) => Err(refusal(TplKind::MultiDir, place)),
         Err(CollectFault::LeftOut) => Err(refusal(TplKind::LeftOut, place)),
         Err(CollectFault::Memory(_)) => Err(want()),
         Ok(picked) => {
-            if !picked.as_slice().is_empty() {
+            if !are_built(picked.as_slice()) {
                 return Err(refusal(TplKind::Later, place));
             }
-            match kept_attrs(alloc, attrs) {
-                Err(_) => Err(want()),
-                Ok(kept) => Ok(plain_values(alloc, &kept)?),
-            }
+            let element = bare(alloc, attrs, sites)?;
+            with_all(alloc, known, place, picked.as_slice(), element)
         }
     }
 }

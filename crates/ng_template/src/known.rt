@@ -134,7 +134,7 @@ impl Known {
     }
 
     /// The hole with this text, which begins at a place.
-    fn hole(&mut self, place: usize, text: &Txt) -> Result<Part, InterpFault>
+    pub(crate) fn hole(&mut self, place: usize, text: &Txt) -> Result<Part, InterpFault>
         ensures { Gives is_free piece_of (hole_at place text.now) result }
     {
         if let Some(hole) = self.find(text) {

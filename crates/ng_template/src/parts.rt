@@ -1,13 +1,15 @@
 //! The parts of a template. `specs/Seen.antt` says which parts of the definitions they stand for.
 ghost use Rattle.std.specs.Prelude.{◌≡◌, map, OnOk, OnErr};
-ghost use Rattle.ng_drawing.specs.Template.{text_part, comment_part, element_part, no_parts, with_part, parts_from};
-ghost use Rattle.ng_template.specs.Seen.{part_of, parts_of};
+ghost use Rattle.ng_drawing.specs.Template.{text_part, comment_part, element_part, children as children_with, bound as bound_to, no_parts, with_part, parts_from};
+ghost use Rattle.ng_template.specs.Seen.{acts_of, part_of, contents_of, parts_of};
 
-use crate::pieces::{Pieces, Values};
+use crate::acts::Acts;
+use crate::pieces::{Attributes, Pieces};
 use ng_base::txt::Txt;
 use std::alloc::{AllocError, Global};
 
-/// A part of a template: a text, a comment or an element.
+/// A part of a template: a text, a comment or an element, with the numbers of its own sites in the order of its directives, and what
+/// it does.
 #[cycle(part)]
 #[derive(Drop)]
 pub enum Part {
@@ -15,9 +17,19 @@ pub enum Part {
     Comment(Txt),
     Element {
         name: Txt,
-        attributes: Values,
-        parts: Parts,
+        own: Vec<u32>,
+        acts: Acts,
+        attributes: Attributes,
+        contents: Contents,
     },
+}
+
+/// What an element contains: its children, or the text that one of its sites shows (API: ngBind).
+#[cycle(part)]
+#[derive(Drop)]
+pub enum Contents {
+    Children(Parts),
+    Bound(u32),
 }
 
 /// The parts of a template or of an element, in order.
@@ -70,12 +82,34 @@ pub(crate) fn comment(text: Txt) -> Part
 }
 
 /// An element.
-pub(crate) fn element(name: Txt, attributes: Values, parts: Parts) -> Part
-    ensures { part_of result ≡ element_part name attributes (parts_of parts) }
+pub(crate) fn element(
+    name: Txt,
+    own: Vec<u32>,
+    acts: Acts,
+    attributes: Attributes,
+    contents: Contents,
+) -> Part
+    ensures { part_of result ≡ element_part name own.items (acts_of acts) attributes (contents_of contents) }
 {
     Part::Element {
         name,
+        own,
+        acts,
         attributes,
-        parts,
+        contents,
     }
+}
+
+/// Children.
+pub(crate) fn children(parts: Parts) -> Contents
+    ensures { contents_of result ≡ children_with (parts_of parts) }
+{
+    Contents::Children(parts)
+}
+
+/// The text that a site shows.
+pub(crate) fn bound(n: u32) -> Contents
+    ensures { contents_of result ≡ bound_to n }
+{
+    Contents::Bound(n)
 }

@@ -1,9 +1,12 @@
 //! Texts: their parts and what is wrong with them (guide: Interpolation).
-ghost use Rattle.std.specs.Prelude.{◌≡◌, ◌++◌, ◌∷◌, ◌+◌, ◌≤◌, [], map, length, true, None, IfOk, OnOk};
+ghost use Rattle.std.specs.Prelude.{List, Result, ◌≡◌, ◌++◌, ◌∷◌, ◌+◌, ◌≤◌, [], map, length, true, None, IfOk, OnOk};
 ghost use Rattle.std.specs.List.{list_all};
 ghost use Rattle.ng_base.specs.Meets.{Gives};
-ghost use Rattle.ng_interp.specs.Parts.{is_free, piece_of, pieces_on, pieces_in};
-ghost use Rattle.ng_template.specs.Compiles.{site_limit};
+ghost use Rattle.ng_drawing.specs.declared.kind.SiteKind.{SiteKind};
+ghost use Rattle.ng_interp.specs.declared.pieces.InterpFault.{InterpFault};
+ghost use Rattle.ng_interp.specs.Parts.{Piece as InterpPiece, is_free, piece_of, pieces_on, pieces_in};
+ghost use Rattle.ng_template.specs.Limits.{site_limit, worn as worn_of};
+ghost use Rattle.ng_template.specs.Compiles.{first_place, other_places};
 ghost use Rattle.ng_template.specs.Free.{is_tpl_want};
 ghost use Rattle.ng_template.specs.TemplateOf.{sites_of};
 ghost use Rattle.ng_template.specs.Texts.{refused, is_known, is_pure as is_pure_piece, wrong as wrong_with, judged, numbered, sites_in};
@@ -19,6 +22,20 @@ use ng_interp::{Cut, InterpFault, InterpKind, Part, any_hole, cut_text};
 use ng_view::{filters_known, is_pure};
 use std::alloc::{AllocError, Global};
 
+/// The most sites of a template.
+pub(crate) const SITE_LIMIT: usize = 4_294_967_295;
+
+/// The first place, and those after it.
+pub(crate) fn first_of(places: &[u64]) -> (u64, &[u64])
+    ensures first { result.0 ≡ first_place places.now }
+    ensures others { result.1.now ≡ other_places places.now }
+{
+    match places.split_first() {
+        None => (0, places),
+        Some((first, others)) => (*first, others),
+    }
+}
+
 /// The refusal of what stands at a place.
 pub(crate) fn refusal(kind: TplKind, place: u64) -> TplFault
     ensures { result ≡ refused kind place }
@@ -33,8 +50,15 @@ pub(crate) fn want() -> TplFault
     refusal(TplKind::Memory(Memory::Refused), 0)
 }
 
+/// There is no number left for a site.
+pub(crate) fn worn() -> TplFault
+    ensures { result ≡ worn_of }
+{
+    refusal(TplKind::Memory(Memory::Worn), 0)
+}
+
 /// Adds a part at the end.
-fn push(parts: &mut Vec<Part>, part: Part) -> Result<(), AllocError>
+pub(crate) fn push(parts: &mut Vec<Part>, part: Part) -> Result<(), AllocError>
     ensures { OnOk result (parts.new.items ≡ parts.old.items ++ part ∷ []) }
 {
     parts.push(part)?;
@@ -59,7 +83,11 @@ fn read_cuts(
 }
 
 /// The parts of a text.
-fn read_pieces(alloc: Global, known: &mut Known, text: &Txt) -> Result<Vec<Part>, InterpFault>
+pub(crate) fn read_pieces(
+    alloc: Global,
+    known: &mut Known,
+    text: &Txt,
+) -> Result<Vec<Part>, InterpFault>
     ensures { Gives is_free (λ v. map piece_of v.items) (pieces_in text.now) result }
 {
     let cuts = cut_text(alloc, text)?;
@@ -109,18 +137,16 @@ fn wrong(parts: &[Part]) -> Option<TplKind>
     None
 }
 
-/// The parts of a text that begins at a place, unless something is wrong with its holes.
-pub(crate) fn read_text(
-    alloc: Global,
-    known: &mut Known,
+/// Parts that were read of what stands at a place, unless something is wrong with its holes.
+pub(crate) fn judged_parts(
     place: u64,
-    text: &Txt,
+    read: Result<Vec<Part>, InterpFault>,
 ) -> Result<Vec<Part>, TplFault>
-    ensures parts { Gives is_tpl_want (λ v. map piece_of v.items) (judged place (pieces_in text.now)) result }
+    ensures parts { (asked : Result (List InterpPiece) InterpFault) → Gives is_free (λ v. map piece_of v.items) asked read → Gives is_tpl_want (λ v. map piece_of v.items) (judged place asked) result }
     ensures known { IfOk result (λ v. list_all is_known (map piece_of v.items) ≡ true) }
     ensures pure { IfOk result (λ v. list_all is_pure_piece (map piece_of v.items) ≡ true) }
 {
-    match read_pieces(alloc, known, text) {
+    match read {
         Err(fault) => match fault.kind {
             InterpKind::Memory(_) => Err(want()),
             _ => Err(refusal(TplKind::Expression, place)),
@@ -132,9 +158,23 @@ pub(crate) fn read_text(
     }
 }
 
+/// The parts of a text that begins at a place, unless something is wrong with its holes.
+pub(crate) fn read_text(
+    alloc: Global,
+    known: &mut Known,
+    place: u64,
+    text: &Txt,
+) -> Result<Vec<Part>, TplFault>
+    ensures parts { Gives is_tpl_want (λ v. map piece_of v.items) (judged place (pieces_in text.now)) result }
+    ensures known { IfOk result (λ v. list_all is_known (map piece_of v.items) ≡ true) }
+    ensures pure { IfOk result (λ v. list_all is_pure_piece (map piece_of v.items) ≡ true) }
+{
+    judged_parts(place, read_pieces(alloc, known, text))
+}
+
 /// How many holes there are.
 pub(crate) fn count_holes(parts: &[Part]) -> usize
-    ensures count { result ≡ length (sites_in (map piece_of parts.now)) }
+    ensures count { (kind : SiteKind) → result ≡ length (sites_in kind (map piece_of parts.now)) }
     ensures few { result ≤ length parts.now }
 {
     let mut count = 0;
@@ -146,17 +186,18 @@ pub(crate) fn count_holes(parts: &[Part]) -> usize
     count
 }
 
-/// The pieces of a text, whose sites come after those before.
-pub(crate) fn place_text(
+/// The pieces of parts, whose sites, of this kind, come after those before.
+pub(crate) fn place_parts(
     alloc: Global,
+    kind: SiteKind,
     before: Vec<Site>,
     parts: Vec<Part>,
 ) -> Result<(Pieces, Vec<Site>), AllocError>
     requires known { list_all is_known (map piece_of parts.items) ≡ true }
     requires pure { list_all is_pure_piece (map piece_of parts.items) ≡ true }
-    requires fits { length before.items + length (sites_in (map piece_of parts.items)) ≤ site_limit }
+    requires fits { length before.items + length (sites_in kind (map piece_of parts.items)) ≤ site_limit }
     ensures pieces { IfOk result (λ r. r.0 ≡ numbered (length before.items) (map piece_of parts.items)) }
-    ensures sites { IfOk result (λ r. sites_of r.1.items ≡ sites_of before.items ++ sites_in (map piece_of parts.items)) }
+    ensures sites { IfOk result (λ r. sites_of r.1.items ≡ sites_of before.items ++ sites_in kind (map piece_of parts.items)) }
 {
     let mut pieces = Pieces::new(alloc);
     let mut sites = before;
@@ -165,7 +206,7 @@ pub(crate) fn place_text(
             Part::Words(text) => pieces.push(Piece::Word(text))?,
             Part::Hole { one_time, program } => {
                 pieces.push(Piece::Hole(sites.len() as u32))?;
-                sites.push(Site::new(SiteKind::Text, one_time, program))?;
+                sites.push(Site::new(kind, one_time, program))?;
             }
         }
     }

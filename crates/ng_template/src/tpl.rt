@@ -1,26 +1,26 @@
 //! What a document compiles to.
-ghost use Rattle.std.specs.Prelude.{◌≡◌, true, map, length};
-ghost use Rattle.ng_template.specs.Holes.{HolesBelow, holes_below};
+ghost use Rattle.std.specs.Prelude.{◌≡◌, true, map};
+ghost use Rattle.ng_template.specs.Numbering.{is_regular};
 ghost use Rattle.ng_template.specs.Seen.{parts_of};
 ghost use Rattle.ng_template.specs.SiteOf.{site_of};
 
 use crate::parts::Parts;
 use crate::site::Site;
 
-/// A template: its parts, and its sites in document order. Each hole of the parts has a site.
+/// A template: its parts, and its sites in document order. The parts have the numbers of the sites in that order.
 #[derive(Drop)]
 pub struct Tpl {
     parts: Parts,
     sites: Vec<Site>,
-    ghost holes: { holes_below (length sites.items) (parts_of parts) ≡ true },
+    ghost regular: { is_regular (record { parts = parts_of parts; sites = map site_of sites.items }) ≡ true },
 }
 
 impl Tpl {
     ghost use Rattle.ng_template.specs.TemplateOf.{template_of};
 
-    /// A template of parts whose holes have these sites.
+    /// A template of parts that have the numbers of these sites.
     pub(crate) fn new(parts: Parts, sites: Vec<Site>) -> Tpl
-        requires { holes_below (length sites.items) (parts_of parts) ≡ true }
+        requires { is_regular (record { parts = parts_of parts; sites = map site_of sites.items }) ≡ true }
         ensures { template_of result ≡ record { parts = parts_of parts; sites = map site_of sites.items } }
     {
         Tpl { parts, sites }
@@ -29,7 +29,7 @@ impl Tpl {
     /// The parts.
     pub fn parts(&self) -> &Parts
         ensures parts { parts_of result.now ≡ (template_of self.now).parts }
-        ensures holes { HolesBelow (length (template_of self.now).sites) (parts_of result.now) }
+        ensures regular { is_regular (template_of self.now) ≡ true }
     {
         &self.parts
     }

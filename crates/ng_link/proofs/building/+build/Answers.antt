@@ -4,13 +4,12 @@ use Rattle.ng_dom.specs.Document.{next_name}
 use Rattle.ng_dom.specs.Drawing.{none_stand, stand_then, shows}
 use Rattle.ng_dom.specs.Nodes.{names_of}
 use Rattle.ng_drawing.specs.Nodes.{nodes}
-use Rattle.ng_drawing.specs.Template.{Part, Parts, element_part, parts_from}
-use Rattle.ng_template.specs.Seen.{part_of}
+use Rattle.ng_drawing.specs.Template.{Part, Contents, parts_from}
+use Rattle.ng_template.specs.Seen.{part_of, contents_of}
 use Rattle.ng_link.specs.Building.{unset, parent_name, Builds}
-use Rattle.ng_link.specs.Order.{HaveRising}
-use Rattle.ng_link.specs.Shape.{keys_from, linked_values, part_shape, shape, part_holes, holes}
+use Rattle.ng_link.specs.Shape.{keys_from, linked_values, content_shape, shape, part_holes, holes}
 use Rattle.ng_link.proofs.Built.{element_whole, builds_then, names_then}
-use Rattle.ng_link.proofs.Loops.{split_at, there_still, rising_at, room_for, part_within}
+use Rattle.ng_link.proofs.Loops.{split_at, there_still, room_for, part_within}
 use Rattle.ng_link.proofs.Shapes.{holes-push}
 use Rattle.ng_link.proofs.building.+build.Goals as goal
 
@@ -18,15 +17,12 @@ pub build_whole-returns-clause-builds : goal.build_whole-returns-clause-builds
 build_whole-returns-clause-builds t c =
     let d = c.args.dom.now in
     let e = c.build_element.new.dom in
-    let f = c.build_parts.new.dom in
-    let g = c.fill.new.self in
     let keys = keys_from c.args.path.now c.args.first in
-    let ps : Parts = parts_from (map part_of c.as_slice.result.now) in
-    let n = c.in_ok-n.n.made.0 in
+    let q : Contents = contents_of c.args.contents.now in
     let kids = c.in_ok-kids.ensures.builds in
-    let becomes = c.fill.ensures.reads (shows unset (shape keys (next_name e) ps)) (sym c.in_ok-kids.ensures.names) kids.reads in
-    let F : Parts → Type 0 = λ qs. Builds (parent_name c.args.parent) (stand_then (part_shape keys (next_name d) (element_part c.args.name.now c.args.attributes.now qs)) none_stand) (1 + nodes qs) d g in
-    subst F c.as_slice.ensures (element_whole (parent_name c.args.parent) keys n c.args.name.now (linked_values keys c.args.attributes.now) ps d e f g c.in_ok-n.ensures.name c.in_ok-n.ensures.builds kids becomes c.fill.ensures.stays)
+    let becomes = c.fill.ensures.reads (shows unset (content_shape keys (next_name e) q)) (sym c.in_ok-kids.ensures.names) kids.reads in
+    element_whole (parent_name c.args.parent) keys c.in_ok-n.n.made.0 c.args.name.now (linked_values keys c.args.attributes.now) q d e c.build_contents.new.dom c.fill.new.self
+    c.in_ok-n.ensures.name c.in_ok-n.ensures.builds kids becomes c.fill.ensures.stays
 
 pub build_parts-build_part-requires : goal.build_parts-build_part-requires
 build_parts-build_part-requires t c =
@@ -39,10 +35,8 @@ build_parts-build_part-requires t c =
     let whole = ap (λ (ps : List Part). nodes (parts_from ps)) split in
     let room = room_for (map part_of (take i xs)) (part_of x) (map part_of (drop (suc i) xs)) in
     let live = inv.builds.live in
-    let F : List Part → Type 0 = λ ps. HaveRising (parts_from ps) in
     let there = there_still c.args.dom.now c.loop-part.dom c.args.parent c.requires.there inv.builds.homes in
-    let rising = rising_at (map part_of (take i xs)) (part_of x) (map part_of (drop (suc i) xs)) (subst F split c.requires.rising) in
-    (omega (arith, h, c.decreases), (there, (omega (arith, live, room, whole, c.requires.room), rising)))
+    (omega (arith, h, c.decreases), (there, omega (arith, live, room, whole, c.requires.room)))
 
 pub build_parts-loop-part-preserved : goal.build_parts-loop-part-preserved
 build_parts-loop-part-preserved t c =

@@ -2,9 +2,9 @@ use Rattle.std.proofs.Common.{◌≡◌, ◌+◌, ◌*◌, ◌++◌, take, map}
 use Rattle.ng_dom.specs.Document.{next_name}
 use Rattle.ng_dom.specs.Drawing.{shows}
 use Rattle.ng_dom.specs.Nodes.{names_of}
-use Rattle.ng_drawing.specs.Nodes.{part_nodes, nodes}
+use Rattle.ng_drawing.specs.Nodes.{part_nodes, content_nodes, nodes}
 use Rattle.ng_drawing.specs.Template.{parts_from}
-use Rattle.ng_template.specs.Seen.{part_of, parts_of}
+use Rattle.ng_template.specs.Seen.{part_of, contents_of}
 use Rattle.ng_link.specs.Building.{unset, parent_name, Builds}
 use Rattle.ng_link.specs.Shape.{keys_from, shape, holes}
 use Rattle.ng_link.proofs.building.+build.Given as goal
@@ -21,10 +21,13 @@ invariant-build_parts-loop-part l =
     }
 
 abbrev pub decreases-build_part : goal.decreases-build_part
-decreases-build_part l = 3 * part_nodes (part_of l.part.now)
-
-abbrev pub decreases-build_parts : goal.decreases-build_parts
-decreases-build_parts l = 3 * nodes (parts_from (map part_of l.parts.now)) + 1
+decreases-build_part l = 4 * part_nodes (part_of l.part.now)
 
 abbrev pub decreases-build_whole : goal.decreases-build_whole
-decreases-build_whole l = 3 * nodes (parts_of l.parts.now) + 2
+decreases-build_whole l = 4 * content_nodes (contents_of l.contents.now) + 3
+
+abbrev pub decreases-build_contents : goal.decreases-build_contents
+decreases-build_contents l = 4 * content_nodes (contents_of l.contents.now) + 2
+
+abbrev pub decreases-build_parts : goal.decreases-build_parts
+decreases-build_parts l = 4 * nodes (parts_from (map part_of l.parts.now)) + 1

@@ -1,17 +1,28 @@
-use Rattle.std.proofs.Common.{ap, ◌∙◌, map}
-use Rattle.ng_dom.specs.Drawing.{DrawnAttributes}
+use Rattle.std.proofs.Common.{◌≡◌, List, [], ℕ, ap, subst, ◌∙◌, map}
+use Rattle.ng_dom.specs.Document.{Becomes}
+use Rattle.ng_dom.specs.Drawing.{DrawnAttributes, drawn_attributes, of_element}
+use Rattle.ng_dom.specs.Editing.{changed_in, with_attributes}
 use Rattle.ng_drawing.specs.Template.{PartAttributes}
-use Rattle.ng_template.specs.ValueOf.{value_of}
-use Rattle.ng_link.specs.Order.{names_rise}
+use Rattle.ng_link.specs.Building.{unset, parent_name, IsMade}
 use Rattle.ng_link.specs.Seen.{drawn_of}
-use Rattle.ng_link.specs.Shape.{keys_from}
-use Rattle.ng_link.proofs.Built.{rise-linked}
+use Rattle.ng_link.specs.Shape.{keys_from, linked_values}
+use Rattle.ng_link.proofs.Built.{element_builds}
+use Rattle.ng_dom.specs.Document.{next_name}
+use Rattle.ng_dom.specs.Nodes.{named_element, nothing_named}
 use Rattle.ng_link.proofs.building.build_element.Goals as goal
 
-pub set_values-requires : goal.set_values-requires
-set_values-requires c =
+pub returns-clause-builds : goal.returns-clause-builds
+returns-clause-builds c =
+    let d = c.args.dom.now in
+    let e = c.make.new.dom in
+    let f = c.set_attrs.new.self in
+    let n = c.in_ok-n.n.made.0 in
+    let p = parent_name c.args.parent in
     let keys = keys_from c.args.path.now c.args.first in
-    ap (λ ats. names_rise (map drawn_of ats)) c.as_slice-3.ensures.value
-    ∙ (ap (λ (ats : DrawnAttributes). names_rise ats) c.in_ok-attributes.ensures.values
-    ∙ (rise-linked keys (map value_of c.as_slice-2.result.now)
-    ∙ (ap (λ (ats : PartAttributes). names_rise ats) c.as_slice-2.ensures ∙ c.requires.rise)))
+    let ats = linked_values keys c.args.attributes.now in
+    let drawn : map drawn_of c.in_ok-drawn.drawn.items ≡ ats = c.in_ok-drawn.ensures.attributes ∙ ap (λ (xs : PartAttributes). linked_values keys xs) c.as_slice.ensures in
+    let shown : c.in_ok-shown.shown.entries ≡ drawn_attributes unset ats =
+    c.in_ok-shown.ensures ∙ (ap (λ xs. drawn_attributes unset (map drawn_of xs)) c.as_slice-2.ensures.value ∙ ap (λ (xs : DrawnAttributes). drawn_attributes unset xs) drawn) in
+    let B : List (List ℕ × List ℕ) → Type 0 = λ us. Becomes e f (changed_in n (with_attributes (λ _. us))) in
+    let M : List ℕ → Type 0 = λ t. IsMade p (named_element (next_name d) t [] nothing_named) d e in
+    element_builds p n c.args.name.now ats _ d e f c.in_ok-n.ensures.name (ap of_element drawn) (subst M c.in_ok-name.ensures c.in_ok-n.ensures.made) c.in_ok-n.ensures.gains (subst B shown c.set_attrs.ensures.reads) c.set_attrs.ensures.stays

@@ -21,7 +21,8 @@ pub returns-in-Ok-clause-watched : goal.returns-in-Ok-clause-watched
 returns-in-Ok-clause-watched c =
     let v = c.args.works.now in
     let w = c.link.new.self in
+    let q = first_there (templates_of v) c.args.t.0 c.requires.first c.requires.works.templates in
     on_ok c.rest_on_dead_root.result c.rest_on_dead_root.ensures.state
-    (λ state u e texts.
-    watched_linked u (state_of v) (state_of w) (state_of c.rest_on_dead_root.new.works) (subst (λ n. state_of w ≡ linked_in n 0 u (state_of v)) c.requires.first (c.in-Ok.ensures.state u e)) state
-    (subst (λ t. IsStrictlySortedBy key_cmp (keys_of (watchers_of t))) c.watchers.ensures c.count-in_order.ensures.ordered) texts)
+    (λ state.
+    watched_linked q.0 (state_of v) (state_of w) (state_of c.rest_on_dead_root.new.works) (subst (λ n. state_of w ≡ linked_in n 0 q.0 (state_of v)) c.requires.first (c.in-Ok.ensures.state q.0 q.1)) state
+    (subst (λ t. IsStrictlySortedBy key_cmp (keys_of (watchers_of t))) c.watchers.ensures c.count-in_order.ensures.ordered))

@@ -13,11 +13,3 @@ returns-clause-state c =
     let there : template_at (templates_of c.in_ok-works.works) c.in_ok-t.t.0 ≡ Some u =
     first_template ts (kept_templates c.add.new.self) (templates_of c.in_ok-works.works) c.in_ok-t.t.0 u c.new-templates.ensures c.in_ok-t.ensures.added c.in_ok-works.ensures.templates (first_name ts c.in_ok-t.t.0 c.new-templates.ensures c.in_ok-t.ensures.answer) in
     c.in_ok-link_page.ensures.state u there ∙ ap (linked_on u) c.in_ok-works.ensures.state
-
-pub returns-clause-page : goal.returns-clause-page
-returns-clause-page c =
-    let u = template_of c.args.t in
-    let ts = kept_templates c.new-templates.result in
-    let there : template_at (templates_of c.in_ok-works.works) c.in_ok-t.t.0 ≡ Some u =
-    first_template ts (kept_templates c.add.new.self) (templates_of c.in_ok-works.works) c.in_ok-t.t.0 u c.new-templates.ensures c.in_ok-t.ensures.added c.in_ok-works.ensures.templates (first_name ts c.in_ok-t.t.0 c.new-templates.ensures c.in_ok-t.ensures.answer) in
-    record { works = c.in_ok-link_page.ensures.works; watched = c.in_ok-link_page.ensures.watched u there c.requires.texts }

@@ -1,20 +1,11 @@
-use Rattle.std.proofs.Common.{length, map, ap, sym, ◌∙◌}
-use Rattle.std.proofs.lemmas.List.{length-map}
+use Rattle.std.proofs.Common.{map, ap}
 use Rattle.ng_html.specs.Seen.{forest_of}
-use Rattle.ng_template.specs.Holes.{holes_below}
 use Rattle.ng_template.specs.Seen.{parts_of}
 use Rattle.ng_template.specs.SiteOf.{site_of}
-use Rattle.ng_template.specs.TemplateOf.{sites_of, made_of}
-use Rattle.ng_template.proofs.Below.{holes-are}
-use Rattle.ng_template.proofs.Compiled.{made_below}
+use Rattle.ng_template.specs.TemplateOf.{made_of}
+use Rattle.ng_template.proofs.Compiled.{made_regular}
 use Rattle.ng_template.proofs.compiling.compile.Goals as goal
 
 pub new-requires-3 : goal.new-requires-3
 new-requires-3 c =
-    ap (λ k. holes_below k (parts_of c.in_ok-parts.parts)) (sym (length-map c.in_ok-parts.made.sites.items site_of))
-    ∙ made_below c.args.r.now (forest_of c.args.s.now.forest) (record { places = c.as_slice.result.now; sites = map site_of c.new.result.items }) (made_of c.in_ok-parts.made) (parts_of c.in_ok-parts.parts) (ap (map site_of) c.new.ensures.items) c.in_ok-parts.ensures
-
-pub returns-clause-holes : goal.returns-clause-holes
-returns-clause-holes c =
-    holes-are (length (sites_of c.new-3.result.sites.items)) (parts_of c.new-3.result.parts)
-    (ap (λ k. holes_below k (parts_of c.new-3.result.parts)) (length-map c.new-3.result.sites.items site_of) ∙ c.new-3.result.holes)
+    made_regular c.args.r.now (forest_of c.args.s.now.forest) (record { places = c.as_slice.result.now; sites = map site_of c.new.result.items }) (made_of c.in_ok-parts.made) (parts_of c.in_ok-parts.parts) (ap (map site_of) c.new.ensures.items) c.in_ok-parts.ensures

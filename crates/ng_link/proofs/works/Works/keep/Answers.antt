@@ -1,12 +1,11 @@
 use Rattle.std.proofs.Common.{◌≡◌, Option, Some, None, ap, sym, subst, ◌∙◌}
 use Rattle.std.specs.Prelude.{option_map, option_and_then}
 use Rattle.ng_base.specs.Views.{ViewTree}
-use Rattle.ng_dom.specs.declared.dom.Dom.{Dom}
 use Rattle.ng_value.specs.Snaps.{snap_of}
 use Rattle.ng_watch.specs.Seen.{Watcher}
 use Rattle.ng_watch.specs.Table.{Table}
 use Rattle.ng_link.specs.Firing.{WritesAt}
-use Rattle.ng_link.specs.State.{State, state_of, texts_of, spot_in}
+use Rattle.ng_link.specs.State.{state_of, looks_of, spot_in}
 use Rattle.ng_link.specs.Standing.{Standing}
 use Rattle.ng_link.specs.declared.works.Works.{Works}
 use Rattle.ng_link.proofs.Fired.{kept_stands}
@@ -31,6 +30,6 @@ returns-clause-stands c =
     let new = c.show_kept.new.self in
     let k = c.args.key.now in
     let fires = c.in_ok-show_kept.ensures.fires in
-    let W : Table → Type 0 = λ t. WritesAt (texts_of t (state_of old).resting) (spot_in old.page k) old.dom new.dom in
+    let W : Table → Type 0 = λ t. WritesAt (looks_of t (state_of old).resting) (spot_in old.page k) old.dom new.dom in
     λ ts g. let F : Works → Type 0 = λ x. Standing x ts in
     subst F (sym fires.rest) (kept_stands old c.keep-former.new.self new.dom k (Some (snap_of c.args.s)) c.keep-former.ensures.kept (subst W c.keep-former.ensures.kept fires.dom) ts g)

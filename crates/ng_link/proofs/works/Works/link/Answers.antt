@@ -5,13 +5,13 @@ use Rattle.ng_behaviour.specs.Scopes.{path_at, object_at}
 use Rattle.ng_dom.specs.Document.{next_name, Shows}
 use Rattle.ng_dom.specs.Drawing.{none_stand, shows}
 use Rattle.ng_drawing.specs.Template.{Site, Template, Parts}
+use Rattle.ng_template.specs.Numbering.{is_regular}
 use Rattle.ng_template.specs.Seen.{parts_of}
 use Rattle.ng_template.specs.SiteOf.{site_of}
 use Rattle.ng_template.specs.TemplateOf.{template_of}
 use Rattle.ng_watch.specs.Table.{Table, watchers_of}
 use Rattle.ng_link.specs.Building.{unset, HomedAll}
 use Rattle.ng_link.specs.Calls.{linked_in}
-use Rattle.ng_link.specs.Order.{is_regular, HaveRising}
 use Rattle.ng_link.specs.Rows.{with_sites}
 use Rattle.ng_link.specs.Shape.{keys_from, shape, holes}
 use Rattle.ng_link.specs.Sources.{sources}
@@ -19,28 +19,22 @@ use Rattle.ng_link.specs.Standing.{NothingStands, IsPage}
 use Rattle.ng_link.specs.State.{Linked, state_of}
 use Rattle.ng_link.specs.declared.works.Linked.{Linked as Instance}
 use Rattle.ng_link.specs.declared.works.Works.{Works}
-use Rattle.ng_link.proofs.Links.{after, parts_rise, regular_count, regular_below, many_holes, linked_state, linked_stands}
+use Rattle.ng_link.proofs.Below.{regular_below}
+use Rattle.ng_link.proofs.Links.{after, many_holes, linked_state, linked_stands}
 use Rattle.ng_link.proofs.works.Works.link.Goals as goal
 
-pub link_document-requires-clause-room : goal.link_document-requires-clause-room
-link_document-requires-clause-room c =
+pub link_document-requires : goal.link_document-requires
+link_document-requires c =
     let F : Option Linked → Type 0 = λ o. IsPage o c.args.self.now.dom none_stand in
     let bare : NothingStands c.args.self.now.dom none_stand = subst F c.requires.bare c.requires.stands.page in
     let live = bare.live in
     grind (arith, nat_tests, live)
 
-pub link_document-requires-clause-rising : goal.link_document-requires-clause-rising
-link_document-requires-clause-rising c =
-    let t : Template = template_of c.get-tpl.result.now in
-    let regular : is_regular t ≡ true = cc in
-    let F : Parts → Type 0 = λ ps. HaveRising ps in
-    subst F (sym c.parts-2.ensures.parts) (parts_rise 0 (length t.sites) t.parts (regular_count t regular))
-
 pub returns-clause-state : goal.returns-clause-state
 returns-clause-state c =
     let old : Works = c.args.self.now in
     let t : Template = template_of c.get-tpl.result.now in
-    let regular : is_regular t ≡ true = cc in
+    let regular : is_regular t ≡ true = c.parts-2.ensures.regular in
     let path = c.in_ok-path.path in
     let first = old.core.serial.0 in
     let object = c.object-object.result.0 in
@@ -69,7 +63,7 @@ pub returns-clause-stands : goal.returns-clause-stands
 returns-clause-stands c =
     let old : Works = c.args.self.now in
     let t : Template = template_of c.get-tpl.result.now in
-    let regular : is_regular t ≡ true = cc in
+    let regular : is_regular t ≡ true = c.parts-2.ensures.regular in
     let path = c.in_ok-path.path in
     let first = old.core.serial.0 in
     let object = c.object-object.result.0 in

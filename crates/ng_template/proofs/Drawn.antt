@@ -1,0 +1,239 @@
+-- What an element's directives set is drawn from the element's own sites.
+use Rattle.std.proofs.Common.{◌≡◌, ◌<◌, ◌≤◌, ◌+◌, ℕ, Bool, true, List, [], ◌∷◌, ◌++◌, length, Option, None, Some, Result, Ok, Err, refl, ap, sym, subst, ◌∙◌, length-append, arith}
+use Rattle.std.proofs.lemmas.Bool.{and_parts, and_from, leb-true, le-leb, ltb-true, lt-ltb, ne_eqb, not_from_false}
+use Rattle.std.proofs.lemmas.List.Folds.{list_all-append}
+use Rattle.std.specs.List.{list_all}
+use Rattle.std.specs.Map.{lookup}
+use Rattle.std.specs.Prelude.{◌&&◌, ◌==◌, not, nat_le, nat_lt, codes}
+use Rattle.std.specs.Str.{bytes_eq}
+use Rattle.ng_base.specs.Meets.{◌>>=◌}
+use Rattle.ng_base.proofs.Binds.{if_held}
+use Rattle.ng_collect.specs.Cloak.{kept_attributes}
+use Rattle.ng_collect.specs.declared.pick.Pick.{Pick}
+use Rattle.ng_drawing.specs.Template.{Site, Hiding, while_true, while_false, PartClass, PartAttributes, classes}
+use Rattle.ng_drawing.specs.Template as template
+use Rattle.ng_drawing.specs.declared.kind.SiteKind.{SiteKind}
+use Rattle.ng_drawing.specs.declared.kind.SiteKind.TheVariants as kinds
+use Rattle.ng_interp.specs.Parts.{Piece, hole, place_behind, bytes_before, expression_at}
+use Rattle.ng_interp.specs.declared.pieces.InterpFault.{InterpFault}
+use Rattle.ng_language.specs.OneTime.{one_time_of}
+use Rattle.ng_language.specs.Trees.{Trees}
+use Rattle.ng_markup.specs.Forest.{Attributes}
+use Rattle.ng_template.specs.Compiles.{plain_values, class_with, bare}
+use Rattle.ng_template.specs.Directives.{Head, name_on, text_on, whole, parts_for, kind_for, set_by, class_by, bound_by, with_parts, is_classed, class_setting, attributes_of}
+use Rattle.ng_template.specs.Manners.{target_of}
+use Rattle.ng_template.specs.Numbering.{is_within, is_apart, is_piece_drawn, is_hiding_drawn, is_class_drawn, is_value_drawn, are_drawn}
+use Rattle.ng_template.specs.Texts.{numbered, sites_in}
+use Rattle.ng_template.specs.declared.manners.Setting.{Setting}
+use Rattle.ng_template.specs.declared.manners.Setting.TheVariants.{Interpolates, Links, Switches, Binds, Classes, Shows, Hides}
+use Rattle.ng_template.proofs.Numbers.{numbered-drawn, class_more, attributes_more}
+
+-- whether a number is one from n on, below c, but not that of the site whose text stands in place of the children
+abbrev pub apart_from : Option ℕ → ℕ → ℕ → ℕ → Bool
+apart_from None n c = is_within n c
+apart_from (Some b) n c = is_apart b n c
+
+abbrev pub is_bound_within : ℕ → ℕ → Option ℕ → Bool
+is_bound_within n c None = true
+is_bound_within n c (Some b) = is_within n c b
+
+-- an element whose own sites are those from n on
+pub record Drawn (n : ℕ) (h : Head) : Type 0 where
+  pub least : n ≤ length h.sites
+  pub bound : is_bound_within n (length h.sites) h.bound ≡ true
+  pub attributes : are_drawn (apart_from h.bound n (length h.sites)) h.attributes ≡ true
+  pub class : is_class_drawn (apart_from h.bound n (length h.sites)) h.class ≡ true
+
+both_all : {A : Type 0} (p : A → Bool) (xs ys : List A) → list_all p xs ≡ true → list_all p ys ≡ true → list_all p (xs ++ ys) ≡ true
+both_all p xs ys e h = list_all-append p xs ys ∙ and_from (list_all p xs) (list_all p ys) e h
+
+one : {A : Type 0} (p : A → Bool) (x : A) → p x ≡ true → list_all p (x ∷ []) ≡ true
+one p x e = and_from (p x) true e refl
+
+module _ (n c : ℕ) where
+  within_parts : (k : ℕ) → is_within n c k ≡ true → (n ≤ k) × (k < c)
+  within_parts k e = let h = and_parts (nat_le n k) (nat_lt k c) e in (leb-true n k h.0, ltb-true k c h.1)
+
+  within_from : (k : ℕ) → n ≤ k → k < c → is_within n c k ≡ true
+  within_from k l u = and_from (nat_le n k) (nat_lt k c) (le-leb n k l) (lt-ltb k c u)
+
+  apart_from_parts : (b k : ℕ) → n ≤ k → k < c → (k ≡ b → ⊥) → is_apart b n c k ≡ true
+  apart_from_parts b k l u ne = and_from (is_within n c k) (not (k == b)) (within_from k l u) (not_from_false (k == b) (ne_eqb k b ne))
+
+  apart_parts : (b k : ℕ) → is_apart b n c k ≡ true → (is_within n c k ≡ true) × (not (k == b) ≡ true)
+  apart_parts b k e = and_parts (is_within n c k) (not (k == b)) e
+
+  apart_within : (o : Option ℕ) (k : ℕ) → apart_from o n c k ≡ true → (n ≤ k) × (k < c)
+  apart_within None k e = within_parts k e
+  apart_within (Some b) k e = within_parts k (apart_parts b k e).0
+
+-- numbers below c are numbers below d
+module _ (n c d : ℕ) (up : c ≤ d) where
+  within_more : (k : ℕ) → is_within n c k ≡ true → is_within n d k ≡ true
+  within_more k e = let h = within_parts n c k e in within_from n d k h.0 (omega arith)
+
+  apart_more : (o : Option ℕ) (k : ℕ) → apart_from o n c k ≡ true → apart_from o n d k ≡ true
+  apart_more None k e = within_more k e
+  apart_more (Some b) k e =
+      let h = apart_parts n c b k e in
+      and_from (is_within n d k) (not (k == b)) (within_more k h.0) h.1
+
+  bound_more : (o : Option ℕ) → is_bound_within n c o ≡ true → is_bound_within n d o ≡ true
+  bound_more None e = refl
+  bound_more (Some b) e = within_more b e
+
+  -- the number c is a new one
+  apart_bound : (o : Option ℕ) (k : ℕ) → apart_from o n c k ≡ true → apart_from (Some c) n d k ≡ true
+  apart_bound o k e = let h = apart_within n c o k e in apart_from_parts n d c k h.0 (omega arith) (λ same. omega arith)
+
+  apart_new : (o : Option ℕ) → n ≤ c → is_bound_within n c o ≡ true → (k : ℕ) → c ≤ k → k < d → apart_from o n d k ≡ true
+  apart_new None l e k from below = within_from n d k (omega arith) below
+  apart_new (Some b) l e k from below = let h = within_parts n c b e in apart_from_parts n d b k (omega arith) below (λ same. omega arith)
+
+  old : (s : Setting) (o : Option ℕ) (k : ℕ) → apart_from o n c k ≡ true → apart_from (bound_by s c o) n d k ≡ true
+  old Interpolates o k e = apart_more o k e
+  old Links o k e = apart_more o k e
+  old Switches o k e = apart_more o k e
+  old Binds o k e = apart_bound o k e
+  old Classes o k e = apart_more o k e
+  old Shows o k e = apart_more o k e
+  old Hides o k e = apart_more o k e
+
+-- more that is drawn of a class
+module _ (p : ℕ → Bool) (c : PartClass) (e : is_class_drawn p c ≡ true) where
+  class_pieces : list_all (is_piece_drawn p) c.pieces ≡ true
+  class_pieces = (and_parts (list_all (is_piece_drawn p) c.pieces) (list_all p c.words && list_all (is_hiding_drawn p) c.hidings) e).0
+
+  class_rest : (list_all p c.words && list_all (is_hiding_drawn p) c.hidings) ≡ true
+  class_rest = (and_parts (list_all (is_piece_drawn p) c.pieces) (list_all p c.words && list_all (is_hiding_drawn p) c.hidings) e).1
+
+  rest : (list_all p c.words ≡ true) × (list_all (is_hiding_drawn p) c.hidings ≡ true)
+  rest = and_parts (list_all p c.words) (list_all (is_hiding_drawn p) c.hidings) class_rest
+
+  with_pieces : (ps : List template.Piece) → list_all (is_piece_drawn p) ps ≡ true → is_class_drawn p (record c { pieces = ps }) ≡ true
+  with_pieces ps h = and_from (list_all (is_piece_drawn p) ps) (list_all p c.words && list_all (is_hiding_drawn p) c.hidings) h class_rest
+
+  with_word : (k : ℕ) → p k ≡ true → is_class_drawn p (record c { words = c.words ++ k ∷ [] }) ≡ true
+  with_word k h =
+      and_from (list_all (is_piece_drawn p) c.pieces) (list_all p (c.words ++ k ∷ []) && list_all (is_hiding_drawn p) c.hidings) class_pieces
+      (and_from (list_all p (c.words ++ k ∷ [])) (list_all (is_hiding_drawn p) c.hidings) (both_all p c.words (k ∷ []) rest.0 (one p k h)) rest.1)
+
+  with_hiding : (x : Hiding) → is_hiding_drawn p x ≡ true → is_class_drawn p (record c { hidings = c.hidings ++ x ∷ [] }) ≡ true
+  with_hiding x h =
+      and_from (list_all (is_piece_drawn p) c.pieces) (list_all p c.words && list_all (is_hiding_drawn p) (c.hidings ++ x ∷ [])) class_pieces
+      (and_from (list_all p c.words) (list_all (is_hiding_drawn p) (c.hidings ++ x ∷ [])) rest.0 (both_all (is_hiding_drawn p) c.hidings (x ∷ []) rest.1 (one (is_hiding_drawn p) x h)))
+
+-- a whole expression is one hole
+one_hole : (kind : SiteKind) (once : Bool) (r : Result Trees InterpFault) (ps : List Piece) → (r >>= (λ b. Ok (hole once b)) >>= λ h. Ok (h ∷ [])) ≡ Ok ps → length (sites_in kind ps) ≡ 1
+one_hole kind once (Ok b) ps e =
+    let same : hole once b ∷ [] ≡ ps = (cc) in
+    ap (λ (qs : List Piece). length (sites_in kind qs)) (sym same)
+one_hole kind once (Err f) ps e = absurd (cc)
+
+module _ (n c : ℕ) (o : Option ℕ) (l : n ≤ c) (b : is_bound_within n c o ≡ true) (t : List ℕ) (ps : List Piece) where
+  abbrev end : Setting → ℕ
+  end s = c + length (sites_in (kind_for s) ps)
+
+  abbrev test : Setting → ℕ → Bool
+  test s = apart_from (bound_by s c o) n (end s)
+
+  new : (d k : ℕ) → c ≤ d → c ≤ k → k < d → apart_from o n d k ≡ true
+  new d k up from below = apart_new n c d up o l b k from below
+
+  whole_one : (kind : SiteKind) → whole t ≡ Ok ps → length (sites_in kind ps) ≡ 1
+  whole_one kind e = one_hole kind (one_time_of t).0 (expression_at (place_behind 0 (bytes_before (one_time_of t).0 t)) (one_time_of t).1) ps e
+
+  first_new : (kind : SiteKind) → whole t ≡ Ok ps → apart_from o n (c + length (sites_in kind ps)) c ≡ true
+  first_new kind e = let h = whole_one kind e in new (c + length (sites_in kind ps)) c (omega arith) (omega arith) (omega arith)
+
+  pieces_new : list_all (is_piece_drawn (apart_from o n (c + length (sites_in kinds.Text ps)))) (numbered c ps) ≡ true
+  pieces_new = numbered-drawn kinds.Text (apart_from o n (c + length (sites_in kinds.Text ps))) c ps (λ k from below. new (c + length (sites_in kinds.Text ps)) k (omega arith) from below)
+
+  set_drawn : (s : Setting) (own target : List ℕ) → parts_for s t ≡ Ok ps → are_drawn (test s) (set_by s own target c (numbered c ps)) ≡ true
+  set_drawn Interpolates own target e = and_from _ true pieces_new refl
+  set_drawn Links own target e = and_from _ _ pieces_new (and_from _ true pieces_new refl)
+  set_drawn Switches own target e = and_from _ true (first_new kinds.Reference e) refl
+  set_drawn Binds own target e = refl
+  set_drawn Classes own target e = refl
+  set_drawn Shows own target e = refl
+  set_drawn Hides own target e = refl
+
+  class_drawn : (s : Setting) (own : List ℕ) (cl : PartClass) → parts_for s t ≡ Ok ps → is_class_drawn (test s) cl ≡ true → is_class_drawn (test s) (class_by s own c (numbered c ps) cl) ≡ true
+  class_drawn Interpolates own cl e h =
+      if_held (bytes_eq own (codes "class")) (record cl { pieces = numbered c ps }) cl (λ x. is_class_drawn (test Interpolates) x ≡ true)
+      (λ _. with_pieces (test Interpolates) cl h (numbered c ps) pieces_new) (λ _. h)
+  class_drawn Links own cl e h = h
+  class_drawn Switches own cl e h = h
+  class_drawn Binds own cl e h = h
+  class_drawn Classes own cl e h = with_word (test Classes) cl h c (first_new kinds.Words e)
+  class_drawn Shows own cl e h = with_hiding (test Shows) cl h (while_false c) (first_new kinds.Reference e)
+  class_drawn Hides own cl e h = with_hiding (test Hides) cl h (while_true c) (first_new kinds.Reference e)
+
+  bound_drawn : (s : Setting) → parts_for s t ≡ Ok ps → is_bound_within n (end s) (bound_by s c o) ≡ true
+  bound_drawn Interpolates e = bound_more n c (end Interpolates) (omega arith) o b
+  bound_drawn Links e = bound_more n c (end Links) (omega arith) o b
+  bound_drawn Switches e = bound_more n c (end Switches) (omega arith) o b
+  bound_drawn Binds e = let h = whole_one kinds.Text e in within_from n (end Binds) c l (omega arith)
+  bound_drawn Classes e = bound_more n c (end Classes) (omega arith) o b
+  bound_drawn Shows e = bound_more n c (end Shows) (omega arith) o b
+  bound_drawn Hides e = bound_more n c (end Hides) (omega arith) o b
+
+-- a directive more
+module _ (p : Pick) (s : Setting) (ps : List Piece) (e : parts_for s (text_on p.attribute) ≡ Ok ps) (n : ℕ) (h : Head) (g : Drawn n h) where
+  abbrev first : ℕ
+  first = length h.sites
+
+  abbrev last : ℕ
+  last = first + length (sites_in (kind_for s) ps)
+
+  abbrev now : ℕ → Bool
+  now = apart_from (bound_by s first h.bound) n last
+
+  size : length (h.sites ++ sites_in (kind_for s) ps) ≡ last
+  size = length-append h.sites (sites_in (kind_for s) ps)
+
+  kept : (k : ℕ) → apart_from h.bound n first k ≡ true → now k ≡ true
+  kept k d = old n first last (omega arith) s h.bound k d
+
+  attributes_now : are_drawn now (with_parts p s ps h).attributes ≡ true
+  attributes_now =
+      let set : PartAttributes = set_by s (name_on p.attribute) (target_of p.directive) first (numbered first ps) in
+      both_all (λ a. is_value_drawn now a.1) h.attributes set (attributes_more (apart_from h.bound n first) now kept h.attributes g.attributes)
+      (set_drawn n first h.bound g.least g.bound (text_on p.attribute) ps s (name_on p.attribute) (target_of p.directive) e)
+
+  class_now : is_class_drawn now (with_parts p s ps h).class ≡ true
+  class_now =
+      class_drawn n first h.bound g.least g.bound (text_on p.attribute) ps s (name_on p.attribute) h.class e (class_more (apart_from h.bound n first) now kept h.class g.class)
+
+  pub parts_drawn : Drawn n (with_parts p s ps h)
+  parts_drawn = record {
+    least = omega (arith, size, g.least);
+    bound = subst (λ c. is_bound_within n c (bound_by s first h.bound) ≡ true) (sym size) (bound_drawn n first h.bound g.least g.bound (text_on p.attribute) ps s e);
+    attributes = subst (λ c. are_drawn (apart_from (bound_by s first h.bound) n c) (with_parts p s ps h).attributes ≡ true) (sym size) attributes_now;
+    class = subst (λ c. is_class_drawn (apart_from (bound_by s first h.bound) n c) (with_parts p s ps h).class ≡ true) (sym size) class_now;
+  }
+
+-- no directive yet
+plain_drawn : (test : ℕ → Bool) (ats : Attributes) → are_drawn test (plain_values ats) ≡ true
+plain_drawn test [] = refl
+plain_drawn test (a ∷ ats) = plain_drawn test ats
+
+class_with_drawn : (test : ℕ → Bool) (o : Option (List ℕ)) → is_class_drawn test (class_with o) ≡ true
+class_with_drawn test None = refl
+class_with_drawn test (Some t) = refl
+
+pub bare_drawn : (ats : Attributes) (sites : List Site) → Drawn (length sites) (bare ats sites)
+bare_drawn ats sites = record {
+  least = omega arith;
+  bound = refl;
+  attributes = plain_drawn (is_within (length sites) (length sites)) (kept_attributes ats);
+  class = class_with_drawn (is_within (length sites) (length sites)) (lookup (λ n. bytes_eq n (codes "class")) (kept_attributes ats));
+}
+
+-- all attributes, with the class
+pub all_drawn : (n : ℕ) (h : Head) → Drawn n h → are_drawn (apart_from h.bound n (length h.sites)) (attributes_of h) ≡ true
+all_drawn n h g =
+    let test : ℕ → Bool = apart_from h.bound n (length h.sites) in
+    let last : are_drawn test (class_setting h.class) ≡ true =
+    if_held (is_classed h.class) ((codes "class", classes h.class) ∷ []) [] (λ ats. are_drawn test ats ≡ true) (λ _. and_from (is_class_drawn test h.class) true g.class refl) (λ _. refl) in
+    both_all (λ a. is_value_drawn test a.1) h.attributes (class_setting h.class) g.attributes last

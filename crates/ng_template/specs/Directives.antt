@@ -1,0 +1,144 @@
+-- What the directives of an element come to: its attributes in the order in which they are set, its class, its sites, its contents and
+-- what it does (guide: HTML Compiler, "How directives are compiled").
+use Rattle.std.specs.Prelude.{ℕ, ◌+◌, ◌==◌, ◌&&◌, Bool, not, List, [], ◌∷◌, ◌++◌, length, nat_lt, Option, None, Some, Result, Ok, Err, codes, if◌then◌else◌}
+use Rattle.std.specs.Str.{bytes_eq}
+use Rattle.ng_base.specs.Meets.{◌>>=◌}
+use Rattle.ng_collect.specs.Cloak.{kept_value}
+use Rattle.ng_collect.specs.declared.pick.Pick.{Pick}
+use Rattle.ng_drawing.specs.Template as template
+use Rattle.ng_drawing.specs.Template.{Site, Acts, PartClass, PartAttributes, while_true, while_false, always, unless_empty, flag, classes}
+use Rattle.ng_drawing.specs.declared.kind.SiteKind.{SiteKind}
+use Rattle.ng_drawing.specs.declared.kind.SiteKind.TheVariants as kinds
+use Rattle.ng_html.specs.Attrs.{attr_of}
+use Rattle.ng_interp.specs.Parts as interp
+use Rattle.ng_interp.specs.declared.pieces.InterpFault.{InterpFault}
+use Rattle.ng_language.specs.Trees.{Trees}
+use Rattle.ng_tags.specs.declared.attrs.Attr.{Attr}
+use Rattle.ng_template.specs.Limits.{site_limit, worn}
+use Rattle.ng_template.specs.Manners.{manner_of, target_of, event_name}
+use Rattle.ng_template.specs.Programs.{program_in, judged_program}
+use Rattle.ng_template.specs.Texts.{refused, judged, numbered, sites_in, counted}
+use Rattle.ng_template.specs.declared.manners.Manner.{Manner}
+use Rattle.ng_template.specs.declared.manners.Manner.TheVariants.{Sets, Starts, Handles}
+use Rattle.ng_template.specs.declared.manners.Setting.{Setting}
+use Rattle.ng_template.specs.declared.manners.Setting.TheVariants.{Interpolates, Links, Switches, Binds, Classes, Shows, Hides}
+use Rattle.ng_template.specs.declared.fault.TplFault.{TplFault}
+use Rattle.ng_template.specs.declared.fault.TplKind.TheVariants.{Later}
+
+-- the attribute that a directive stands on, as it stays: its name, and its value without the word `ng-cloak` in a class
+abbrev pub name_on : Option Attr → List ℕ
+name_on None = []
+name_on (Some a) = a.name
+
+abbrev pub text_on : Option Attr → List ℕ
+text_on None = []
+text_on (Some a) = kept_value (attr_of a)
+
+-- a text that is a whole expression, which is one hole
+abbrev pub whole : List ℕ → Result (List interp.Piece) InterpFault
+whole t = interp.hole_at 0 t >>= λ h. Ok (h ∷ [])
+
+-- the parts of a directive's text
+abbrev pub parts_for : Setting → List ℕ → Result (List interp.Piece) InterpFault
+parts_for Interpolates t = interp.pieces_in t
+parts_for Links t = interp.pieces_in t
+parts_for Switches t = whole t
+parts_for Binds t = whole t
+parts_for Classes t = whole t
+parts_for Shows t = whole t
+parts_for Hides t = whole t
+
+-- what its sites keep
+abbrev pub kind_for : Setting → SiteKind
+kind_for Interpolates = kinds.Text
+kind_for Links = kinds.Text
+kind_for Switches = kinds.Reference
+kind_for Binds = kinds.Text
+kind_for Classes = kinds.Words
+kind_for Shows = kinds.Reference
+kind_for Hides = kinds.Reference
+
+-- the attributes that are set, in order, where the first hole of its parts has the number n: its own; its own and another, which is not
+-- there while it is empty; or another, where the value is true
+abbrev pub set_by : Setting → List ℕ → List ℕ → ℕ → List template.Piece → PartAttributes
+set_by Interpolates own target n ps = (own, always ps) ∷ []
+set_by Links own target n ps = (own, always ps) ∷ (target, unless_empty ps) ∷ []
+set_by Switches own target n ps = (target, flag target n) ∷ []
+set_by Binds own target n ps = []
+set_by Classes own target n ps = []
+set_by Shows own target n ps = []
+set_by Hides own target n ps = []
+
+-- what the class is then made of: an interpolated class has its pieces in place of the text that was written
+abbrev pub class_by : Setting → List ℕ → ℕ → List template.Piece → PartClass → PartClass
+class_by Interpolates own n ps c = if bytes_eq own (codes "class") then record c { pieces = ps } else c
+class_by Links own n ps c = c
+class_by Switches own n ps c = c
+class_by Binds own n ps c = c
+class_by Classes own n ps c = record c { words = c.words ++ n ∷ [] }
+class_by Shows own n ps c = record c { hidings = c.hidings ++ while_false n ∷ [] }
+class_by Hides own n ps c = record c { hidings = c.hidings ++ while_true n ∷ [] }
+
+-- the site whose text stands in place of the children
+abbrev pub bound_by : Setting → ℕ → Option ℕ → Option ℕ
+bound_by Interpolates n b = b
+bound_by Links n b = b
+bound_by Switches n b = b
+bound_by Binds n b = Some n
+bound_by Classes n b = b
+bound_by Shows n b = b
+bound_by Hides n b = b
+
+-- An element that is being made: its attributes, what its class is made of, the site whose text stands in place of its children, the
+-- numbers of its own sites, what it does, and all sites so far.
+pub record Head : Type 0 where
+  pub attributes : PartAttributes
+  pub class : PartClass
+  pub bound : Option ℕ
+  pub own : List ℕ
+  pub acts : Acts
+  pub sites : List Site
+
+-- a directive more, with these parts
+abbrev pub with_parts : Pick → Setting → List interp.Piece → Head → Head
+with_parts p s ps h = record {
+  attributes = h.attributes ++ set_by s (name_on p.attribute) (target_of p.directive) (length h.sites) (numbered (length h.sites) ps);
+  class = class_by s (name_on p.attribute) (length h.sites) (numbered (length h.sites) ps) h.class;
+  bound = bound_by s (length h.sites) h.bound;
+  own = h.own ++ counted (length h.sites) (sites_in (kind_for s) ps);
+  acts = h.acts;
+  sites = h.sites ++ sites_in (kind_for s) ps;
+}
+
+abbrev pub if_it_fits : Pick → Setting → List interp.Piece → Head → Result Head TplFault
+if_it_fits p s ps h = if nat_lt site_limit (length h.sites + length (sites_in (kind_for s) ps)) then Err worn else Ok (with_parts p s ps h)
+
+-- a program more that runs when the element is linked, and one more that handles an event
+abbrev pub with_start : Trees → Head → Head
+with_start b h = record h { acts = record { starts = h.acts.starts ++ b ∷ []; handlers = h.acts.handlers } }
+
+abbrev pub with_handler : List ℕ → Trees → Head → Head
+with_handler event b h = record h { acts = record { starts = h.acts.starts; handlers = h.acts.handlers ++ (event, b) ∷ [] } }
+
+-- a directive more, or why it is refused: one that is not built yet, or what is wrong with its text
+abbrev pub with_manner : ℕ → Pick → Option Manner → Head → Result Head TplFault
+with_manner place p None h = Err (refused Later place)
+with_manner place p (Some (Sets s)) h = judged place (parts_for s (text_on p.attribute)) >>= λ ps. if_it_fits p s ps h
+with_manner place p (Some Starts) h = judged_program place (program_in (text_on p.attribute)) >>= λ b. Ok (with_start b h)
+with_manner place p (Some (Handles e)) h = judged_program place (program_in (text_on p.attribute)) >>= λ b. Ok (with_handler (event_name e) b h)
+
+-- the directives in their order, up to the first that is refused
+abbrev pub with_picks : ℕ → List Pick → Head → Result Head TplFault
+with_picks place [] h = Ok h
+with_picks place (p ∷ ps) h = with_manner place p (manner_of p.directive) h >>= with_picks place ps
+
+-- whether a directive gives the element's class words, or hides the element
+abbrev pub is_classed : PartClass → Bool
+is_classed c = not (length c.words == 0 && length c.hidings == 0)
+
+abbrev pub class_setting : PartClass → PartAttributes
+class_setting c = if is_classed c then (codes "class", classes c) ∷ [] else []
+
+-- all attributes in the order in which they are set: the class that directives make is the last
+abbrev pub attributes_of : Head → PartAttributes
+attributes_of h = h.attributes ++ class_setting h.class

@@ -1,0 +1,79 @@
+-- What each directive does with its text, and which attribute it sets beside its own (API: ngHref, ngSrc, ngChecked, ngDisabled, ngOpen,
+-- ngReadonly, ngSelected, ngBind, ngClass, ngShow, ngHide, ngInit, ngClick).
+use Rattle.std.specs.Prelude.{ℕ, Bool, List, [], Option, None, Some, is_some, codes}
+use Rattle.std.specs.List.{list_all}
+use Rattle.ng_collect.specs.declared.pick.Directive.{Directive}
+use Rattle.ng_collect.specs.declared.pick.Directive.TheVariants.{Core, Interpolated, User}
+use Rattle.ng_collect.specs.declared.pick.Pick.{Pick}
+use Rattle.ng_collect.specs.declared.table.CoreDirective.{CoreDirective}
+use Rattle.ng_collect.specs.declared.table.CoreDirective.TheVariants as dirs
+use Rattle.ng_collect.specs.declared.table.DomEvent.{DomEvent}
+use Rattle.ng_collect.specs.declared.table.DomEvent.TheVariants as events
+use Rattle.ng_template.specs.declared.manners.Manner.{Manner}
+use Rattle.ng_template.specs.declared.manners.Manner.TheVariants as manners
+use Rattle.ng_template.specs.declared.manners.Setting.TheVariants.{Interpolates, Links, Switches, Binds, Classes, Shows, Hides}
+
+-- what a directive of the core does with its text; many are not built yet
+abbrev pub core_manner : CoreDirective → Option Manner
+core_manner dirs.Init = None
+core_manner dirs.Checked = Some (manners.Sets Switches)
+core_manner dirs.Disabled = Some (manners.Sets Switches)
+core_manner dirs.Open = Some (manners.Sets Switches)
+core_manner dirs.Readonly = Some (manners.Sets Switches)
+core_manner dirs.Selected = Some (manners.Sets Switches)
+core_manner dirs.Href = Some (manners.Sets Links)
+core_manner dirs.Src = Some (manners.Sets Links)
+core_manner dirs.Bind = Some (manners.Sets Binds)
+core_manner dirs.Show = Some (manners.Sets Shows)
+core_manner dirs.Hide = Some (manners.Sets Hides)
+core_manner dirs.Class = Some (manners.Sets Classes)
+core_manner (dirs.Event e) = None
+core_manner _ = None
+
+abbrev pub manner_of : Directive → Option Manner
+manner_of (Core d) = core_manner d
+manner_of Interpolated = Some (manners.Sets Interpolates)
+manner_of (User n) = None
+
+abbrev pub is_built : Pick → Bool
+is_built p = is_some (manner_of p.directive)
+
+abbrev pub are_built : List Pick → Bool
+are_built ps = list_all is_built ps
+
+-- the attribute that a directive sets beside its own
+abbrev pub core_target : CoreDirective → List ℕ
+core_target dirs.Checked = codes "checked"
+core_target dirs.Disabled = codes "disabled"
+core_target dirs.Open = codes "open"
+core_target dirs.Readonly = codes "readonly"
+core_target dirs.Selected = codes "selected"
+core_target dirs.Href = codes "href"
+core_target dirs.Src = codes "src"
+core_target _ = []
+
+abbrev pub target_of : Directive → List ℕ
+target_of (Core d) = core_target d
+target_of Interpolated = []
+target_of (User n) = []
+
+-- the name of an event
+abbrev pub event_name : DomEvent → List ℕ
+event_name events.Click = codes "click"
+event_name events.Dblclick = codes "dblclick"
+event_name events.Mousedown = codes "mousedown"
+event_name events.Mouseup = codes "mouseup"
+event_name events.Mouseover = codes "mouseover"
+event_name events.Mouseout = codes "mouseout"
+event_name events.Mousemove = codes "mousemove"
+event_name events.Mouseenter = codes "mouseenter"
+event_name events.Mouseleave = codes "mouseleave"
+event_name events.Keydown = codes "keydown"
+event_name events.Keyup = codes "keyup"
+event_name events.Keypress = codes "keypress"
+event_name events.Submit = codes "submit"
+event_name events.Focus = codes "focus"
+event_name events.Blur = codes "blur"
+event_name events.Copy = codes "copy"
+event_name events.Cut = codes "cut"
+event_name events.Paste = codes "paste"

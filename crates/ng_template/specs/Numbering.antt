@@ -1,0 +1,68 @@
+-- What the compiler makes: sites are numbered in document order, an element's own before those of its children, and an element's
+-- attributes and contents are drawn from its own sites alone.
+use Rattle.std.specs.Prelude.{ℕ, ◌+◌, ◌==◌, ◌&&◌, Bool, true, false, not, List, [], ◌∷◌, length, Option, Some, None, option_and_then, nat_le, nat_lt, if◌then◌else◌}
+use Rattle.std.specs.List.{list_all}
+use Rattle.ng_drawing.specs.Template.{Piece, word, hole, Hiding, while_true, while_false, PartClass, PartValue, always, unless_empty, flag, classes, PartAttributes, Part, Contents, Parts, text_part, comment_part, element_part, children, bound, no_parts, part_then, Template}
+
+-- the number after those of the holes, where they are numbered from n on
+abbrev pub after_pieces : ℕ → List Piece → Option ℕ
+after_pieces n [] = Some n
+after_pieces n (word w ∷ ps) = after_pieces n ps
+after_pieces n (hole k ∷ ps) = if k == n then after_pieces (n + 1) ps else None
+
+-- the number after those of an element's own sites, where they are numbered from n on
+abbrev pub after_own : ℕ → List ℕ → Option ℕ
+after_own n [] = Some n
+after_own n (k ∷ ks) = if k == n then after_own (n + 1) ks else None
+
+-- whether a number is one of those from n on, below c
+abbrev pub is_within : ℕ → ℕ → ℕ → Bool
+is_within n c k = nat_le n k && nat_lt k c
+
+-- whether it is one of them, but not this one
+abbrev pub is_apart : ℕ → ℕ → ℕ → ℕ → Bool
+is_apart b n c k = is_within n c k && not (k == b)
+
+-- whether what is drawn has such numbers alone
+abbrev pub is_piece_drawn : (ℕ → Bool) → Piece → Bool
+is_piece_drawn test (word w) = true
+is_piece_drawn test (hole k) = test k
+
+abbrev pub is_hiding_drawn : (ℕ → Bool) → Hiding → Bool
+is_hiding_drawn test (while_true k) = test k
+is_hiding_drawn test (while_false k) = test k
+
+abbrev pub is_class_drawn : (ℕ → Bool) → PartClass → Bool
+is_class_drawn test p = list_all (is_piece_drawn test) p.pieces && (list_all test p.words && list_all (is_hiding_drawn test) p.hidings)
+
+abbrev pub is_value_drawn : (ℕ → Bool) → PartValue → Bool
+is_value_drawn test (always ps) = list_all (is_piece_drawn test) ps
+is_value_drawn test (unless_empty ps) = list_all (is_piece_drawn test) ps
+is_value_drawn test (flag w k) = test k
+is_value_drawn test (classes p) = is_class_drawn test p
+
+abbrev pub are_drawn : (ℕ → Bool) → PartAttributes → Bool
+are_drawn test ats = list_all (λ a. is_value_drawn test a.1) ats
+
+-- the number after those of an element, whose own are those from n on, below c; the one that its contents show draws no attribute
+abbrev mutual
+  pub after_part : ℕ → Part → Option ℕ
+  after_part n (text_part ps) = after_pieces n ps
+  after_part n (comment_part t) = Some n
+  after_part n (element_part e own acts ats p) = option_and_then (λ c. after_contents n c ats p) (after_own n own)
+
+  pub after_contents : ℕ → ℕ → PartAttributes → Contents → Option ℕ
+  after_contents n c ats (children ps) = if are_drawn (is_within n c) ats then after_parts c ps else None
+  after_contents n c ats (bound b) = if is_within n c b && are_drawn (is_apart b n c) ats then Some c else None
+
+  pub after_parts : ℕ → Parts → Option ℕ
+  after_parts n no_parts = Some n
+  after_parts n (part_then p ps) = option_and_then (λ k. after_parts k ps) (after_part n p)
+
+abbrev pub is_number : ℕ → Option ℕ → Bool
+is_number n None = false
+is_number n (Some k) = k == n
+
+-- the sites of a template are numbered so
+abbrev pub is_regular : Template → Bool
+is_regular t = is_number (length t.sites) (after_parts 0 t.parts)

@@ -1,0 +1,134 @@
+//! What each directive does with its text, and which attribute it sets beside its own (API: ngHref, ngSrc, ngChecked, ngDisabled,
+//! ngOpen, ngReadonly, ngSelected, ngBind, ngClass, ngShow, ngHide, ngInit, ngClick; guide: Interpolation, "How text and attribute
+//! bindings work").
+ghost use Rattle.std.specs.Prelude.{◌≡◌, IfOk};
+ghost use Rattle.ng_template.specs.Manners.{core_manner as core_manner_of, manner_of, are_built as are_built_all, core_target as core_target_of, target_of, event_name as event_name_of};
+
+use ng_base::txt::Txt;
+use ng_collect::{CoreDirective, Directive, DomEvent, Pick};
+use std::alloc::{AllocError, Global};
+
+/// What the values of a directive's text set. It interpolates them into its own attribute; or it links another attribute to it, too,
+/// which is not there while the text is empty; or it switches another attribute on while its value is true; or it binds the contents of
+/// the element to it; or it gives the element classes; or it shows the element, or hides it, while its value is true.
+#[derive(Clone, Copy, Debug, PartialEq, Eq, Drop)]
+pub enum Setting {
+    Interpolates,
+    Links,
+    Switches,
+    Binds,
+    Classes,
+    Shows,
+    Hides,
+}
+
+/// What a directive does with its text. It watches it and sets something; or it runs it as a program when the element is linked, or
+/// when an event is handled.
+#[derive(Clone, Copy, Debug, PartialEq, Eq, Drop)]
+pub enum Manner {
+    Sets(Setting),
+    Starts,
+    Handles(DomEvent),
+}
+
+/// What one of the core's directives does with its text, if it is built.
+fn core_manner(d: CoreDirective) -> Option<Manner>
+    ensures { result ≡ core_manner_of d }
+{
+    match d {
+        CoreDirective::Init => None,
+        CoreDirective::Checked => Some(Manner::Sets(Setting::Switches)),
+        CoreDirective::Disabled => Some(Manner::Sets(Setting::Switches)),
+        CoreDirective::Open => Some(Manner::Sets(Setting::Switches)),
+        CoreDirective::Readonly => Some(Manner::Sets(Setting::Switches)),
+        CoreDirective::Selected => Some(Manner::Sets(Setting::Switches)),
+        CoreDirective::Href => Some(Manner::Sets(Setting::Links)),
+        CoreDirective::Src => Some(Manner::Sets(Setting::Links)),
+        CoreDirective::Bind => Some(Manner::Sets(Setting::Binds)),
+        CoreDirective::Show => Some(Manner::Sets(Setting::Shows)),
+        CoreDirective::Hide => Some(Manner::Sets(Setting::Hides)),
+        CoreDirective::Class => Some(Manner::Sets(Setting::Classes)),
+        CoreDirective::Event(_) => None,
+        _ => None,
+    }
+}
+
+/// What a directive does with its text, if it is built.
+pub(crate) fn manner_for(d: Directive) -> Option<Manner>
+    ensures { result ≡ manner_of d }
+{
+    match d {
+        Directive::Core(core) => core_manner(core),
+        Directive::Interpolated => Some(Manner::Sets(Setting::Interpolates)),
+        Directive::User(_) => None,
+    }
+}
+
+/// Whether all directives are built.
+pub(crate) fn are_built(picks: &[Pick]) -> bool
+    ensures { result ≡ are_built_all picks.now }
+{
+    for pick in picks {
+        if manner_for(pick.directive).is_none() {
+            return false;
+        }
+    }
+    true
+}
+
+/// The attribute that one of the core's directives sets beside its own.
+fn core_target(alloc: Global, d: CoreDirective) -> Result<Txt, AllocError>
+    ensures { IfOk result (λ t. t ≡ core_target_of d) }
+{
+    let mut name = Txt::new(alloc);
+    match d {
+        CoreDirective::Checked => name.push_word("checked")?,
+        CoreDirective::Disabled => name.push_word("disabled")?,
+        CoreDirective::Open => name.push_word("open")?,
+        CoreDirective::Readonly => name.push_word("readonly")?,
+        CoreDirective::Selected => name.push_word("selected")?,
+        CoreDirective::Href => name.push_word("href")?,
+        CoreDirective::Src => name.push_word("src")?,
+        _ => {}
+    }
+    Ok(name)
+}
+
+/// The attribute that a directive sets beside its own.
+pub(crate) fn target(alloc: Global, d: Directive) -> Result<Txt, AllocError>
+    ensures { IfOk result (λ t. t ≡ target_of d) }
+{
+    match d {
+        Directive::Core(core) => core_target(alloc, core),
+        Directive::Interpolated => Ok(Txt::new(alloc)),
+        Directive::User(_) => Ok(Txt::new(alloc)),
+    }
+}
+
+/// The name of an event.
+pub(crate) fn event_name(alloc: Global, event: DomEvent) -> Result<Txt, AllocError>
+    ensures { IfOk result (λ t. t ≡ event_name_of event) }
+{
+    let mut name = Txt::new(alloc);
+    match event {
+        DomEvent::Click => name.push_word("click")?,
+        DomEvent::Dblclick => name.push_word("dblclick")?,
+        DomEvent::Mousedown => name.push_word("mousedown")?,
+        DomEvent::Mouseup => name.push_word("mouseup")?,
+        DomEvent::Mouseover => name.push_word("mouseover")?,
+        DomEvent::Mouseout => name.push_word("mouseout")?,
+        DomEvent::Mousemove => name.push_word("mousemove")?,
+        DomEvent::Mouseenter => name.push_word("mouseenter")?,
+        DomEvent::Mouseleave => name.push_word("mouseleave")?,
+        DomEvent::Keydown => name.push_word("keydown")?,
+        DomEvent::Keyup => name.push_word("keyup")?,
+        DomEvent::Keypress => name.push_word("keypress")?,
+        DomEvent::Submit => name.push_word("submit")?,
+        DomEvent::Focus => name.push_word("focus")?,
+        DomEvent::Blur => name.push_word("blur")?,
+        DomEvent::Copy => name.push_word("copy")?,
+        DomEvent::Cut => name.push_word("cut")?,
+        DomEvent::Paste => name.push_word("paste")?,
+    }
+    Ok(name)
+}

@@ -1,0 +1,124 @@
+//! What the values of a directive set: attributes, what the class is made of, and the contents (API: ngHref, ngClass, ngShow, ngBind).
+ghost use Rattle.std.specs.Prelude.{◌≡◌, ◌++◌, IfOk, OnOk};
+ghost use Rattle.ng_template.specs.AttributeOf.{class_of};
+ghost use Rattle.ng_template.specs.Manners.{target_of};
+ghost use Rattle.ng_template.specs.declared.manners.Setting.TheVariants.{Interpolates};
+ghost use Rattle.ng_template.specs.Directives.{name_on, set_by, class_by, bound_by, class_setting, is_classed as is_classed_by};
+
+use crate::classes::{ClassValue, Hiding};
+use crate::directives::name_of;
+use crate::manners::{Setting, target};
+use crate::pieces::{AttributeValue, Attributes, Pieces};
+use ng_base::txt::Txt;
+use ng_collect::Pick;
+use std::alloc::{AllocError, Global};
+
+/// Sets the attributes of a directive, where its first hole has the number n.
+pub(crate) fn set(
+    alloc: Global,
+    attributes: &mut Attributes,
+    setting: Setting,
+    pick: &Pick,
+    n: u32,
+    pieces: &Pieces,
+) -> Result<(), AllocError>
+    ensures { OnOk result (attributes.new ≡ attributes.old ++ set_by setting (name_on pick.now.attribute) (target_of pick.now.directive) n pieces.now) }
+{
+    let own = name_of(alloc, &pick.attribute)?;
+    let target = target(alloc, pick.directive)?;
+    match setting {
+        Setting::Interpolates => {
+            attributes.push(own, AttributeValue::Always(pieces.copied(alloc)?))
+        }
+        Setting::Links => {
+            attributes.push(own, AttributeValue::Always(pieces.copied(alloc)?))?;
+            attributes.push(target, AttributeValue::UnlessEmpty(pieces.copied(alloc)?))
+        }
+        Setting::Switches => {
+            let word = target.copied()?;
+            attributes.push(target, AttributeValue::Flag(word, n))
+        }
+        Setting::Binds => Ok(()),
+        Setting::Classes => Ok(()),
+        Setting::Shows => Ok(()),
+        Setting::Hides => Ok(()),
+    }
+}
+
+/// The pieces of an interpolated class stand in place of the text that was written.
+fn write_class(
+    alloc: Global,
+    class: &mut ClassValue,
+    pick: &Pick,
+    n: u32,
+    pieces: &Pieces,
+) -> Result<(), AllocError>
+    ensures { OnOk result (class_of class.new ≡ class_by Interpolates (name_on pick.now.attribute) n pieces.now (class_of class.old)) }
+{
+    let own = name_of(alloc, &pick.attribute)?;
+    if own.is_word("class") {
+        class.pieces = pieces.copied(alloc)?;
+    }
+    Ok(())
+}
+
+/// Adds what a directive gives to the class.
+pub(crate) fn add_to_class(
+    alloc: Global,
+    class: &mut ClassValue,
+    setting: Setting,
+    pick: &Pick,
+    n: u32,
+    pieces: &Pieces,
+) -> Result<(), AllocError>
+    ensures { OnOk result (class_of class.new ≡ class_by setting (name_on pick.now.attribute) n pieces.now (class_of class.old)) }
+{
+    match setting {
+        Setting::Interpolates => write_class(alloc, class, pick, n, pieces),
+        Setting::Links => Ok(()),
+        Setting::Switches => Ok(()),
+        Setting::Binds => Ok(()),
+        Setting::Classes => Ok(class.words.push(n)?),
+        Setting::Shows => Ok(class.hidings.push(Hiding::WhileFalse(n))?),
+        Setting::Hides => Ok(class.hidings.push(Hiding::WhileTrue(n))?),
+    }
+}
+
+/// The site whose text stands in place of the children, after one directive more.
+pub(crate) fn bound_after(setting: Setting, n: u32, bound: Option<u32>) -> Option<u32>
+    ensures { result ≡ bound_by setting n bound }
+{
+    match setting {
+        Setting::Interpolates => bound,
+        Setting::Links => bound,
+        Setting::Switches => bound,
+        Setting::Binds => Some(n),
+        Setting::Classes => bound,
+        Setting::Shows => bound,
+        Setting::Hides => bound,
+    }
+}
+
+/// Whether a directive gives the element's class words, or hides the element.
+fn is_classed(class: &ClassValue) -> bool
+    ensures { result ≡ is_classed_by (class_of class.now) }
+{
+    !(class.words.is_empty() && class.hidings.is_empty())
+}
+
+/// Sets the class that directives make, after all other attributes.
+pub(crate) fn with_class(
+    alloc: Global,
+    attributes: Attributes,
+    class: ClassValue,
+) -> Result<Attributes, AllocError>
+    ensures { IfOk result (λ a. a ≡ attributes ++ class_setting (class_of class)) }
+{
+    let mut attributes = attributes;
+    if is_classed(&class) {
+        let mut name = Txt::new(alloc);
+        name.push_word("class")?;
+        attributes.push(name, AttributeValue::Classes(class))?;
+    }
+    Ok(attributes)
+}
