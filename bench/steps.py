@@ -67,6 +67,43 @@ def clean(count):
     return template, app, ['digest'] * len(commands), None
 
 
+def buttons(count):
+    """So many elements with a class, a bound text and a handler of clicks each."""
+    one = '<b id="e{0}" ng-class="{{on: n{0} > limit}}" ng-bind="n{0}" ng-click="n{0} = n{0} + {1}"></b>'
+    app = {'data': {f'n{i}': i for i in range(count)} | {'limit': count}}
+    return ''.join(one.format(i, count) for i in range(count)), app
+
+
+def button_pages(count, steps):
+    """What is printed of them at first, and after each step, which changes the numbers and the limit."""
+    numbers, limit = list(range(count)), count
+    one = '<b{2} id="e{0}" ng-bind="n{0}" ng-class="{{on: n{0} > limit}}" ng-click="n{0} = n{0} + {1}">{3}</b>'
+    pages = []
+    for step in [None] + steps:
+        if step is not None:
+            limit = step(numbers, limit)
+        pages.append(''.join(one.format(i, count, ' class="on"' if n > limit else '', n) for i, n in enumerate(numbers)))
+    return pages
+
+
+def clicks(count):
+    """In each step a click on another of them."""
+    def clicked(i):
+        def step(numbers, limit):
+            numbers[i] += count
+            return limit
+        return step
+
+    places = spread(count)
+    return *buttons(count), [f'click #e{i}' for i in places], button_pages(count, [clicked(i) for i in places])
+
+
+def all_changed(count):
+    """Each step changes the class of all of them."""
+    limits = [-1 if k % 2 == 0 else count for k in range(10)]
+    return *buttons(count), [f'eval limit = {limit}' for limit in limits], button_pages(count, [lambda _, old, new=limit: new for limit in limits])
+
+
 def three(i):
     return [i, i + 1, i + 2]
 
@@ -88,6 +125,9 @@ WORKLOADS += [(f'{n:,} watches by reference, of numbers', True, changed('referen
 WORKLOADS += [(f'{n:,} watches of collections, of three numbers each', True, changed('collection'), (n,)) for n in SIZES]
 WORKLOADS += [(f'{n:,} watches by value, of an object with a list of three numbers each', True, changed('value'), (n,)) for n in SIZES]
 WORKLOADS += [(f'{o:,} one-time holes beside {n:,} live ones, without its print', False, labels, (o, n)) for o, n in ((0, 100), (10_000, 100), (0, 10_100))]
+WORKLOADS += [(f'{n:,} elements with a class, a bound text and a click each, a click on one', True, clicks, (n,)) for n in SIZES[:2]]
+WORKLOADS += [(f'the same {n:,} elements, without their print', False, clicks, (n,)) for n in SIZES[:2]]
+WORKLOADS += [(f'the same {n:,} elements, the class of all changed', True, all_changed, (n,)) for n in SIZES[:2]]
 WORKLOADS += [(f'one text with {n:,} holes, without its print', False, wide, (n,)) for n in (100, 1_000)]
 
 

@@ -82,7 +82,6 @@ fn settled(alloc: Global, store: &Store, watchers: &mut Watchers, size: u64) -> 
     let mut at = copied(watchers.first()?)?;
     let mut count: u64 = 0;
     for _ in 0..size {
-        watchers.seek(&at);
         if let Verdict::Dirty(snap) = verdict(alloc, store, watchers, &at)? {
             let _former = watchers.keep(&at, snap);
             count = count.saturating_add(1);
@@ -100,7 +99,6 @@ fn clean(alloc: Global, store: &Store, watchers: &mut Watchers, size: u64) -> Op
     let mut at = copied(watchers.first()?)?;
     let mut count: u64 = 0;
     for _ in 0..size {
-        watchers.seek(&at);
         if let Verdict::Clean = verdict(alloc, store, watchers, &at)? {
             count = count.saturating_add(1);
         }

@@ -104,6 +104,10 @@ standing_below nodes next p fresh there = lt_of_not-le (λ le. among (get nat_cm
     among None f h = cc
     among (Some x) f h = cc
 
+-- what has a room has a name that was given
+pub room_below : (nodes : BTreeMap ℕ Record) (next : ℕ) → ((q : ℕ) → next ≤ q → is_some (get nat_cmp nodes q) ≡ false) → (p : Option ℕ) (x : NamedNode) → HasRoom (rooms_of nodes) p x → name_of x < next
+room_below nodes next fresh p x has = standing_below nodes next (name_of x) fresh (rw has.1 refl)
+
 pub free_name : (nodes : BTreeMap ℕ Record) (next : ℕ) → ((q : ℕ) → next ≤ q → is_some (get nat_cmp nodes q) ≡ false) → get nat_cmp nodes next ≡ None
 free_name nodes next fresh = among (get nat_cmp nodes next) (fresh next (omega arith))
   where

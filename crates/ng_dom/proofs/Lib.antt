@@ -18,3 +18,4 @@ pub mod Levels
 pub mod Ways
 pub mod Stands
 pub mod Standing
+pub mod Lines

@@ -13,7 +13,7 @@ use Rattle.ng_dom.specs.Printed.{level_node, level, level_groups, inner, nth_of,
 use Rattle.ng_dom.specs.Laws.{PlacesArePrinted}
 use Rattle.ng_dom.specs.declared.seeking.Sought.TheVariants.{Found, Left}
 use Rattle.ng_dom.specs.declared.record.Record.{Record}
-use Rattle.ng_dom.proofs.Adding.{standing_below}
+use Rattle.ng_dom.proofs.Adding.{room_below}
 use Rattle.ng_dom.proofs.WithId.{read_forest, read_top}
 
 -- the place that is sought
@@ -83,17 +83,14 @@ module _ (nodes : BTreeMap ℕ Record) (next : ℕ) (fresh : (q : ℕ) → next 
   abbrev r : Rooms
   r = rooms_of nodes
 
-  below : (p : Option ℕ) (x : NamedNode) → HasRoom r p x → name_of x < next
-  below p x has = standing_below nodes next (name_of x) fresh (rw has.1 refl)
-
   pub top_level : (names : List ℕ) (f : NamedForest) → names ≡ names_of f → ReadsIn r None f → level (read_all (read next r) names) ≡ level f
-  top_level names f was h = ap level (ap (read_all (read next r)) was ∙ read_top r next below next f (omega arith) h)
+  top_level names f was h = ap level (ap (read_all (read next r)) was ∙ read_top r next (room_below nodes next fresh) next f (omega arith) h)
 
   pub inner_level : (x : NamedNode) → IsRead r x → level (read_all (read next r) (kids_in (r (name_of x)))) ≡ level (inner x)
   inner_level x h =
       ap level
       (ap (read_all (read next r)) (ap kids_in h.room.1 ∙ kids_names x)
-      ∙ read_forest r next below next (name_of x) (inner x) (omega arith) (kids_read r x h.inside))
+      ∙ read_forest r next (room_below nodes next fresh) next (name_of x) (inner x) (omega arith) (kids_read r x h.inside))
 
   -- the numbers of a path are followed in the table
   module _ (child : Option ℕ → ℕ → Option ℕ) (under : (n i : ℕ) → child (Some n) i ≡ found (seek None i (level (read_all (read next r) (kids_in (r n)))))) where

@@ -8,7 +8,7 @@ use Rattle.std.specs.BTreeMap.{BTreeMap, get}
 use Rattle.std.specs.Ordering.{nat_cmp}
 use Rattle.ng_dom.specs.Kept.{rooms_of}
 use Rattle.ng_dom.specs.declared.record.Record.{Record}
-use Rattle.ng_dom.proofs.Adding.{standing_below}
+use Rattle.ng_dom.proofs.Adding.{room_below}
 use Rattle.ng_dom.specs.Walks.{told, told_all, told_groups, told_shape, told_room}
 
 pub followed-none : (f : Forest) → followed_by f no_nodes ≡ f
@@ -61,6 +61,5 @@ pub told_document : (nodes : BTreeMap ℕ Record) (next : ℕ) (names : List ℕ
     → old ≡ no_nodes → names ≡ names_of f → ReadsIn (rooms_of nodes) None f
     → new ≡ followed_by old (told_all (told next (rooms_of nodes)) names) → new ≡ plain f
 told_document nodes next names old new f fresh e was reads is =
-    let below : (p : Option ℕ) (x : NamedNode) → HasRoom (rooms_of nodes) p x → name_of x < next = λ p x has. standing_below nodes next (name_of x) fresh (rw has.1 refl) in
     is ∙ (ap (λ (g : Forest). followed_by g (told_all (told next (rooms_of nodes)) names)) e
-    ∙ (ap (told_all (told next (rooms_of nodes))) was ∙ told_top (rooms_of nodes) next below next f (omega arith) reads))
+    ∙ (ap (told_all (told next (rooms_of nodes))) was ∙ told_top (rooms_of nodes) next (room_below nodes next fresh) next f (omega arith) reads))

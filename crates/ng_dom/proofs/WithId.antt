@@ -9,7 +9,7 @@ use Rattle.ng_dom.specs.Asked.{node_with_id, first_with_id, first_of_two}
 use Rattle.ng_dom.specs.Walks.{named_followed, read, read_all, read_groups, read_shape, read_room}
 use Rattle.ng_dom.specs.Kept.{rooms_of}
 use Rattle.ng_dom.specs.declared.record.Record.{Record}
-use Rattle.ng_dom.proofs.Adding.{standing_below}
+use Rattle.ng_dom.proofs.Adding.{room_below}
 
 first-assoc : (a b c : Option ℕ) → first_of_two (first_of_two a b) c ≡ first_of_two a (first_of_two b c)
 first-assoc (Some n) b c = refl
@@ -65,6 +65,4 @@ module _ (r : Rooms) (top : ℕ) (below : (p : Option ℕ) (x : NamedNode) → H
 -- the whole document is read
 pub read_document : (nodes : BTreeMap ℕ Record) (next : ℕ) (names : List ℕ) (f : NamedForest) → ((q : ℕ) → next ≤ q → is_some (get nat_cmp nodes q) ≡ false)
     → names ≡ names_of f → ReadsIn (rooms_of nodes) None f → read_all (read next (rooms_of nodes)) names ≡ f
-read_document nodes next names f fresh was reads =
-    let below : (p : Option ℕ) (x : NamedNode) → HasRoom (rooms_of nodes) p x → name_of x < next = λ p x has. standing_below nodes next (name_of x) fresh (rw has.1 refl) in
-    ap (read_all (read next (rooms_of nodes))) was ∙ read_top (rooms_of nodes) next below next f (omega arith) reads
+read_document nodes next names f fresh was reads = ap (read_all (read next (rooms_of nodes))) was ∙ read_top (rooms_of nodes) next (room_below nodes next fresh) next f (omega arith) reads

@@ -8,6 +8,7 @@ pub mod Making
 pub mod Asked
 pub mod Printed
 pub mod Paths
+pub mod Ancestors
 pub mod Document
 pub mod Walks
 pub mod Drawing

@@ -9,6 +9,7 @@ ghost use Rattle.ng_dom.specs.Editing.{changed_in, with_kids, with_text, with_at
 ghost use Rattle.ng_dom.specs.Nodes.{NamedNode, NamedForest, nothing_named, named_then, name_of, names_of, plain};
 ghost use Rattle.ng_markup.specs.Forest.{print};
 ghost use Rattle.ng_html.specs.Seen.{forest_of};
+ghost use Rattle.ng_dom.specs.Ancestors.{line as line_of};
 ghost use Rattle.ng_dom.specs.Asked.{is_element_room, attribute_in, first_with_id};
 ghost use Rattle.ng_dom.specs.Printed.{followed, at_place};
 ghost use Rattle.ng_dom.specs.Paths.{path_in};
@@ -16,6 +17,7 @@ ghost use Rattle.ng_dom.specs.Rooms.{room_changed, room_added, shape_of, shape_t
 ghost use Rattle.ng_dom.specs.Making.{new_name, new_node, new_part, is_want};
 ghost use Rattle.ng_dom.specs.Kept.{shape_kept};
 
+use crate::ancestors::line_up;
 use crate::edits::{attribute, content_of, cut_top, is_element, move_name, only, put};
 use crate::fault::DomFault;
 use crate::finding::find_all;
@@ -60,6 +62,7 @@ impl Dom {
     pub fn new(alloc: Global) -> Dom
         ensures rooms { (q : ℕ) → rooms result q ≡ None }
         ensures top { top result ≡ [] }
+        ensures next { next_name result ≡ 0 }
         ensures live { live_count result ≡ 0 }
     {
         Dom {
@@ -533,6 +536,22 @@ impl Dom {
             Way::Reached(up) => Ok(reversed(self.alloc, up.as_slice())?),
             Way::Passed(_) => unreachable!(),
         }
+    }
+
+    /// A node that stands in the document, and the elements that it stands in, from the inside out.
+    pub fn line(&self, n: NodeId) -> Result<Vec<u64>, Memory>
+        requires stands { Stands self.now n.made.0 }
+        ensures line { (f : NamedForest) → Shows self.now f → IfOk result (λ l. l.items ≡ line_of n.made.0 f) }
+        ensures refused { IfErr result (λ e. e ≡ Memory.Refused) }
+    {
+        Ok(line_up(&self.nodes, self.alloc, self.next, n.made.0)?)
+    }
+
+    /// The name that the next node gets.
+    pub fn next_name(&self) -> u64
+        ensures { result ≡ next_name self.now }
+    {
+        self.next
     }
 
     /// The document without names: an anchor is an empty comment, and its groups stand after it.

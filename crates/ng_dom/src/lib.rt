@@ -26,6 +26,8 @@
 //!   anchor with all its groups is one of them.
 //! - `path` asks for a node that stands in the document, as one that `at` or `by_id` answers does ([`laws::places_stand`],
 //!   [`laws::found_stand`]): then it wants for nothing but memory.
+//! - `line` is the way of an event that bubbles: a node and the elements that it stands in, from the inside out. It costs as many
+//!   look-ups.
 //! - `forest`, `print`, `by_id` and `path` walk the document from the top. No walk goes deeper than names were given, as a child has a
 //!   later name than its parent.
 //!
@@ -37,6 +39,7 @@
 //! Not here: what is registered for a node, which values its holes have, and when a block fires.
 #![tactic(auto)]
 
+pub mod ancestors;
 pub mod dom;
 pub mod edits;
 pub mod fault;

@@ -5,7 +5,7 @@ use Rattle.std.specs.Map.{lookup}
 use Rattle.std.specs.Option.{ForSome}
 use Rattle.ng_act.specs.Actions.{a_body, stores}
 use Rattle.ng_act.specs.State as act
-use Rattle.ng_act.specs.State.{Run, ◌>>=◌, handed}
+use Rattle.ng_act.specs.State.{Run, ◌>>=◌}
 use Rattle.ng_base.specs.Objects.{Object}
 use Rattle.ng_base.specs.Views.{ViewTree}
 use Rattle.ng_base.specs.declared.fault.Fault.{Fault}

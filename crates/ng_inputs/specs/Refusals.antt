@@ -5,7 +5,7 @@ use Rattle.ng_base.specs.Meets.{◌>>=◌}
 use Rattle.ng_html.specs.Reading.{read_bytes}
 use Rattle.ng_app.specs.App.{Facts, facts_of}
 use Rattle.ng_drawing.specs.Template.{Template}
-use Rattle.ng_script.specs.Acts.{Act, Entry, click_on, fire_at, type_into, check_at}
+use Rattle.ng_script.specs.Acts.{Act, Entry, type_into, check_at}
 use Rattle.ng_script.specs.Scripts.{fault, script_of}
 use Rattle.ng_script.specs.declared.fault.ScriptFault.{ScriptFault}
 use Rattle.ng_script.specs.declared.fault.ScriptKind.TheVariants.{Later}
@@ -23,8 +23,6 @@ pub record Accepted : Type 0 where
 
 -- a command that is not built yet
 abbrev pub is_later : Act → Bool
-is_later (click_on t) = true
-is_later (fire_at e t d) = true
 is_later (type_into t x) = true
 is_later (check_at t b) = true
 is_later a = false

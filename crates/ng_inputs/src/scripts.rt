@@ -14,8 +14,6 @@ fn is_later(what: &What) -> bool
     ensures { result ≡ is_later_of (act_of what.now) }
 {
     match what {
-        What::Click(_) => true,
-        What::Fire { .. } => true,
         What::Typed { .. } => true,
         What::Check { .. } => true,
         _ => false,

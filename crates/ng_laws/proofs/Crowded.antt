@@ -1,5 +1,5 @@
 -- A page that would have too many nodes.
-use Rattle.std.proofs.Common.{◌≡◌, ◌<◌, ◌+◌, ℕ, Bool, true, false, List, [], ◌∷◌, refl, ap, sym, ◌∙◌, subst, Option, Some, None, Ok, Err, nat_lt, arith}
+use Rattle.std.proofs.Common.{◌≡◌, ◌<◌, ◌+◌, ℕ, zero, suc, Bool, true, false, List, [], ◌∷◌, refl, ap, sym, ◌∙◌, subst, Option, Some, None, Ok, Err, nat_lt, arith}
 use Rattle.std.specs.Option.{IfSome}
 use Rattle.std.specs.Prelude.{◌&&◌, if◌then◌else◌}
 use Rattle.std.proofs.lemmas.Bool.Decides.{nat_tests}
@@ -8,23 +8,31 @@ use Rattle.ng_app.specs.App.{Facts}
 use Rattle.ng_app.specs.Installing.{installed}
 use Rattle.ng_base.specs.declared.fault.Fault.{Fault}
 use Rattle.ng_base.specs.declared.fault.Fault.TheVariants.{NodeLimit}
+use Rattle.ng_base.specs.declared.path.Target.{Target}
+use Rattle.ng_base.specs.declared.path.Target.TheVariants as target
 use Rattle.ng_behaviour.specs.Scopes.{live_at}
+use Rattle.ng_dom.specs.Drawing.{shows}
+use Rattle.ng_dom.specs.Nodes.{NamedNode, nothing_named}
+use Rattle.ng_dom.specs.Printed.{nth_of, went}
 use Rattle.ng_drawing.specs.Nodes.{nodes, node_limit}
 use Rattle.ng_link.specs.Calls.{blank}
-use Rattle.ng_link.specs.State.{State, shown_in, shown}
+use Rattle.ng_link.specs.Events.{named, stands_in}
+use Rattle.ng_link.specs.State.{State, looks_in, shown_in, shown}
 use Rattle.ng_markup.specs.Forest.{no_nodes}
 use Rattle.ng_page.specs.Answered.{DigestsWhere}
 use Rattle.ng_page.specs.Commands.{Asked, is_idle, begun, asked_run, program_run}
 use Rattle.ng_page.specs.Opening.{prepared, linked_by, opening}
 use Rattle.ng_page.specs.Steps.{Outcome, Ends}
+use Rattle.ng_page.specs.Targets.{element_name, target_in}
 use Rattle.ng_page.proofs.DigestsStay.{digest_sites}
 use Rattle.ng_page.proofs.StepsStay.{followed_sites, program_stays, asked_sites}
-use Rattle.ng_script.specs.Acts.{Entry}
+use Rattle.ng_script.specs.Acts.{Act, Entry}
 use Rattle.ng_inputs.specs.Refusals.{Accepted}
 use Rattle.ng_run.specs.Aims.{asked_of}
+use Rattle.ng_run.specs.Happenings.{Fired, fired_by, DoesEvent}
 use Rattle.ng_run.specs.Lines.{Digest, header}
 use Rattle.ng_run.specs.Session.{Reply, all_well, steps_status, whole, Runs, SessionOf}
-use Rattle.ng_run.specs.Steps.{Left, Step, is_well, DoesUnlessIdle, DoesAsked, Continues, OpensPage}
+use Rattle.ng_run.specs.Steps.{Left, Step, is_well, DoesUnlessIdle, DoesAsked, DoesAct, Continues, OpensPage}
 use Rattle.ng_laws.specs.Sessions.{CrowdedPageIsEmpty}
 
 is_full : (n : ℕ) → node_limit < n → nat_lt node_limit (0 + n) ≡ true
@@ -60,10 +68,33 @@ asked_unlinked : (trace : Bool) (head : List ℕ) (o : Option Asked) (s : State)
 asked_unlinked trace head None s x l h e = ap (λ (z : Left). z.state.linked) h.1 ∙ e
 asked_unlinked trace head (Some a) s x l h e = unless_unlinked (is_idle a s) trace head a s x l h e
 
+-- nor does an event, since there is no element to fire it at
+none_there : (i : ℕ) → nth_of {X = NamedNode} i [] ≡ None
+none_there zero = refl
+none_there (suc i) = refl
+
+went_nowhere : (p : List ℕ) → went None p ≡ None
+went_nowhere [] = refl
+went_nowhere (i ∷ p) = went_nowhere p
+
+nowhere : (t : Target) → target_in t nothing_named ≡ None
+nowhere (target.Id id) = refl
+nowhere (target.Path []) = refl
+nowhere (target.Path (i ∷ p)) = ap (λ o. element_name (went o p)) (none_there i) ∙ ap element_name (went_nowhere p)
+
+unlinked_nowhere : (t : Target) (s : State) → s.linked ≡ None → target_in t (named s) ≡ None
+unlinked_nowhere t s e = ap (λ l. target_in t (shows (looks_in s) (stands_in l))) e ∙ nowhere t
+
+act_unlinked : (trace : Bool) (head : List ℕ) (f : Option Fired) (a : Act) (s : State) (x : Step) (l : Left) → DoesAct trace head f a s x l → s.linked ≡ None → l.state.linked ≡ None
+act_unlinked trace head None a s x l h e = asked_unlinked trace head (asked_of a s) s x l h e
+act_unlinked trace head (Some f) a s x l h e =
+    let none = subst (λ n. DoesEvent trace head f.event n s x l) (unlinked_nowhere f.target s e) h in
+    ap (λ (z : Left). z.state.linked) none.1 ∙ e
+
 continues_unlinked : (trace : Bool) (k : ℕ) (es : List Entry) (left : Left) (xs : List Step) (end : Left) → Continues trace k es left xs end → left.state.linked ≡ None → end.state.linked ≡ None
 continues_unlinked trace k [] left xs end h e = ap (λ (z : Left). z.state.linked) h.1 ∙ e
 continues_unlinked trace k (c ∷ es) left xs end (x, next, rest, does, more, is) e =
-    continues_unlinked trace (k + 1) es next rest end more (asked_unlinked trace (header k c.shown) (asked_of c.act left.state) left.state x next does e)
+    continues_unlinked trace (k + 1) es next rest end more (act_unlinked trace (header k c.shown) (fired_by c.act) c.act left.state x next does e)
 
 module _ (trace : Bool) (a : Accepted) (more : node_limit < nodes a.template.parts) (x : Step) (left : Left) (h : OpensPage trace a x left) where
   abbrev started : State

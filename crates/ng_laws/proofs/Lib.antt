@@ -1,6 +1,8 @@
 pub mod Ends
 pub mod Sorted
 pub mod Ordered
+pub mod StepEnds
+pub mod Dispatching
 pub mod Opening
 pub mod Cloaks
 pub mod Cutting

@@ -52,7 +52,7 @@ kept_keys k v (e ∷ es) = kept_one (is_key k e.0) k v e es (kept_keys k v es)
 kept_ordered : (k : Key) (v : Option ViewTree) (t : Table) → InKeys t → InKeys (with_kept k v t)
 kept_ordered k v t h = subst (λ ks. IsStrictlySortedBy key_cmp ks) (sym (kept_keys k v t)) h
 
-either : (b : Bool) (s t : State) → IsOrdered s → IsOrdered t → IsOrdered (cond b s t)
+pub either : (b : Bool) (s t : State) → IsOrdered s → IsOrdered t → IsOrdered (cond b s t)
 either true s t h k = h
 either false s t h k = k
 
@@ -69,7 +69,7 @@ undeclared_ordered k s h =
     either (is_site s.linked k) s (record s { watchers = without_watch k s.watchers; declared = remove_entry (is_key k) s.declared }) h
     (remove_sorted key_cmp page_laws.total (is_key k) s.watchers h)
 
-left_ordered : (p : List ℕ) (s : State) → IsOrdered s → IsOrdered (left_at p s)
+pub left_ordered : (p : List ℕ) (s : State) → IsOrdered s → IsOrdered (left_at p s)
 left_ordered p s h = filter_sorted key_cmp page_laws.total (λ (e : Key × Watcher). not (begins p e.0.path)) s.watchers h
 
 ended_ordered : (s : State) → IsOrdered s → IsOrdered (ended_at s)
@@ -97,7 +97,7 @@ all_ordered (c ∷ cs) s h = all_ordered cs (applied c s) (applied_ordered c s h
 changed_ordered : (s : State) → IsOrdered s → IsOrdered (changed s)
 changed_ordered s h = all_ordered s.core.changes (without_changes s) h
 
-followed_ordered : {A : Type 0} (r : Run A) (s : State) → IsOrdered s → IsOrdered (followed r s)
+pub followed_ordered : {A : Type 0} (r : Run A) (s : State) → IsOrdered s → IsOrdered (followed r s)
 followed_ordered r s h = changed_ordered (with_core (handed r) s) h
 
 ran_ordered : (ts : List Task) (s : State) → IsOrdered s → IsOrdered (ran_of ts s)

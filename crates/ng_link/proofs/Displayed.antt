@@ -1,10 +1,11 @@
 -- A page that stands displays the drawing of its template with what its instance has kept.
-use Rattle.std.proofs.Common.{◌≡◌, ◌<◌, ◌+◌, ℕ, zero, suc, Bool, List, [], ◌∷◌, ◌++◌, Option, Some, None, refl, ap, ◌∙◌, sym, arith, slice_get}
+use Rattle.std.proofs.Common.{◌≡◌, ◌<◌, ◌+◌, ℕ, zero, suc, Bool, List, [], ◌∷◌, ◌++◌, Option, Some, None, refl, ap, ◌∙◌, sym, subst, arith, slice_get}
 use Rattle.std.specs.Prelude.{◌||◌}
 use Rattle.std.specs.List.{flat_map, list_any}
 use Rattle.ng_base.specs.Views.{ViewTree}
 use Rattle.ng_markup.specs.Attributes.{if_any, word_if, with_value, class_value}
 use Rattle.ng_markup.specs.Forest.{Attributes, Node, Forest, element, text, no_nodes, node}
+use Rattle.ng_dom.specs.Document.{Shows}
 use Rattle.ng_dom.specs.Drawing.{Stands, shows}
 use Rattle.ng_dom.specs.Nodes.{plain}
 use Rattle.ng_drawing.specs.Drawing.{Look, draw_pieces, is_hiding, class_words, draw_class, draw_value, draw_attributes, draw_part, draw_contents, draw}
@@ -12,8 +13,9 @@ use Rattle.ng_drawing.specs.Instance.{SiteState, state_kept}
 use Rattle.ng_drawing.specs.Looks.{kept_text, kept_words, is_kept_true, is_kept_false}
 use Rattle.ng_drawing.specs.Template.{Piece, word, hole, Hiding, while_true, while_false, PartClass, PartValue, always, unless_empty, flag, classes, PartAttributes, Part, Contents, Parts, text_part, comment_part, element_part, children, bound, no_parts, part_then}
 use Rattle.ng_watch.specs.Table.{Table}
+use Rattle.ng_link.specs.Events.{stands_in}
 use Rattle.ng_link.specs.Holes.{PiecesBelow, SitesBelow, HidingsBelow, ClassBelow, ValueBelow, ValuesBelow, PartBelow, ContentsBelow, HolesBelow}
-use Rattle.ng_link.specs.Laws.{PageDisplaysInstance}
+use Rattle.ng_link.specs.Laws.{PageDisplaysInstance, PageHasItsNames}
 use Rattle.ng_link.specs.Shape.{key_on}
 use Rattle.ng_link.specs.Standing.{HasShape, IsPage, Standing, Displays}
 use Rattle.ng_link.specs.State.{Page, Linked, Resting, keys_of, state_of, kept_in, looks_in, site_state, site_states, instance_at, shown_in}
@@ -110,7 +112,7 @@ shaped w ts l g h =
       shown = g.shown;
       plain =
           ap (λ (s : Stands). plain (shows (looks_in (state_of w)) s)) h.shape
-          ∙ (shape_draws (keys_of p) (kept_in t r) h.name l.template.parts
+          ∙ (shape_draws (keys_of p) (kept_in t r) p.node l.template.parts
           ∙ same_parts (λ n. kept_in t r (keys_of p n)) (λ n. state_kept (slice_get (instance_at t r p).sites n)) p.count
           (λ n lt. sym (ap state_kept (state_at t r p.scope p.path p.first p.count n lt))) l.template.parts h.holes);
     }
@@ -125,3 +127,13 @@ displays_linked w ts (Some l) g h = shaped w ts l g h
 
 pub page_displays : PageDisplaysInstance
 page_displays w ts g = displays_linked w ts (state_of w).linked g g.page
+
+-- the document has the names that what is linked says
+named_linked : (w : Works) (ts : Stands) (o : Option Linked) → IsPage o w.dom ts → ts ≡ stands_in o
+named_linked w ts None h = h.stands
+named_linked w ts (Some l) h = h.shape
+
+pub page_names : PageHasItsNames
+page_names w ts g =
+    let F : Stands → Type 0 = λ s. Shows w.dom (shows (looks_in (state_of w)) s) in
+    subst F (named_linked w ts (state_of w).linked g.page) g.shown

@@ -5,7 +5,7 @@ use Rattle.std.proofs.Math.Path.{fun_ext}
 use Rattle.std.specs.Prelude.{option_map}
 use Rattle.ng_base.specs.Views.{ViewTree}
 use Rattle.ng_base.specs.declared.path.Key.{Key}
-use Rattle.ng_dom.specs.Document.{rooms, Shows, Becomes, Stays}
+use Rattle.ng_dom.specs.Document.{rooms, next_name, Shows, Becomes, Stays}
 use Rattle.ng_dom.specs.Drawing.{Look, Stand, Stands, text_stands, comment_stands, element_stands, block_stands, none_stand, stand_then, Source, of_text, of_comment, of_element, show, shows, HeldAll, DifferAt, joined, drawn_attributes}
 use Rattle.ng_dom.specs.Editing.{changed_in, with_text, with_attributes}
 use Rattle.ng_dom.specs.Nodes.{NamedForest, name_of, names_of}
@@ -17,7 +17,7 @@ use Rattle.ng_watch.specs.Keys.{is_key}
 use Rattle.ng_watch.specs.Seen.{Watcher}
 use Rattle.ng_watch.specs.Table.{Table, watchers_of, with_kept}
 use Rattle.ng_watch.specs.declared.watched.Watched.{Watched}
-use Rattle.ng_link.specs.Firing.{drawn_anew, Tells, WritesAt}
+use Rattle.ng_link.specs.Firing.{Redraw, nothing_new, a_text, on_element, drawn_anew, Tells, WritesAt}
 use Rattle.ng_link.specs.Sources.{sources, source_of}
 use Rattle.ng_link.specs.Standing.{IsPage, Standing}
 use Rattle.ng_link.specs.State.{Resting, kept_or, linked_of, state_of, templates_of, look_of, looks_of, looks_in, spot_in, places_of}
@@ -100,3 +100,13 @@ kept_stands w ws d k s is writes ts g =
       watched = rw is (stand_kept (length (state_of w).core.objects) k s (state_of w).watchers g.watched);
       page = page_still (templates_of w) w.page k (looks_of t r) w.dom d ts writes g.page;
     }
+
+-- what is written names no node
+tells_next : (r : Redraw) (n : ℕ) (d e : Dom) → Tells r n d e → next_name e ≡ next_name d
+tells_next nothing_new n d e told = ap (λ (x : Dom). next_name x) told
+tells_next (a_text t) n d e told = told.1.next
+tells_next (on_element ats) n d e told = told.1.next
+
+pub written_next : (v : Key → Look) (o : Option ℕ) (d e : Dom) → WritesAt v o d e → next_name e ≡ next_name d
+written_next v None d e told = ap (λ (x : Dom). next_name x) told
+written_next v (Some n) d e told = tells_next (drawn_anew v (sources d n)) n d e told

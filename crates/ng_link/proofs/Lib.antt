@@ -16,3 +16,4 @@ pub mod Rows
 pub mod Displayed
 pub mod Fired
 pub mod Links
+pub mod Entered

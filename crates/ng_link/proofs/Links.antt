@@ -1,5 +1,5 @@
 -- What a link leaves stands.
-use Rattle.std.proofs.Common.{◌≡◌, ◌≤◌, ◌<◌, ◌+◌, ℕ, true, false, List, [], Option, Some, refl, ap, ◌∙◌, sym, subst, length, arith, slice_get, get_or, zero-add}
+use Rattle.std.proofs.Common.{◌≡◌, ◌<◌, ◌+◌, ℕ, true, false, List, [], Option, Some, refl, ap, ◌∙◌, sym, subst, length, arith, slice_get, get_or, zero-add}
 use Rattle.std.specs.Prelude.{IsSome, unwrap_or}
 use Rattle.std.specs.Map.{lookup}
 use Rattle.std.proofs.lemmas.Option.{slice_get-get_or}
@@ -8,10 +8,11 @@ use Rattle.ng_act.specs.State as act
 use Rattle.ng_act.specs.declared.core_state.Core.{Core}
 use Rattle.ng_behaviour.specs.Scopes.{path_at, object_at}
 use Rattle.ng_base.specs.declared.path.Key.{Key}
-use Rattle.ng_dom.specs.Document.{Shows}
+use Rattle.ng_dom.specs.Document.{next_name, Shows}
 use Rattle.ng_dom.specs.Drawing.{Stands, shows, HeldAll}
 use Rattle.ng_dom.specs.Nodes.{NamedForest}
 use Rattle.ng_dom.specs.declared.dom.Dom.{Dom}
+use Rattle.ng_drawing.specs.Nodes.{nodes}
 use Rattle.ng_drawing.specs.Template.{no_parts, Site, Template}
 use Rattle.ng_drawing.specs.declared.kind.SiteKind.TheVariants.{Text}
 use Rattle.ng_language.specs.Trees.{no_trees}
@@ -22,13 +23,14 @@ use Rattle.ng_watch.specs.Seen.{Watcher}
 use Rattle.ng_watch.specs.Table.{Table, watchers_of, found}
 use Rattle.ng_watch.specs.declared.watched.Watched.{Watched}
 use Rattle.ng_link.specs.Building.{unset, HomedAll, AllAt}
-use Rattle.ng_link.specs.Calls.{numbered, linked_in}
+use Rattle.ng_link.specs.Calls.{numbered, page_on, linked_in}
+use Rattle.ng_link.specs.Handlers.{Handled, handled}
 use Rattle.ng_link.specs.Holes.{HolesBelow}
 use Rattle.ng_link.specs.Rows.{with_sites}
 use Rattle.ng_link.specs.Shape.{keys_from, shape, holes}
 use Rattle.ng_link.specs.Sources.{sources}
 use Rattle.ng_link.specs.Standing.{WatchersStand, IsStanding}
-use Rattle.ng_link.specs.State.{State, is_site_of, kept_or, look_of, page_of, templates_of, template_at, template_or, places_of, state_of, looks_in}
+use Rattle.ng_link.specs.State.{State, Page, is_site_of, kept_or, look_of, handled_of, page_of, templates_of, template_at, template_or, places_of, state_of, looks_in}
 use Rattle.ng_link.specs.declared.works.Linked.{Linked as Instance}
 use Rattle.ng_link.specs.declared.works.Works.{Works}
 use Rattle.ng_link.proofs.Agree.{Agree, all_agree}
@@ -56,32 +58,44 @@ is_template all n t at = ap (λ (o : Option Template). unwrap_or o (record { par
 
 -- the state after a link
 module _ (w : Works) (core : Core) (ws : List (Key × Watched)) (d : Dom) (p : Instance) (t : Template) where
-  abbrev made : act.State → Table → Template → List ℕ → ℕ → ℕ → State
-  made c table u path first count = record (state_of w) {
-    core = c;
-    watchers = table;
-    linked = Some (record { template = u; page = record { template = p.template.0; scope = p.scope.0; path = path; first = first; count = count } });
-  }
+  abbrev made : act.State → Table → Template → Page → ℕ → State
+  made c table u page next = record (state_of w) { core = c; watchers = table; linked = Some (record { template = u; page = page }); next_node = next }
+
+  abbrev paged : List ℕ → ℕ → ℕ → ℕ → Handled → Page
+  paged path first count node handlers = record { template = p.template.0; scope = p.scope.0; path = path; first = first; count = count; node = node; handlers = handlers }
+
+  pub linked_page : p.path ≡ path_at (state_of w).core.scopes p.scope.0 → p.first ≡ (state_of w).core.serial → length p.spots.items ≡ length t.sites
+      → p.node ≡ (state_of w).next_node → handled_of p.handlers.entries ≡ handled p.node t.parts []
+      → page_of p ≡ page_on p.template.0 p.scope.0 t (state_of w)
+  linked_page is_path is_first many is_node entered =
+      let path : List ℕ = path_at (state_of w).core.scopes p.scope.0 in
+      let first : ℕ = (state_of w).core.serial in
+      let all : Handled = handled_of p.handlers.entries in
+      ap (λ (x : List ℕ). paged x p.first (length p.spots.items) p.node all) is_path
+      ∙ (ap (λ (x : ℕ). paged path x (length p.spots.items) p.node all) is_first
+      ∙ (ap (λ (x : ℕ). paged path first x p.node all) many
+      ∙ (ap (λ (x : Handled). paged path first (length t.sites) p.node x) entered
+      ∙ ap (λ (x : ℕ). paged path first (length t.sites) x (handled x t.parts [])) is_node)))
 
   pub linked_state : cores.state_of core ≡ numbered t (state_of w).core
       → watchers_of ws ≡ with_sites (path_at (state_of w).core.scopes p.scope.0) (object_at (state_of w).core.scopes p.scope.0) (state_of w).core.serial t.sites (state_of w).watchers
-      → template_at (templates_of w) p.template.0 ≡ Some t → p.path ≡ path_at (state_of w).core.scopes p.scope.0 → p.first ≡ (state_of w).core.serial → length p.spots.items ≡ length t.sites
+      → template_at (templates_of w) p.template.0 ≡ Some t → page_of p ≡ page_on p.template.0 p.scope.0 t (state_of w) → next_name d ≡ next_name w.dom + nodes t.parts
       → state_of (after w core ws d p) ≡ linked_in p.template.0 p.scope.0 t (state_of w)
-  linked_state is_core is_table at is_path is_first many =
+  linked_state is_core is_table at is_page is_next =
       let u = template_or (templates_of w) p.template.0 in
       let c : act.State = numbered t (state_of w).core in
       let table : Table = with_sites (path_at (state_of w).core.scopes p.scope.0) (object_at (state_of w).core.scopes p.scope.0) (state_of w).core.serial t.sites (state_of w).watchers in
-      ap (λ (x : act.State). made x (watchers_of ws) u p.path p.first (length p.spots.items)) is_core
-      ∙ (ap (λ (x : Table). made c x u p.path p.first (length p.spots.items)) is_table
-      ∙ (ap (λ (x : Template). made c table x p.path p.first (length p.spots.items)) (is_template (templates_of w) p.template.0 t at)
-      ∙ (ap (λ (x : List ℕ). made c table t x p.first (length p.spots.items)) is_path
-      ∙ (ap (λ (x : ℕ). made c table t (path_at (state_of w).core.scopes p.scope.0) x (length p.spots.items)) is_first
-      ∙ ap (λ (x : ℕ). made c table t (path_at (state_of w).core.scopes p.scope.0) (state_of w).core.serial x) many))))
+      let page : Page = page_on p.template.0 p.scope.0 t (state_of w) in
+      ap (λ (x : act.State). made x (watchers_of ws) u (page_of p) (next_name d)) is_core
+      ∙ (ap (λ (x : Table). made c x u (page_of p) (next_name d)) is_table
+      ∙ (ap (λ (x : Template). made c table x (page_of p) (next_name d)) (is_template (templates_of w) p.template.0 t at)
+      ∙ (ap (λ (x : Page). made c table t x (next_name d)) is_page
+      ∙ ap (λ (x : ℕ). made c table t page x) is_next)))
 
 -- what stands after a link
 module _ (w : Works) (core : Core) (ws : List (Key × Watched)) (d : Dom) (p : Instance) (t : Template) (object m : ℕ)
     (regular : is_regular t ≡ true) (room : object < length (state_of w).core.objects)
-    (is_first : p.first ≡ (state_of w).core.serial) (is_holes : p.spots.items ≡ holes m t.parts)
+    (is_node : p.node ≡ m) (is_first : p.first ≡ (state_of w).core.serial) (is_holes : p.spots.items ≡ holes m t.parts)
     (serial : core.serial.0 ≡ p.first + length t.sites) (objects : length core.store ≡ length (state_of w).core.objects)
     (watchers : watchers_of ws ≡ with_sites p.path object p.first t.sites (state_of w).watchers) where
   many : length p.spots.items ≡ length t.sites
@@ -122,6 +136,6 @@ module _ (w : Works) (core : Core) (ws : List (Key × Watched)) (d : Dom) (p : I
           held = held;
           below = λ k h. let lt = number_below p.path p.first (length p.spots.items) k (placed_site (after w core ws d p) k h) in omega (arith, lt, many, serial);
           watched = rw (watchers, objects) (stand_sites (length (state_of w).core.objects) p.path object p.first t.sites (state_of w).watchers room watched);
-          page = rw is (record { name = m; shape = refl; count = many; holes = rw many below });
+          page = rw is (record { shape = ap (λ (n : ℕ). shape (keys_from p.path p.first) n t.parts) (sym is_node); count = many; holes = rw many below });
         },
       )

@@ -1,6 +1,6 @@
 -- Where the sites of an instance are drawn.
 use Rattle.std.proofs.Common.{◌≡◌, ◌≤◌, ◌<◌, ◌+◌, ◌-◌, ℕ, Bool, true, false, cond, List, Option, Some, None, refl, ap, ◌∙◌, sym, length, arith, slice_get}
-use Rattle.std.specs.Prelude.{IsSome, option_map, ◌&&◌, nat_le, nat_lt}
+use Rattle.std.specs.Prelude.{IsSome, ◌&&◌, nat_le, nat_lt}
 use Rattle.std.specs.Str.{bytes_eq}
 use Rattle.std.proofs.lemmas.Bool.Decides.{nat_tests}
 use Rattle.std.proofs.lemmas.Option.{slice_get_within}

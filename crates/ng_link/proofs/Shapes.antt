@@ -10,7 +10,7 @@ use Rattle.ng_markup.specs.Forest.{Attributes, Forest, element, text, no_nodes, 
 use Rattle.ng_dom.specs.Nodes.{plain, plain_node, followed_by}
 use Rattle.ng_dom.specs.Drawing as drawn
 use Rattle.ng_dom.specs.Drawing.{Look, Source, Stand, Stands, none_stand, stand_then, joined, drawn_words, drawn_value, drawn_on, show, shows}
-use Rattle.ng_drawing.specs.Drawing.{draw_pieces, is_hiding, draw_class, draw_value, draw_attributes, draw_contents, draw_part, draw, class_words}
+use Rattle.ng_drawing.specs.Drawing.{draw_pieces, is_hiding, draw_value, draw_attributes, draw_contents, draw_part, draw, class_words}
 use Rattle.ng_drawing.specs.Looks.{kept_text, kept_words}
 use Rattle.ng_drawing.specs.Nodes.{part_nodes, content_nodes, nodes}
 use Rattle.ng_drawing.specs.Template as template

@@ -113,35 +113,35 @@ module _ {X : Type 0} where
       by_pass false more = more
 
 -- entries whose values are seen as something else
-module _ {X Y : Type 0} (f : X → Y) where
-  abbrev pub seen : List (Key × X) → List (Key × Y)
+module _ {K X Y : Type 0} (f : X → Y) where
+  abbrev pub seen : List (K × X) → List (K × Y)
   seen es = map (λ e. (e.0, f e.1)) es
 
-  pub put-seen : (k : Key) (v : X) (es : List (Key × X)) → seen (insert_entry key_cmp es k v) ≡ insert_entry key_cmp (seen es) k (f v)
-  put-seen k v [] = refl
-  put-seen k v (e ∷ es) = by_order (key_cmp k e.0) (put-seen k v es)
+  pub put-seen : (cmp : K → K → Ordering) (k : K) (v : X) (es : List (K × X)) → seen (insert_entry cmp es k v) ≡ insert_entry cmp (seen es) k (f v)
+  put-seen cmp k v [] = refl
+  put-seen cmp k v (e ∷ es) = by_order (cmp k e.0) (put-seen cmp k v es)
     where
-      by_order : (o : Ordering) → seen (insert_entry key_cmp es k v) ≡ insert_entry key_cmp (seen es) k (f v)
-          → seen (match_ordering o ((k, v) ∷ e ∷ es) ((e.0, v) ∷ es) (e ∷ insert_entry key_cmp es k v)) ≡ match_ordering o ((k, f v) ∷ (e.0, f e.1) ∷ seen es) ((e.0, f v) ∷ seen es) ((e.0, f e.1) ∷ insert_entry key_cmp (seen es) k (f v))
+      by_order : (o : Ordering) → seen (insert_entry cmp es k v) ≡ insert_entry cmp (seen es) k (f v)
+          → seen (match_ordering o ((k, v) ∷ e ∷ es) ((e.0, v) ∷ es) (e ∷ insert_entry cmp es k v)) ≡ match_ordering o ((k, f v) ∷ (e.0, f e.1) ∷ seen es) ((e.0, f v) ∷ seen es) ((e.0, f e.1) ∷ insert_entry cmp (seen es) k (f v))
       by_order Less more = refl
       by_order Equal more = refl
-      by_order Greater more = ap (λ (ys : List (Key × Y)). (e.0, f e.1) ∷ ys) more
+      by_order Greater more = ap (λ (ys : List (K × Y)). (e.0, f e.1) ∷ ys) more
 
-  pub removed-seen : (test : Key → Bool) (es : List (Key × X)) → seen (remove_entry test es) ≡ remove_entry test (seen es)
+  pub removed-seen : (test : K → Bool) (es : List (K × X)) → seen (remove_entry test es) ≡ remove_entry test (seen es)
   removed-seen test [] = refl
   removed-seen test (e ∷ es) = by_test (test e.0) (removed-seen test es)
     where
       by_test : (b : Bool) → seen (remove_entry test es) ≡ remove_entry test (seen es) → seen (cond b es (e ∷ remove_entry test es)) ≡ cond b (seen es) ((e.0, f e.1) ∷ remove_entry test (seen es))
       by_test true more = refl
-      by_test false more = ap (λ (ys : List (Key × Y)). (e.0, f e.1) ∷ ys) more
+      by_test false more = ap (λ (ys : List (K × Y)). (e.0, f e.1) ∷ ys) more
 
-  pub filtered-seen : (test : Key → Bool) (es : List (Key × X)) → seen (filter (λ e. test e.0) es) ≡ filter (λ e. test e.0) (seen es)
+  pub filtered-seen : (test : K → Bool) (es : List (K × X)) → seen (filter (λ e. test e.0) es) ≡ filter (λ e. test e.0) (seen es)
   filtered-seen test [] = refl
   filtered-seen test (e ∷ es) = by_test (test e.0) (filtered-seen test es)
     where
       by_test : (b : Bool) → seen (filter (λ e. test e.0) es) ≡ filter (λ e. test e.0) (seen es)
           → seen (cond b (e ∷ filter (λ e. test e.0) es) (filter (λ e. test e.0) es)) ≡ cond b ((e.0, f e.1) ∷ filter (λ e. test e.0) (seen es)) (filter (λ e. test e.0) (seen es))
-      by_test true more = ap (λ (ys : List (Key × Y)). (e.0, f e.1) ∷ ys) more
+      by_test true more = ap (λ (ys : List (K × Y)). (e.0, f e.1) ∷ ys) more
       by_test false more = more
 
 -- at another key than that of the watcher that keeps something, the same is found

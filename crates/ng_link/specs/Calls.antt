@@ -7,17 +7,19 @@ use Rattle.ng_act.specs.State as act
 use Rattle.ng_base.specs.Views.{ViewTree}
 use Rattle.ng_base.specs.declared.path.Key.{Key}
 use Rattle.ng_behaviour.specs.Scopes.{path_at, object_at}
+use Rattle.ng_drawing.specs.Nodes.{nodes}
 use Rattle.ng_drawing.specs.Template.{Template}
 use Rattle.ng_watch.specs.Ended.{over, without_over}
 use Rattle.ng_watch.specs.Keys.{key_cmp, is_key, begins}
 use Rattle.ng_watch.specs.Seen.{Watching}
 use Rattle.ng_watch.specs.Table.{Table, with_kept, with_watch, without_watch, under, without_under}
+use Rattle.ng_link.specs.Handlers.{handled}
 use Rattle.ng_link.specs.Rows.{with_sites}
 use Rattle.ng_link.specs.State.{Page, Linked, Listening, Resting, State, is_site}
 
 -- nothing is watched and nothing is linked yet
 abbrev pub blank : act.State → State
-blank c = record { core = c; watchers = []; resting = []; declared = []; linked = None }
+blank c = record { core = c; watchers = []; resting = []; declared = []; linked = None; next_node = 0 }
 
 abbrev pub with_core : act.State → State → State
 with_core c s = record s { core = c }
@@ -58,9 +60,18 @@ ended_at s = record s {
   resting = rested s.linked (over s.core.objects s.watchers) s.resting;
 }
 
--- the instance of a template, by its number, on a scope: its sites get the next numbers of registration
-abbrev pub page_on : ℕ → ℕ → Template → act.State → Page
-page_on number scope t c = record { template = number; scope = scope; path = path_at c.scopes scope; first = c.serial; count = length t.sites }
+-- the instance of a template, by its number, on a scope: its sites get the next numbers of registration, its nodes the names from
+-- the next one on, and its handlers are entered with these
+abbrev pub page_on : ℕ → ℕ → Template → State → Page
+page_on number scope t s = record {
+  template = number;
+  scope = scope;
+  path = path_at s.core.scopes scope;
+  first = s.core.serial;
+  count = length t.sites;
+  node = s.next_node;
+  handlers = handled s.next_node t.parts [];
+}
 
 -- registration numbers are given to the sites of a template
 abbrev pub numbered : Template → act.State → act.State
@@ -71,5 +82,6 @@ abbrev pub linked_in : ℕ → ℕ → Template → State → State
 linked_in number scope t s = record s {
   core = numbered t s.core;
   watchers = with_sites (path_at s.core.scopes scope) (object_at s.core.scopes scope) s.core.serial t.sites s.watchers;
-  linked = Some (record { template = t; page = page_on number scope t s.core });
+  linked = Some (record { template = t; page = page_on number scope t s });
+  next_node = s.next_node + nodes t.parts;
 }

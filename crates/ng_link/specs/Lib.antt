@@ -4,7 +4,9 @@ pub mod Shape
 pub mod Holes
 pub mod Rows
 pub mod Building
+pub mod Handlers
 pub mod State
+pub mod Events
 pub mod Calls
 pub mod Standing
 pub mod Firing

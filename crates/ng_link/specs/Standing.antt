@@ -16,10 +16,9 @@ use Rattle.ng_link.specs.Sources.{sources}
 use Rattle.ng_link.specs.State.{Page, keys_of, Linked, state_of, places_of, looks_in}
 use Rattle.ng_link.specs.declared.works.Works.{Works}
 
--- a template's parts stand with the keys of an instance, from a name on
+-- a template's parts stand with the keys of an instance, from its first node on
 pub record HasShape (t : Template) (p : Page) (ts : Stands) : Type 0 where
-  pub name : ℕ
-  pub shape : ts ≡ shape (keys_of p) name t.parts
+  pub shape : ts ≡ shape (keys_of p) p.node t.parts
   pub count : p.count ≡ length t.sites
   pub holes : HolesBelow p.count t.parts
 

@@ -2,10 +2,13 @@
 use Rattle.std.specs.Prelude.{ℕ, zero, suc, ◌+◌, ◌-◌, ◌&&◌, Bool, false, List, [], ◌∷◌, Option, Some, None, map, length, option_map, unwrap_or, slice_get, not, is_some, nat_le, nat_lt, if◌then◌else◌}
 use Rattle.std.specs.Map.{lookup}
 use Rattle.std.specs.Str.{bytes_eq}
+use Rattle.std.specs.declared.alloc.Global.{Global}
+use Rattle.std.specs.declared.vec.Vec.{Vec}
 use Rattle.ng_act.specs.Frames as cores
 use Rattle.ng_act.specs.State as act
 use Rattle.ng_base.specs.Views.{ViewTree}
 use Rattle.ng_base.specs.declared.path.Key.{Key}
+use Rattle.ng_dom.specs.Document.{next_name}
 use Rattle.ng_dom.specs.Drawing.{Look}
 use Rattle.ng_drawing.specs.Drawing.{Rendered, shown_as}
 use Rattle.ng_drawing.specs.Instance as instances
@@ -17,23 +20,29 @@ use Rattle.ng_markup.specs.Forest.{Forest, no_nodes}
 use Rattle.ng_parse.specs.ProgramOf.{program}
 use Rattle.ng_template.specs.Kept.{Named}
 use Rattle.ng_template.specs.Kept as templates
+use Rattle.ng_template.specs.Seen.{handler_of}
+use Rattle.ng_template.specs.declared.acts.Handler.{Handler}
 use Rattle.ng_value.specs.Snaps.{snap_of}
 use Rattle.ng_value.specs.declared.snapshot.Snap.{Snap}
 use Rattle.ng_watch.specs.Keys.{is_key}
 use Rattle.ng_watch.specs.Seen.{Watcher}
 use Rattle.ng_watch.specs.Table.{Table, watchers_of, found}
+use Rattle.ng_link.specs.Handlers.{Handled}
 use Rattle.ng_link.specs.Shape.{key_on, keys_from}
 use Rattle.ng_link.specs.declared.works.Linked as code
 use Rattle.ng_link.specs.declared.works.Listener.{Listener}
 use Rattle.ng_link.specs.declared.works.Works.{Works}
 
--- an instance that stands: its template and scope by number, the path of its sites' keys, the number of the first, and how many
+-- an instance that stands: its template and scope by number; the path of its sites' keys, the number of the first, and how many;
+-- the name of its first node, and what handles events at its nodes
 pub record Page : Type 0 where
   pub template : ℕ
   pub scope : ℕ
   pub path : List ℕ
   pub first : ℕ
   pub count : ℕ
+  pub node : ℕ
+  pub handlers : Handled
 
 -- the keys of its sites by number
 abbrev pub keys_of : Page → ℕ → Key
@@ -58,13 +67,14 @@ abbrev pub Declared : Type 0
 Declared = List (Key × Listening)
 
 -- The state of a page: the core; the live watchers, with what they have kept; the sites that rest, with what they had kept; the
--- programs of declared watches; and what is linked. All lists are in key order.
+-- programs of declared watches; what is linked; and the name of the next node. All lists are in key order.
 pub record State : Type 0 where
   pub core : act.State
   pub watchers : Table
   pub resting : Resting
   pub declared : Declared
   pub linked : Option Linked
+  pub next_node : ℕ
 
 -- whether a key is on a path, with one of so many numbers from the first on
 abbrev pub is_in : List ℕ → ℕ → ℕ → Key → Bool
@@ -146,9 +156,20 @@ template_at all n = option_map (λ k. k.1) (slice_get all n)
 abbrev pub template_or : List Named → ℕ → Template
 template_or all n = unwrap_or (template_at all n) (record { parts = no_parts; sites = [] })
 
+abbrev pub handled_of : List (ℕ × Vec Handler Global) → Handled
+handled_of t = map (λ e. (e.0, map handler_of e.1.items)) t
+
 -- an instance keeps for each site the node that it is drawn in
 abbrev pub page_of : code.Linked → Page
-page_of i = record { template = i.template.0; scope = i.scope.0; path = i.path; first = i.first; count = length i.spots.items }
+page_of i = record {
+  template = i.template.0;
+  scope = i.scope.0;
+  path = i.path;
+  first = i.first;
+  count = length i.spots.items;
+  node = i.node;
+  handlers = handled_of i.handlers.entries;
+}
 
 abbrev pub linked_of : List Named → Option code.Linked → Option Linked
 linked_of all i = option_map (λ p. record { template = template_or all p.template.0; page = page_of p }) i
@@ -169,6 +190,7 @@ state_of w = record {
   resting = resting_of w.resting.entries;
   declared = declared_of w.declared.entries;
   linked = linked_of (templates_of w) w.page;
+  next_node = next_name w.dom;
 }
 
 -- the node that the site of a key is drawn in

@@ -1,5 +1,5 @@
 //! The laws of what stands. Each function's contract is the law.
-ghost use Rattle.ng_link.specs.Laws.{PageDisplaysInstance, ShapeDrawsParts, StandingWithCore, WatchersAreFound};
+ghost use Rattle.ng_link.specs.Laws.{PageDisplaysInstance, PageHasItsNames, ShapeDrawsParts, StandingWithCore, WatchersAreFound};
 
 /// What stands of parts is drawn as the parts are, whatever their sites show.
 pub fn shape_draws_parts()
@@ -9,6 +9,11 @@ pub fn shape_draws_parts()
 /// A page that stands displays the drawing of its template with what its instance has kept, and nothing where none is linked.
 pub fn page_displays_instance()
     ensures { PageDisplaysInstance }
+{}
+
+/// The document of a page that stands has the names that its instance says.
+pub fn page_has_its_names()
+    ensures { PageHasItsNames }
 {}
 
 /// What stands asks of the core only that no number of registration is given anew, and that no object is lost.

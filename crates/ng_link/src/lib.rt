@@ -10,6 +10,7 @@
 //!   what each is drawn from, and are shown by one call at the end.
 //! - `keep` has the watcher of a key keep a snapshot, and the node that its site is drawn in is drawn anew: a text joined from what
 //!   all its holes show, or the attributes of an element.
+//! - `handlers` gives the programs that handle an event of the document at a node. They stand in a table by the names of nodes.
 //! - `declare`, `undeclare` and `unset` are for the watches that programs declare, which are drawn nowhere.
 //! - A site rests where its scope has died (`leave`) or its one-time binding has ended (`end_over`): it has no watcher any more,
 //!   and goes on showing what it had kept.
@@ -35,6 +36,7 @@ mod copying;
 mod counting;
 mod declaring;
 mod firing;
+mod handling;
 pub mod instance;
 pub mod laws;
 pub mod linking;

@@ -17,6 +17,7 @@ ghost use Rattle.ng_link.specs.State.{state_of, templates_of, template_at};
 
 use crate::building::build_parts;
 use crate::counting::is_too_large;
+use crate::handling::enter_parts;
 use crate::placing::watch_all;
 use crate::works::{InstId, Linked, Works};
 use ng_base::fault::{Fault, Memory};
@@ -25,6 +26,7 @@ use ng_base::path::Path;
 use ng_dom::dom::Dom;
 use ng_template::Parts;
 use std::alloc::Global;
+use std::collections::BTreeMap;
 
 /// Parts become the whole document. The answer is the node of each site.
 fn link_document(
@@ -38,6 +40,7 @@ fn link_document(
     ensures shows { OnOk result (Shows dom.new (shows unset (shape (keys_from path.now first) (next_name dom.old) (parts_of parts.now)))) }
     ensures homed { OnOk result (HomedAll (sources dom.new) (shape (keys_from path.now first) (next_name dom.old) (parts_of parts.now))) }
     ensures holes { IfOk result (λ h. h.items ≡ holes (next_name dom.old) (parts_of parts.now)) }
+    ensures next { OnOk result (next_name dom.new ≡ next_name dom.old + nodes (parts_of parts.now)) }
     ensures faults { IfErr result (λ e. is_memory e ≡ true) }
 {
     let mut spots = Vec::new(alloc);
@@ -85,6 +88,9 @@ impl Works {
         };
         let object = self.core.scopes.object(scope);
         let path = self.core.scopes.path(scope).copied()?;
+        let node = self.dom.next_name();
+        let mut handlers = BTreeMap::new(self.alloc);
+        enter_parts(self.alloc, &mut handlers, node, tpl.parts().as_slice())?;
         let spots = link_document(self.alloc, &mut self.dom, &path, first, tpl.parts())?;
         watch_all(
             &mut self.watchers,
@@ -101,6 +107,8 @@ impl Works {
             path,
             first,
             spots,
+            node,
+            handlers,
         });
         Ok(InstId(0))
     }

@@ -19,6 +19,7 @@ use ng_base::path::{Key, Path};
 use ng_dom::dom::Dom;
 use ng_parse::Program;
 use ng_template::Templates;
+use ng_template::acts::Handler;
 use ng_value::snapshot::Snap;
 use ng_watch::watchers::Watchers;
 use std::alloc::Global;
@@ -29,7 +30,7 @@ use std::collections::BTreeMap;
 pub struct InstId(pub u32);
 
 /// An instance that stands. The keys of its sites have this path, and their numbers rise from `first` on. For each site there is
-/// the name of the node that it is drawn in.
+/// the name of the node that it is drawn in. The names of its nodes rise from `node` on, and its handlers stand by these.
 #[derive(Drop)]
 pub struct Linked {
     pub(crate) template: TplId,
@@ -37,6 +38,8 @@ pub struct Linked {
     pub(crate) path: Path,
     pub(crate) first: u64,
     pub(crate) spots: Vec<u64>,
+    pub(crate) node: u64,
+    pub(crate) handlers: BTreeMap<u64, Vec<Handler>>,
 }
 
 /// The program that a declared watch runs, and the scope that it runs on.
@@ -146,13 +149,5 @@ impl Works {
         ensures { option_map (λ l. listening_of l.now) result ≡ lookup (is_key key.now) (state_of self.now).declared }
     {
         self.declared.get(key)
-    }
-
-    /// Says where the walk over the watchers stands: the next calls at this key, or right after it, find it without a search.
-    /// Nothing that contracts see changes.
-    pub fn seek(&mut self, key: &Key)
-        ensures unchanged { self.new ≡ self.old }
-    {
-        self.watchers.seek(key);
     }
 }

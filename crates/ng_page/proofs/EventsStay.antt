@@ -1,49 +1,71 @@
--- What programs never take back: a fault that was handed over stays, each scope keeps its object, and no number of registration
--- is given anew. Events keep it.
-use Rattle.std.proofs.Common.{◌≡◌, ◌≤◌, ◌+◌, arith, ℕ, zero, suc, Bool, true, false, if◌then◌else◌, List, [], ◌∷◌, Option, Some, None, Result, Ok, Err, refl, ◌∙◌}
+-- What programs never take back: a fault that was handed over stays, each scope keeps its object, no number of registration is
+-- given anew, and no object is lost. Events keep it.
+use Rattle.std.proofs.Common.{◌≡◌, ◌≤◌, ◌+◌, arith, ℕ, zero, suc, Bool, true, false, if◌then◌else◌, List, [], ◌∷◌, length, Option, Some, None, Result, Ok, Err, refl, ◌∙◌}
 use Rattle.std.specs.Prelude.{codes, is_some}
 use Rattle.ng_act.specs.declared.core_state.Handed.{Handed}
 use Rattle.ng_base.specs.Views.{ViewTree}
+use Rattle.ng_base.specs.declared.value.Value.{Value}
 use Rattle.ng_base.specs.declared.fault.Fault.{Fault}
 use Rattle.ng_behaviour.specs.Listeners.{Listener, heard_at, place_of}
 use Rattle.ng_behaviour.specs.Scopes.{Scope, live_at, next_scope, object_at, parent_at, path_at, without_scope}
 use Rattle.ng_behaviour.proofs.Dying.{dead-keeps}
 use Rattle.ng_act.specs.Actions.{Doing, Asked, a_body, a_broadcast, Event, turned, takes_turn, listener_at, turns, upfrom, visited, visits, shows_current, event_locals, object_value, rises, sweeps, next_then, hushed, hushes, deadened, buried, destroys, many}
+use Rattle.ng_act.proofs.Grows.{named-grows}
 use Rattle.ng_act.specs.State.{State, handed, handed_over, first_or, with_change, leaves, is_stopped}
 
--- the faults that were handed over, the scopes, and the next number of registration
+-- the faults that were handed over, the scopes, the next number of registration, and how many objects there are
 pub record Part : Type 0 where
   pub faults : Handed
   pub scopes : List Scope
   pub serial : ℕ
+  pub count : ℕ
 
 abbrev pub part : State → Part
-part s = record { faults = s.handed; scopes = s.scopes; serial = s.serial }
+part s = record { faults = s.handed; scopes = s.scopes; serial = s.serial; count = length s.objects }
 
 pub record Stays (x y : Part) : Type 0 where
   pub some : is_some x.faults.first ≡ true → is_some y.faults.first ≡ true
   pub objects : (s : ℕ) → object_at y.scopes s ≡ object_at x.scopes s
   pub serial : x.serial ≤ y.serial
+  pub grown : x.count ≤ y.count
 
 pub stays_refl : (x : Part) → Stays x x
-stays_refl x = record { some = λ h. h; objects = λ s. refl; serial = omega arith }
+stays_refl x = record { some = λ h. h; objects = λ s. refl; serial = omega arith; grown = omega arith }
 
 pub stays_trans : (x y z : Part) → Stays x y → Stays y z → Stays x z
-stays_trans x y z a b = record { some = λ h. b.some (a.some h); objects = λ s. b.objects s ∙ a.objects s; serial = let m : x.serial ≤ y.serial = a.serial in let n : y.serial ≤ z.serial = b.serial in omega arith }
+stays_trans x y z a b = record {
+  some = λ h. b.some (a.some h);
+  objects = λ s. b.objects s ∙ a.objects s;
+  serial = let m : x.serial ≤ y.serial = a.serial in let n : y.serial ≤ z.serial = b.serial in omega arith;
+  grown = let m : x.count ≤ y.count = a.grown in let n : y.count ≤ z.count = b.grown in omega arith;
+}
 
 pub some_first : (o : Option Fault) (f : Fault) → is_some (first_or o f) ≡ true
 some_first None f = refl
 some_first (Some e) f = refl
 
-pub fault_stays : (f : Fault) (x : Part) → Stays x (record { faults = handed_over f x.faults; scopes = x.scopes; serial = x.serial })
-fault_stays f x = record { some = λ h. some_first x.faults.first f; objects = λ s. refl; serial = omega arith }
+pub fault_stays : (f : Fault) (x : Part) → Stays x (record { faults = handed_over f x.faults; scopes = x.scopes; serial = x.serial; count = x.count })
+fault_stays f x = record { some = λ h. some_first x.faults.first f; objects = λ s. refl; serial = omega arith; grown = omega arith }
 
 -- a number of registration is given
-pub number_stays : (x : Part) → Stays x (record { faults = x.faults; scopes = x.scopes; serial = x.serial + 1 })
-number_stays x = record { some = λ h. h; objects = λ s. refl; serial = omega arith }
+pub number_stays : (x : Part) → Stays x (record { faults = x.faults; scopes = x.scopes; serial = x.serial + 1; count = x.count })
+number_stays x = record { some = λ h. h; objects = λ s. refl; serial = omega arith; grown = omega arith }
 
-dead_stays : (scope : ℕ) (x : Part) → Stays x (record { faults = x.faults; scopes = without_scope x.scopes scope; serial = x.serial })
-dead_stays scope x = record { some = λ h. h; objects = λ s. dead-keeps (λ (c : Scope). c.object) (path_at x.scopes scope) x.scopes s (λ c. refl); serial = omega arith }
+-- objects are made or written
+pub objects_stay : (x : Part) (n : ℕ) → x.count ≤ n → Stays x (record { faults = x.faults; scopes = x.scopes; serial = x.serial; count = n })
+objects_stay x n h = record { some = λ i. i; objects = λ s. refl; serial = omega arith; grown = h }
+
+dead_stays : (scope : ℕ) (x : Part) → Stays x (record { faults = x.faults; scopes = without_scope x.scopes scope; serial = x.serial; count = x.count })
+dead_stays scope x = record {
+  some = λ h. h;
+  objects = λ s. dead-keeps (λ (c : Scope). c.object) (path_at x.scopes scope) x.scopes s (λ c. refl);
+  serial = omega arith;
+  grown = omega arith;
+}
+
+-- the scope that an event has reached is written in it
+pub current_stays : (e : Event) (v : Value) (s : State) → Stays (part s) (part (shows_current e v s))
+current_stays e v s = objects_stay (part s) (length (shows_current e v s).objects) (named-grows s.objects e.object (codes "currentScope") v)
 
 -- what opens bodies and events keeps it
 abbrev pub OnlyStays : Doing → Type 0
@@ -81,7 +103,8 @@ if_stay false x t u h k = k
 pub visits_stay : (go : Doing) → OnlyStays go → (e : Event) (sc : ℕ) (s : State) → Stays (part s) (part (visits go e sc s))
 visits_stay go th e sc s =
     let t : State = shows_current e (object_value (object_at s.scopes sc)) s in
-    if_stay (live_at s.scopes sc) (part s) (visited go e sc (place_of s.heard sc e.name) t) s (visited_stay go th e sc (place_of s.heard sc e.name) t) (stays_refl (part s))
+    if_stay (live_at s.scopes sc) (part s) (visited go e sc (place_of s.heard sc e.name) t) s
+    (stays_trans (part s) (part t) (part (visited go e sc (place_of s.heard sc e.name) t)) (current_stays e (object_value (object_at s.scopes sc)) s) (visited_stay go th e sc (place_of s.heard sc e.name) t)) (stays_refl (part s))
 
 pub rises_stay : (k : ℕ) (go : Doing) → OnlyStays go → (e : Event) (o : Option ℕ) (s : State) → Stays (part s) (part (rises k go e o s))
 rises_stay zero go th e o s = stays_refl (part s)

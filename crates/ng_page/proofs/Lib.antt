@@ -19,3 +19,6 @@ pub mod Programs
 pub mod Ending
 pub mod Commanding
 pub mod Aimed
+pub mod Turns
+pub mod Bubbling
+pub mod Answering

@@ -70,7 +70,7 @@ linked_watched t s order = record {
       (sites_found (path_at s.core.scopes 0) (object_at s.core.scopes 0) s.core.serial t.sites s.watchers j x e));
 }
 
-rest_cases : (P : State → Type 0) (b : Bool) (s t : State) → P s → P t → P (cond b s t)
+pub rest_cases : (P : State → Type 0) (b : Bool) (s t : State) → P s → P t → P (cond b s t)
 rest_cases P true s t h g = h
 rest_cases P false s t h g = g
 

@@ -24,8 +24,10 @@ use Rattle.ng_watch.specs.Keys.{key_cmp}
 use Rattle.ng_link.specs.declared.works.Works.{Works}
 use Rattle.ng_page.specs.Commands.{program_run}
 use Rattle.ng_page.specs.Opening.{prepared, linked_by, linked_on}
-use Rattle.ng_page.specs.PlaceOf.{WorksAre}
+use Rattle.ng_page.specs.PlaceOf.{WorksAre, PageIs}
 use Rattle.ng_page.specs.Settled.{IsLinkedIn, IsWatched}
+use Rattle.ng_page.proofs.Sites.{SitesStay, left_sites}
+use Rattle.ng_page.proofs.Watched.{watched_stays}
 use Rattle.ng_page.proofs.Opened.{whole_left, whole_linked, root_watched, template_there}
 
 -- works where nothing is watched or linked yet
@@ -69,6 +71,12 @@ pub works_left : (v w : Works) (p : List ℕ) → state_of w ≡ left_at p (stat
 works_left v w p e core stands ts h = record {
   whole = whole_left v w p e (λ s. subst IsSound (sym core) s) (ap (λ (c : Core). c.depth) core) stands h.whole;
   templates = subst (λ t. 0 < length t) (sym ts) h.templates;
+}
+
+pub page_rested : (v w : Works) (p : List ℕ) → state_of w ≡ left_at p (state_of v) → w.core ≡ v.core → ((ts : Stands) → Standing v ts → Standing w ts) → templates_of w ≡ templates_of v → PageIs v → PageIs w
+page_rested v w p e core stands ts h = record {
+  works = works_left v w p e core stands ts h.works;
+  watched = watched_stays (state_of v) (state_of w) (subst (SitesStay (state_of v)) (sym e) (left_sites p (state_of v))) h.watched;
 }
 
 -- the template is linked, and what holds of the works holds

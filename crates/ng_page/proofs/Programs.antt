@@ -1,7 +1,8 @@
 -- The calls of a core, as commands make them.
-use Rattle.std.proofs.Common.{◌≡◌, ◌-◌, ℕ, List, [], map, Result, Ok, Err, ap, sym, subst, ◌∙◌}
+use Rattle.std.proofs.Common.{◌≡◌, ◌-◌, ℕ, List, [], ◌∷◌, map, Result, Ok, Err, ap, sym, subst, ◌∙◌}
+use Rattle.std.specs.Prelude.{codes}
 use Rattle.serde_json.specs.Data.{Data}
-use Rattle.ng_act.specs.Actions.{Asked, does, destroys}
+use Rattle.ng_act.specs.Actions.{Asked, does, destroys, object_value}
 use Rattle.ng_act.specs.Frames.{Acts}
 use Rattle.ng_act.specs.Running.{act_run, as_value_run, same}
 use Rattle.ng_act.specs.State.{State, Run, ◌>>=◌, with_locals}
@@ -12,6 +13,7 @@ use Rattle.ng_fire.specs.Runs.{asked_first}
 use Rattle.ng_language.specs.Trees.{Trees}
 use Rattle.ng_view.specs.Evaluation.{Local}
 use Rattle.ng_page.specs.Commands.{back, program_run, destroyed, json_run, items_in}
+use Rattle.ng_page.specs.Dispatch.{handler_run}
 
 same_locals : (n c : State) → n.locals ≡ c.locals → with_locals c.locals n ≡ n
 same_locals n c e = ap (λ ls. with_locals ls n) (sym e)
@@ -25,6 +27,13 @@ pub program_acts : (r : Result Value Fault) (n c : State) (ls : List Local) (dep
 unfolding program_run
 program_acts r n c ls depth scope p z e h = back_of r n c ls (act_run 64 scope [] p c) e (subst (λ d. Acts same r (with_locals ls n) (act_run (64 - d) scope [] p c)) z h)
 
+-- and so does a handler's, whose one local is `$event`
+pub handler_acts : (r : Result Value Fault) (n c : State) (ls : List Local) (depth scope o : ℕ) (p : Trees) → depth ≡ 0 → n.locals ≡ c.locals
+    → Acts same r (with_locals ls n) (act_run (64 - depth) scope ((codes "$event", object_value o) ∷ []) p c) → Acts same r n (handler_run scope o p c)
+unfolding handler_run
+handler_acts r n c ls depth scope o p z e h =
+    back_of r n c ls (act_run 64 scope ((codes "$event", object_value o) ∷ []) p c) e (subst (λ d. Acts same r (with_locals ls n) (act_run (64 - d) scope ((codes "$event", object_value o) ∷ []) p c)) z h)
+
 pub destroyed_acts : (n c : State) (depth scope : ℕ) → depth ≡ 0 → n ≡ destroys (does (64 - depth)) scope c → n ≡ destroyed scope c
 unfolding destroyed
 destroyed_acts n c depth scope z h = subst (λ d. n ≡ destroys (does (64 - d)) scope c) z h
@@ -33,11 +42,11 @@ first_of : (r : Result Value Fault) (n c : State) (depth : ℕ) (a : Asked) → 
 unfolding asked_first
 first_of r n c depth a z h = subst (λ d. Acts same r n (as_value_run (does (64 - d) a c))) z h
 
-bound_ok : (run : Run Value) (m : State) (v : Value) (f : Value → State → Run Value) → run ≡ (m, Ok v) → (run >>= f) ≡ f v m
-bound_ok run m v f e = ap (λ (x : Run Value). x >>= f) e
+pub bound_ok : {A B : Type 0} (run : Run A) (m : State) (v : A) (f : A → State → Run B) → run ≡ (m, Ok v) → (run >>= f) ≡ f v m
+bound_ok {A = A} run m v f e = ap (λ (x : Run A). x >>= f) e
 
-bound_err : (run : Run Value) (m : State) (g : Fault) (f : Value → State → Run Value) → run ≡ (m, Err g) → (run >>= f) ≡ (m, Err g)
-bound_err run m g f e = ap (λ (x : Run Value). x >>= f) e
+pub bound_err : {A B : Type 0} (run : Run A) (m : State) (g : Fault) (f : A → State → Run B) → run ≡ (m, Err g) → (run >>= f) ≡ (m, Err g)
+bound_err {A = A} run m g f e = ap (λ (x : Run A). x >>= f) e
 
 module _ (event : List ViewTree → Asked) where
   abbrev pub goes : Value → State → Run Value

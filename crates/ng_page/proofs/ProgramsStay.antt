@@ -1,5 +1,5 @@
--- Programs never take back a fault that was handed over, and each scope keeps its object, whatever they open.
-use Rattle.std.proofs.Common.{ℕ, zero, suc, Bool, true, false, if◌then◌else◌, List, [], ◌∷◌, ◌++◌, length, map, drop, Some, Result, Ok, Err}
+-- Programs never take back a fault that was handed over, each scope keeps its object, and no object is lost, whatever they open.
+use Rattle.std.proofs.Common.{◌≤◌, ℕ, zero, suc, Bool, true, false, if◌then◌else◌, List, [], ◌∷◌, ◌++◌, length, map, drop, Some, Result, Ok, Err}
 use Rattle.std.specs.Prelude.{slice_get, nat_lt}
 use Rattle.std.specs.Str.{bytes_eq}
 use Rattle.indexmap.specs.IndexMap.{insert_entry}
@@ -7,6 +7,7 @@ use Rattle.ng_base.specs.Views.{ViewTree, prim, list, rec, no_fields, views_from
 use Rattle.ng_base.specs.declared.fault.Fault.{Fault}
 use Rattle.ng_base.specs.declared.fault.Fault.TheVariants.{CallLimit, StoreFull}
 use Rattle.ng_base.specs.declared.value.Value.{Value}
+use Rattle.ng_base.specs.declared.value.Value.TheVariants as value
 use Rattle.ng_behaviour.specs.Scopes.{live_at, object_at}
 use Rattle.ng_language.specs.declared.snapshots.SnapKind.{SnapKind}
 use Rattle.ng_language.specs.declared.snapshots.SnapKind.TheVariants as snaps
@@ -18,18 +19,20 @@ use Rattle.ng_view.specs.Members.{member, item}
 use Rattle.ng_view.specs.Methods.{argument, method_value}
 use Rattle.ng_write.specs.Storing.{stored}
 use Rattle.ng_write.specs.Changing.{changed}
+use Rattle.ng_write.specs.Events.{event_called}
 use Rattle.ng_write.specs.Making.{value_in, made_member}
 use Rattle.ng_write.specs.Written.{Written}
 use Rattle.ng_write.specs.declared.events.EventCall.{EventCall}
 use Rattle.ng_write.specs.declared.events.EventCall.TheVariants as event_calls
+use Rattle.ng_act.proofs.Grows.{stored-grows, called-grows, assigned_name-grows, assigned-grows, made-grows, changed-grows, event-grows}
 use Rattle.ng_act.specs.Calling.{called_on, value_called, is_nothing, outlives, program_given, watch_given, watch_kind, Found, no_function, takes, unwatches, opens, found_in}
 use Rattle.ng_act.specs.State.{written, State, Run, ◌>>=◌, given, with_objects, with_locals, with_body, with_task}
 use Rattle.ng_act.specs.declared.called.Called.{Called}
 use Rattle.ng_act.specs.declared.called.Called.TheVariants as calls
 use Rattle.ng_act.specs.declared.called.ScopeMethod.{ScopeMethod}
 use Rattle.ng_act.specs.declared.called.ScopeMethod.TheVariants as methods
-use Rattle.ng_act.specs.Actions.{as_view_run, watches, with_event, Doing, a_body, an_emit, a_broadcast, Event, Place, bare, within, nothing, stores, stores_result, filter_result, assigns, assigns_name, makes_name, makes_member, is_missing, index_name, item_called, found_run, ons, listens, declares, defers, method_run, scope_run, event_run, runs, acted, reached, whole_reached, left, made, acted_all, acted_pair, acted_pairs, statements, programmed, announced, finished, rises, sweeps, visits, many, body_run, done, does}
-use Rattle.ng_page.proofs.EventsStay.{Part, part, Stays, stays_refl, stays_trans, number_stays, OnlyStays, visits_stay, rises_stay, sweeps_stay, destroys_stay}
+use Rattle.ng_act.specs.Actions.{as_view_run, watches, with_event, Doing, a_body, an_emit, a_broadcast, Event, Place, bare, within, nothing, stores, stores_result, filter_result, assigns, assigns_name, assigns_member, makes_name, makes_member, is_missing, index_name, item_called, found_run, ons, listens, declares, defers, method_run, scope_run, event_run, runs, acted, reached, whole_reached, left, made, acted_all, acted_pair, acted_pairs, statements, programmed, announced, finished, rises, sweeps, visits, many, body_run, done, does}
+use Rattle.ng_page.proofs.EventsStay.{Part, part, Stays, stays_refl, stays_trans, number_stays, objects_stay, current_stays, OnlyStays, visits_stay, rises_stay, sweeps_stay, destroys_stay}
 
 pub bind_stay : {A B : Type 0} (x : Part) (t : State) (o : Result A Fault) (f : A → State → Run B) → Stays x (part t) → ((v : A) (a : State) → Stays (part a) (part (f v a).0)) → Stays x (part ((t, o) >>= f).0)
 bind_stay x t (Ok v) f h k = stays_trans x (part t) (part (f v t).0) h (k v t)
@@ -39,29 +42,29 @@ pub run_stay : {A : Type 0} (b : Bool) (x : Part) (r q : Run A) → Stays x (par
 run_stay true x r q h k = h
 run_stay false x r q h k = k
 
-as_view_stay : (s : State) (w : Written Value) → Stays (part s) (part (as_view_run (written w s)).0)
-as_view_stay s w = bind_stay (part s) (with_objects w.0 s) w.1 (λ v a. (a, Ok (prim v))) (stays_refl (part s)) (λ v a. stays_refl (part a))
+as_view_stay : (s : State) (w : Written Value) → length s.objects ≤ length w.0 → Stays (part s) (part (as_view_run (written w s)).0)
+as_view_stay s w h = bind_stay (part s) (with_objects w.0 s) w.1 (λ v a. (a, Ok (prim v))) (objects_stay (part s) (length w.0) h) (λ v a. stays_refl (part a))
 
 pub stores_stay : (t : ViewTree) (s : State) → Stays (part s) (part (stores t s).0)
-stores_stay t s = as_view_stay s (stored s.objects t)
+stores_stay t s = as_view_stay s (stored s.objects t) (stored-grows s.objects t)
 
 result_stay : (s : State) (o : Result ViewTree Fault) → Stays (part s) (part (stores_result o s).0)
 result_stay s (Ok t) = stores_stay t s
 result_stay s (Err e) = stays_refl (part s)
 
 assigns_stay : (scope : ℕ) (p : Place) (t : ViewTree) (s : State) → Stays (part s) (part (assigns scope p t s).0)
-assigns_stay scope (bare name) t s = stays_refl (part s)
-assigns_stay scope (within o name) t s = stays_refl (part s)
+assigns_stay scope (bare name) t s = objects_stay (part s) (length (assigns_name scope name t s).0.objects) (assigned_name-grows s.objects (object_at s.scopes scope) s.locals name (value_in t))
+assigns_stay scope (within o name) t s = objects_stay (part s) (length (assigns_member o name t s).0.objects) (assigned-grows s.objects (value_in o) name (value_in t))
 
 makes_name_stay : (scope : ℕ) (name : List ℕ) (s : State) → Stays (part s) (part (makes_name scope name s).0)
 makes_name_stay scope name s =
     let r : Run ViewTree = stores (rec no_fields) s in
     run_stay (is_missing (named s.objects (object_at s.scopes scope) s.locals name)) (part s) (r >>= λ v t. assigns_name scope name v t) (s, Ok (named s.objects (object_at s.scopes scope) s.locals name))
-    (bind_stay (part s) r.0 r.1 (λ v t. assigns_name scope name v t) (stores_stay (rec no_fields) s) (λ v t. stays_refl (part t)))
+    (bind_stay (part s) r.0 r.1 (λ v t. assigns_name scope name v t) (stores_stay (rec no_fields) s) (λ v t. assigns_stay scope (bare name) v t))
     (stays_refl (part s))
 
 makes_member_stay : (o : ViewTree) (name : List ℕ) (s : State) → Stays (part s) (part (makes_member o name s).0)
-makes_member_stay o name s = as_view_stay s (made_member s.objects (value_in o) name)
+makes_member_stay o name s = as_view_stay s (made_member s.objects (value_in o) name) (made-grows s.objects (value_in o) name)
 
 found_stay : (go : Doing) → OnlyStays go → (f : ℕ) (o : Found) (s : State) → Stays (part s) (part (found_run go f o s).0)
 found_stay go th f no_function s = stays_refl (part s)
@@ -102,15 +105,15 @@ scope_stay go th scope m args s =
     run_stay (outlives m) (part s) r (if live_at s.scopes scope then r else (s, Ok nothing)) h (run_stay (live_at s.scopes scope) (part s) r (s, Ok nothing) h (stays_refl (part s)))
 
 event_stay : (e : ℕ) (m : EventCall) (s : State) → Stays (part s) (part (event_run e m s))
-event_stay e event_calls.StopPropagation s = stays_refl (part s)
-event_stay e event_calls.PreventDefault s = stays_refl (part s)
+event_stay e event_calls.StopPropagation s = objects_stay (part s) (length (event_called s.objects e event_calls.StopPropagation)) (called-grows s.objects e event_calls.StopPropagation)
+event_stay e event_calls.PreventDefault s = objects_stay (part s) (length (event_called s.objects e event_calls.PreventDefault)) (called-grows s.objects e event_calls.PreventDefault)
 
 runs_stay : (go : Doing) → OnlyStays go → (c : Called) (t : ViewTree) (args : List ViewTree) (s : State) → Stays (part s) (part (runs go c t args s).0)
 runs_stay go th calls.Nothing t args s = stays_refl (part s)
 runs_stay go th calls.Other t args s = stays_refl (part s)
 runs_stay go th (calls.Function f) t args s = found_stay go th f.0 (found_in s.objects (slice_get s.funs f.0) args) s
 runs_stay go th (calls.Pure m) t args s = result_stay s (method_value s.objects m t args)
-runs_stay go th (calls.OfArray o m) t args s = as_view_stay s (changed s.objects m o.0 (map value_in args))
+runs_stay go th (calls.OfArray o m) t args s = as_view_stay s (changed s.objects m o.0 (map value_in args)) (changed-grows s.objects m o.0 (map value_in args))
 runs_stay go th (calls.OfEvent e m) t args s = event_stay e.0 m s
 runs_stay go th (calls.OfScope scope m) t args s = scope_stay go th scope.0 m args s
 
@@ -234,8 +237,13 @@ announced_stay scope name args s =
     let r : Run ViewTree = stores (list (views_from args)) t in
     let f : ViewTree → State → Run Event = λ v u. (u, Ok (record { object = length s.objects; args = v; name = name })) in
     run_stay (nat_lt (length s.objects) 999999) (part s) (r >>= f) (s, Err StoreFull)
-    (bind_stay (part s) r.0 r.1 f (stores_stay (list (views_from args)) t) (λ v u. stays_refl (part u)))
+    (bind_stay (part s) r.0 r.1 f
+    (stays_trans (part s) (part t) (part r.0) (objects_stay (part s) (length t.objects) (event-grows s.objects (object_at s.scopes scope) name)) (stores_stay (list (views_from args)) t))
+    (λ v u. stays_refl (part u)))
     (stays_refl (part s))
+
+finished_stay : (x : Part) (e : Event) (s : State) → Stays x (part s) → Stays x (part (finished e s).0)
+finished_stay x e s h = stays_trans x (part s) (part (finished e s).0) h (current_stays e value.Null s)
 
 pub does_stay : (room : ℕ) → OnlyStays (does room)
 does_stay zero a s = stays_refl (part s)
@@ -243,8 +251,9 @@ does_stay (suc room) (a_body scope ls p) s = body_stay (does room) (does_stay ro
 does_stay (suc room) (an_emit scope name args) s =
     let r : Run Event = announced scope name args s in
     bind_stay (part s) r.0 r.1 (λ e t. finished e (rises (many t) (does room) e (Some scope) t)) (announced_stay scope name args s)
-    (λ e t. rises_stay (many t) (does room) (does_stay room) e (Some scope) t)
+    (λ e t. finished_stay (part t) e (rises (many t) (does room) e (Some scope) t) (rises_stay (many t) (does room) (does_stay room) e (Some scope) t))
 does_stay (suc room) (a_broadcast scope name args) s =
     let r : Run Event = announced scope name args s in
     bind_stay (part s) r.0 r.1 (λ e t. finished e (sweeps (many t) (does room) e scope scope (visits (does room) e scope t))) (announced_stay scope name args s)
-    (λ e t. stays_trans (part t) (part (visits (does room) e scope t)) (part (sweeps (many t) (does room) e scope scope (visits (does room) e scope t))) (visits_stay (does room) (does_stay room) e scope t) (sweeps_stay (many t) (does room) (does_stay room) e scope scope (visits (does room) e scope t)))
+    (λ e t. finished_stay (part t) e (sweeps (many t) (does room) e scope scope (visits (does room) e scope t))
+    (stays_trans (part t) (part (visits (does room) e scope t)) (part (sweeps (many t) (does room) e scope scope (visits (does room) e scope t))) (visits_stay (does room) (does_stay room) e scope t) (sweeps_stay (many t) (does room) (does_stay room) e scope scope (visits (does room) e scope t))))

@@ -9,6 +9,7 @@ use Rattle.ng_base.specs.declared.fault.Fault.{Fault}
 use Rattle.ng_base.specs.declared.value.Value.{Value}
 use Rattle.ng_fire.specs.Whole.{IsWhole, Unless}
 use Rattle.ng_fire.proofs.Wholes.{whole_after}
+use Rattle.ng_link.specs.State as link
 use Rattle.ng_link.specs.State.{state_of, templates_of}
 use Rattle.ng_link.specs.declared.works.Works.{Works}
 use Rattle.ng_page.specs.Commands.{Asked, asked_run}
@@ -29,9 +30,17 @@ pub whole_ran : (w : Works) (d : Core) (r : Result Value Fault) (run : Run Value
 whole_ran w d (Ok v) run a stay sound idle scopes store h = whole_stays w d run.0 (ap (λ (x : Run Value). x.0) a) stay sound idle scopes store h
 whole_ran w d (Err f) run a stay sound idle scopes store h = λ e. whole_stays w d run.0 (ap (λ (x : Run Value). x.0) (a e)) stay sound idle scopes store h
 
--- what a command's program leaves is a page
-pub page_asked : (a : Asked) (v w : Works) → state_of w ≡ asked_run a (state_of v) → IsWhole w → templates_of w ≡ templates_of v → PageIs v → PageIs w
-page_asked a v w e whole ts h = record {
+-- what leaves the sites of a page leaves a page
+pub page_left : (v w : Works) (s : link.State) → state_of w ≡ s → SitesStay (state_of v) s → IsWhole w → templates_of w ≡ templates_of v → PageIs v → PageIs w
+page_left v w s e stay whole ts h = record {
   works = record { whole = whole; templates = subst (λ t. 0 < length t) (sym ts) h.works.templates };
-  watched = watched_stays (state_of v) (state_of w) (subst (SitesStay (state_of v)) (sym e) (asked_sites a (state_of v))) h.watched;
+  watched = watched_stays (state_of v) (state_of w) (subst (SitesStay (state_of v)) (sym e) stay) h.watched;
 }
+
+pub page_asked : (a : Asked) (v w : Works) → state_of w ≡ asked_run a (state_of v) → IsWhole w → templates_of w ≡ templates_of v → PageIs v → PageIs w
+page_asked a v w e whole ts h = page_left v w (asked_run a (state_of v)) e (asked_sites a (state_of v)) whole ts h
+
+-- the state that a run left, where memory was not wanted
+pub acts_left : {A B : Type 0} (seen : A → B) (r : Result A Fault) (s : State) (run : Run B) → Acts seen r s run → Unless r (run.0 ≡ s)
+acts_left {B = B} seen (Ok v) s run a = ap (λ (x : Run B). x.0) a
+acts_left {B = B} seen (Err f) s run a = λ e. ap (λ (x : Run B). x.0) (a e)

@@ -1,11 +1,12 @@
 -- What programs, fires, tasks and the end of a digest leave of sites.
-use Rattle.std.proofs.Common.{◌≡◌, ℕ, true, List, [], ◌∷◌, map, Option, Some, None, Result, Ok, Err}
+use Rattle.std.proofs.Common.{◌≡◌, ◌≤◌, ℕ, true, List, [], ◌∷◌, length, map, length-append, arith, Option, Some, None, Result, Ok, Err}
 use Rattle.std.specs.Prelude.{is_some, is_err}
 use Rattle.serde_json.specs.Data.{Data}
 use Rattle.ng_act.specs.Actions.{Asked, a_body, an_emit, a_broadcast, does, programmed, stores, nothing}
 use Rattle.ng_act.specs.Running.{as_value_run}
 use Rattle.ng_act.specs.State as act
 use Rattle.ng_act.specs.State.{Change, adds, removes, leaves, Run, Task, ◌>>=◌, handed, with_locals}
+use Rattle.ng_base.specs.Objects.{Object}
 use Rattle.ng_base.specs.Views.{ViewTree, prim}
 use Rattle.ng_base.specs.declared.fault.Fault.{Fault}
 use Rattle.ng_base.specs.declared.path.Key.{Key}
@@ -18,13 +19,13 @@ use Rattle.ng_fire.specs.Settling.{unset_all, without_probes, settled}
 use Rattle.ng_language.specs.Trees.{Trees}
 use Rattle.ng_link.specs.Calls.{with_core, keeping_at, ended_at, unset_at}
 use Rattle.ng_link.specs.State.{State, Listening}
-use Rattle.ng_store.specs.Json.{json_value}
+use Rattle.ng_store.specs.Json.{json_value, placed, with_json}
 use Rattle.ng_store.specs.declared.json.JsonFault.{JsonFault}
 use Rattle.ng_watch.specs.Table.{kept_at}
 use Rattle.ng_write.specs.Making.{value_in}
 use Rattle.ng_page.specs.Commands as commands
 use Rattle.ng_page.specs.Commands.{program_run, destroyed, json_read, json_run, items_in, emit_run, broadcast_run, asked_run, applies, queues, probes, digests, destroys_scope, emits, broadcasts}
-use Rattle.ng_page.proofs.EventsStay.{part, Stays, stays_refl, stays_trans, fault_stays, destroys_stay, some_first}
+use Rattle.ng_page.proofs.EventsStay.{part, Stays, stays_refl, stays_trans, objects_stay, fault_stays, destroys_stay, some_first}
 use Rattle.ng_page.proofs.ProgramsStay.{bind_stay, stores_stay, statements_stay, does_stay}
 use Rattle.ng_page.proofs.Sites.{SitesStay, sites_refl, sites_trans, core_sites, keeping_sites, unset_sites, declared_sites, undeclared_sites, left_sites, ended_sites}
 
@@ -36,7 +37,7 @@ noted s (Err f) = fault_stays f (part s)
 pub handed_run : {A : Type 0} (c : act.State) (r : Run A) → Stays (part c) (part r.0) → Stays (part c) (part (handed r))
 handed_run c r h = stays_trans (part c) (part r.0) (part (handed r)) h (noted r.0 r.1)
 
-value_run : (c : act.State) (r : Run ViewTree) → Stays (part c) (part r.0) → Stays (part c) (part (as_value_run r).0)
+pub value_run : (c : act.State) (r : Run ViewTree) → Stays (part c) (part r.0) → Stays (part c) (part (as_value_run r).0)
 value_run c r h = bind_stay (part c) r.0 r.1 (λ v s. (s, Ok (value_in v))) h (λ v s. stays_refl (part s))
 
 pub first_stays : (a : Asked) (c : act.State) → Stays (part c) (part (asked_first a c).0)
@@ -136,8 +137,12 @@ pub destroyed_stays : (scope : ℕ) (c : act.State) → Stays (part c) (part (de
 unfolding destroyed
 destroyed_stays scope c = destroys_stay (does 64) (does_stay 64) scope c
 
+-- JSON is read behind the objects that stand
+pub json_grows : (objects : List Object) (d : Data) → length objects ≤ length (with_json objects d)
+json_grows objects d = omega (arith, length-append objects (placed (length objects) d []).1)
+
 read_stays : (r : Result Value JsonFault) (d : Data) (c : act.State) → Stays (part c) (part (json_read r d c).0)
-read_stays (Ok v) d c = stays_refl (part c)
+read_stays (Ok v) d c = objects_stay (part c) (length (with_json c.objects d)) (json_grows c.objects d)
 read_stays (Err f) d c = stays_refl (part c)
 
 pub emit_stays : (scope : ℕ) (name : List ℕ) (d : Data) (c : act.State) → Stays (part c) (part (emit_run scope name d c).0)

@@ -1,5 +1,5 @@
 -- What holds of works stays where no program ran: where faults are handed over or forgotten, and where a task or a probe is added.
-use Rattle.std.proofs.Common.{◌≡◌, ◌<◌, ◌≤◌, ℕ, List, [], ◌∷◌, ◌++◌, map, length, refl, ap, sym, subst, ◌∙◌, arith}
+use Rattle.std.proofs.Common.{◌≡◌, ◌<◌, ◌≤◌, ℕ, List, [], ◌∷◌, ◌++◌, map, length, None, refl, ap, sym, subst, ◌∙◌, arith}
 use Rattle.std.specs.List.{AllByRecursion}
 use Rattle.ng_act.specs.Frames as cores
 use Rattle.ng_act.specs.Frames.{IsSound, TaskStands, task_of}
@@ -9,15 +9,19 @@ use Rattle.ng_act.specs.declared.pending.Task.{Task}
 use Rattle.ng_act.specs.State as act
 use Rattle.ng_base.specs.Objects.{Object}
 use Rattle.ng_behaviour.specs.Scopes.{Scope, object_at}
+use Rattle.ng_dom.specs.Document.{Shows}
 use Rattle.ng_dom.specs.Drawing.{Stands}
 use Rattle.ng_fire.specs.Whole.{IsWhole, ListenersStand, RowsStand}
 use Rattle.ng_fire.proofs.Wholes.{whole_after}
 use Rattle.ng_link.specs.Calls.{with_core}
+use Rattle.ng_link.specs.Events.{named}
 use Rattle.ng_link.specs.Standing.{Standing, Displays}
 use Rattle.ng_link.specs.State.{State, state_of, templates_of, shown}
+use Rattle.ng_link.specs.Untroubled.{untroubled}
 use Rattle.ng_link.specs.declared.works.Works.{Works}
-use Rattle.ng_link.proofs.Displayed.{page_displays}
+use Rattle.ng_link.proofs.Displayed.{page_displays, page_names}
 use Rattle.ng_page.specs.PlaceOf.{WorksAre, PageIs}
+use Rattle.ng_page.specs.Settled.{IsWatched}
 use Rattle.ng_page.proofs.Watched.{watched_core}
 
 -- the core has the scopes and objects that it had
@@ -46,6 +50,10 @@ works_alike v w c e scopes objects sound depth stands templates h = record {
 pub works_display : (w : Works) → WorksAre w → Displays w (shown (state_of w))
 works_display w h = page_displays w h.whole.standing.0 h.whole.standing.1
 
+-- and under the names that its instance says
+pub works_named : (w : Works) → WorksAre w → Shows w.dom (named (state_of w))
+works_named w h = page_names w h.whole.standing.0 h.whole.standing.1
+
 -- ---- the core of a page is another one
 
 -- a command begins: what it counts is no matter to what holds
@@ -71,6 +79,14 @@ page_with w d sound idle scopes store serial object h = record {
 
 pub begun_page : (w : Works) (h : Handed) → PageIs w → PageIs (record w { core = record w.core { bodies = 0; handed = h } })
 begun_page w h p = page_with w (record w.core { bodies = 0; handed = h }) (begun_sound w.core h p.works.whole.sound) p.works.whole.idle refl (omega arith) (omega arith) refl p
+
+-- no fault was handed over yet
+pub untroubled_page : (v w : Works) → state_of w ≡ with_core (untroubled (state_of v).core) (state_of v) → w.core ≡ record v.core { handed = record { count = 0; first = None } } → (IsSound v.core → IsSound w.core)
+    → ((ts : Stands) → Standing v ts → Standing w ts) → templates_of w ≡ templates_of v → PageIs v → PageIs w
+untroubled_page v w e core sound stands ts h = record {
+  works = works_alike v w (untroubled (state_of v).core) e refl refl sound (ap (λ (c : Core). c.depth) core) stands ts h.works;
+  watched = subst IsWatched (sym e) (watched_core (state_of v) (untroubled (state_of v).core) refl h.watched);
+}
 
 pub all_pushed : (n : ℕ) (xs : List Task) (x : Task) → AllByRecursion (TaskStands n) (map task_of xs) → x.scope.0 < n → AllByRecursion (TaskStands n) (map task_of (xs ++ x ∷ []))
 all_pushed n [] x h l = (l, tt)

@@ -7,7 +7,11 @@ pub mod Answered
 pub mod Steps
 pub mod PlaceOf
 pub mod Targets
+pub mod EventObject
+pub mod Dispatch
 pub mod PageOf
 pub mod OutcomeOf
 pub mod Commanded
+pub mod Dispatched
+pub mod EventSeen
 pub mod Laws

@@ -28,9 +28,10 @@ ghost use Rattle.ng_page.specs.Steps.{Opens, OpensShort};
 ghost use Rattle.ng_page.specs.Targets.{element_name};
 
 use crate::digesting::conclude;
+use crate::dispatching::dispatch_at;
 use crate::engine::Engine;
 use crate::opening::open;
-use crate::outcome::{Outcome, PageFault};
+use crate::outcome::{Outcome, Outcomes, PageFault};
 use crate::running;
 use ng_act::core_state::Core;
 use ng_app::App;
@@ -83,7 +84,10 @@ fn element_at(dom: &Dom, path: &Path) -> Option<NodeId>
 }
 
 impl Page {
+    ghost use Rattle.ng_dom.specs.Paths.{StandsIn};
+    ghost use Rattle.ng_link.specs.Events.{named};
     ghost use Rattle.ng_page.specs.Commanded.{Commanded, Ended, refusal};
+    ghost use Rattle.ng_page.specs.Dispatched.{Dispatched};
     ghost use Rattle.ng_page.specs.PageOf.{state_of, IsPage, Displays, Names};
     ghost use Rattle.ng_page.specs.Targets.{target_in};
 
@@ -284,6 +288,28 @@ impl Page {
             args,
         );
         self.ended(ran)
+    }
+
+    /// An event of the document at a node, with a JSON object of extra names for `$event` (API: ngClick). Its handlers run at the
+    /// node and, where it bubbles, at each element round it, each in an `$apply` of its own, where its node still stands and its
+    /// scope lives. The answer is an outcome for each handler that ran.
+    pub fn dispatch(&mut self, n: NodeId, event: &Txt, extra: &Json) -> Result<Outcomes, PageFault>
+        requires page { IsPage self.old }
+        requires stands { self.old.spent ≡ false → StandsIn n.made.0 (named (state_of self.old)) }
+        ensures { Dispatched (record { type = event.now; extra = view extra.now }) n.made.0 self.old result self.new }
+    {
+        if self.spent {
+            return Err(PageFault::Spent);
+        }
+        match dispatch_at(&mut self.engine, n, event, extra) {
+            Ok(outcomes) => {
+                if outcomes.is_empty() {
+                    return Err(PageFault::Idle);
+                }
+                Ok(outcomes)
+            }
+            Err(memory) => Err(self.wanting(memory)),
+        }
     }
 
     /// Appends the document on one line, without a line feed.

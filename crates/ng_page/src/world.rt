@@ -64,16 +64,6 @@ fn fire_at(engine: &mut Engine, pending: Option<Snap>) -> Result<bool, Memory>
     }
 }
 
-/// Lets the watchers know where the cursor came to, so that the next ones are found without a search.
-fn seek(engine: &mut Engine)
-    ensures { engine.new ≡ engine.old }
-{
-    match engine.progress.cursor() {
-        None => {}
-        Some(key) => engine.works.seek(key),
-    }
-}
-
 impl World for Engine {
     ghost moves = { engine_moves };
 
@@ -95,9 +85,7 @@ impl World for Engine {
 
     fn next_after(&mut self) -> Result<bool, Memory> {
         let next = testing::next_of(self.works.watchers(), self.progress.cursor())?;
-        let more = self.progress.come_to(next);
-        seek(self);
-        Ok(more)
+        Ok(self.progress.come_to(next))
     }
 
     fn last_dirty(&self) -> bool {

@@ -1,15 +1,19 @@
 -- What a command is aimed at stands in the document with names where it stands in the document without.
-use Rattle.std.proofs.Common.{◌≡◌, ℕ, Bool, true, false, List, refl, ap, sym, ◌∙◌}
+use Rattle.std.proofs.Common.{◌≡◌, ℕ, Bool, true, false, List, refl, ap, sym, ◌∙◌, subst}
 use Rattle.std.specs.Prelude.{◌||◌, Option, None, Some, option_map, is_some, if◌then◌else◌}
 use Rattle.ng_base.specs.declared.name.NodeId.{NodeId}
 use Rattle.ng_base.specs.declared.path.Target.{Target}
 use Rattle.ng_base.specs.declared.path.Target.TheVariants as target
 use Rattle.ng_dom.specs.Asked.{has_id, node_with_id, first_with_id, group_with_id, first_of_two}
-use Rattle.ng_dom.specs.Nodes.{NamedNode, NamedForest, NamedGroups, named_text, named_comment, named_element, named_anchor, nothing_named, named_then, no_groups, group_then, followed_by, plain_node, plain, plain_groups}
+use Rattle.ng_dom.specs.Nodes.{NamedNode, NamedForest, NamedGroups, named_text, named_comment, named_element, named_anchor, nothing_named, named_then, no_groups, group_then, name_of, followed_by, plain_node, plain, plain_groups}
+use Rattle.ng_dom.specs.Paths.{StandsIn}
 use Rattle.ng_dom.specs.Printed.{at_place, plain_node_of}
 use Rattle.ng_dom.proofs.Standing.{places_are_printed}
+use Rattle.ng_dom.proofs.Stands.{places_stand, found_stand}
+use Rattle.ng_link.specs.Events.{named}
 use Rattle.ng_link.specs.State.{shown}
 use Rattle.ng_markup.specs.Forest.{Forest, no_nodes, node}
+use Rattle.ng_link.proofs.Displayed.{page_names}
 use Rattle.ng_page.specs.PageOf.{state_of, Names}
 use Rattle.ng_page.specs.Targets.{element_name, target_in}
 use Rattle.ng_page.specs.declared.page.Page.{Page}
@@ -87,3 +91,34 @@ module _ (p : Page) (ready : IsReady p) (t : Target) where
 
   pub scope_found : (n : NodeId) → IsFound (Some n) → Some 0 ≡ scope_in (scope.Node t) (state_of p)
   scope_found n h = ap (λ (b : Bool). if b then Some 0 else None) (found_stands (Some n) h)
+
+-- ---- the element at which an event is fired
+
+element_is : (o : Option NamedNode) (n : ℕ) → element_name o ≡ Some n → option_map name_of o ≡ Some n
+element_is None n e = cc
+element_is (Some (named_text m t)) n e = cc
+element_is (Some (named_comment m t)) n e = cc
+element_is (Some (named_element m x ats f)) n e = e
+element_is (Some (named_anchor m gs)) n e = cc
+
+-- a target is a node that stands
+aim_stands : (t : Target) (f : NamedForest) (n : ℕ) → target_in t f ≡ Some n → StandsIn n f
+aim_stands (target.Id id) f n e = found_stand id f n e
+aim_stands (target.Path p) f n e = places_stand p f n (element_is (at_place p f) n e)
+
+module _ (p : Page) (ready : IsReady p) (t : Target) where
+  abbrev document : NamedForest
+  document = named (state_of p)
+
+  -- the document of a page has the names that its state says
+  has_names : Names p document
+  has_names = let standing = (ready.page ready.unspent).works.whole.standing in page_names p.engine.works standing.0 standing.1
+
+  pub fired_nowhere : IsFound p ready t None → target_in t document ≡ None
+  fired_nowhere h = sym (h document has_names)
+
+  pub fired_found : (n : NodeId) → IsFound p ready t (Some n) → target_in t document ≡ Some n.made.0
+  fired_found n h = sym (h document has_names)
+
+  pub fired_stands : (n : NodeId) → IsFound p ready t (Some n) → StandsIn n.made.0 document
+  fired_stands n h = aim_stands t document n.made.0 (fired_found n h)

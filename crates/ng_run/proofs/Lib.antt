@@ -1,4 +1,6 @@
 pub mod ShortOne
+pub mod OneDigest
+pub mod OneDispatch
 pub mod OneStep
 pub mod Continuing
 pub mod Sessions

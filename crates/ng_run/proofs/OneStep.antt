@@ -1,59 +1,23 @@
 -- A step of a session is one: what it prints, and how it leaves the page.
-use Rattle.std.proofs.Common.{◌≡◌, ℕ, Bool, true, false, List, refl, ap, sym, ◌∙◌, subst}
+use Rattle.std.proofs.Common.{◌≡◌, ℕ, Bool, true, false, List, [], ◌∷◌, ap, sym, ◌∙◌, subst}
 use Rattle.std.specs.Prelude.{codes, Option, None, Some, Result, Ok, Err}
-use Rattle.ng_base.specs.declared.fault.Fault.{Fault}
 use Rattle.ng_behaviour.specs.Scopes.{live_at}
-use Rattle.ng_digest.proofs.One.{digest_one}
 use Rattle.ng_digest.specs.declared.log.Report.{Report}
-use Rattle.ng_digest.specs.declared.rounds.DigestFault.{DigestFault}
+use Rattle.ng_link.specs.Events.{named}
 use Rattle.ng_link.specs.State.{State, rendering}
-use Rattle.ng_page.specs.Answered.{PlainlyDigests, DigestsWhere, ShortWhere}
 use Rattle.ng_page.specs.Commands.{Asked, begun, asked_run, is_idle}
+use Rattle.ng_page.specs.Dispatch.{Happening, Told}
 use Rattle.ng_page.specs.Opening.{opening}
-use Rattle.ng_page.specs.PageMachine.{page_machine}
 use Rattle.ng_page.specs.Steps.{Outcome, Ends, EndsShort}
-use Rattle.ng_script.specs.Acts.{Entry}
+use Rattle.ng_page.specs.Targets.{target_in}
+use Rattle.ng_script.specs.Acts.{Act, Entry}
 use Rattle.ng_inputs.specs.Refusals.{Accepted}
 use Rattle.ng_run.specs.Aims.{asked_of}
+use Rattle.ng_run.specs.Happenings.{Fired, fired_by, HasTold, DoesEvent}
 use Rattle.ng_run.specs.Lines.{Digest, header, trace_line}
-use Rattle.ng_run.specs.Steps.{Left, Step, step_of, left_by, IsTrace, Performs, DoesUnlessIdle, DoesAsked, Does, OpensPage}
-use Rattle.ng_run.proofs.ShortOne.{report_one}
-
--- ---- a digest of a page
-
-digested_one : (s : State) (a b : Result (ℕ × ℕ) DigestFault) (x y : List (List ℕ)) (t u : State) → PlainlyDigests s a x t → PlainlyDigests s b y u → (a ≡ b) × (x ≡ y) × (t ≡ u)
-digested_one s a b x y t u (end, d, e, f) (fin, g, h, i) =
-    let one = digest_one page_machine d g in
-    (one.0, f ∙ (ap (λ p. p.state.probed) one.1 ∙ sym i), e ∙ (ap (λ p. p.state.works) one.1 ∙ sym h))
-
-where_one : (due : Bool) (s : State) (d e : Digest) (x y : List (List ℕ)) (t u : State) → DigestsWhere due s d x t → DigestsWhere due s e y u → (d ≡ e) × (x ≡ y) × (t ≡ u)
-where_one true s None e x y t u h k = absurd h
-where_one true s (Some a) None x y t u h k = absurd k
-where_one true s (Some a) (Some b) x y t u h k = let one = digested_one s a b x y t u h k in (ap (λ z. Some z) one.0, one.1, one.2)
-where_one false s (Some a) e x y t u h k = absurd h
-where_one false s None (Some b) x y t u h k = absurd k
-where_one false s None None x y t u h k = (refl, h.1 ∙ sym k.1, h.0 ∙ sym k.0)
-
-short_one : (due : Bool) (s : State) (r q : Report) (t u : State) → ShortWhere due s (Some (Ok r)) t → ShortWhere due s (Some (Ok q)) u → r ≡ q
-short_one true s r q t u (x, d, e) (y, g, f) = report_one page_machine d g
-short_one false s r q t u h k = absurd h
-
--- ---- from what programs left
-
-abbrev made : ℕ → Option Fault → Digest → List (List ℕ) → Outcome
-made count first digest probed = record { count = count; first = first; digest = digest; probed = probed }
-
-same_outcome : (o p : Outcome) → o.count ≡ p.count → o.first ≡ p.first → o.digest ≡ p.digest → o.probed ≡ p.probed → o ≡ p
-same_outcome o p e f g h =
-    ap (λ x. made x o.first o.digest o.probed) e
-    ∙ (ap (λ x. made p.count x o.digest o.probed) f
-    ∙ (ap (λ x. made p.count p.first x o.probed) g
-    ∙ ap (λ x. made p.count p.first p.digest x) h))
-
-ends_one : (s : State) (o p : Outcome) (t u : State) → Ends s o t → Ends s p u → (o ≡ p) × (t ≡ u)
-ends_one s o p t u h k =
-    let one = where_one (live_at s.core.scopes 0) s o.digest p.digest o.probed p.probed t u h.digest k.digest in
-    (same_outcome o p (h.count ∙ sym k.count) (h.first ∙ sym k.first) one.0 one.1, one.2)
+use Rattle.ng_run.specs.Steps.{Left, Step, step_of, left_by, IsTrace, Performs, DoesUnlessIdle, DoesAsked, DoesAct, Does, OpensPage}
+use Rattle.ng_run.proofs.OneDigest.{short_one, ends_one}
+use Rattle.ng_run.proofs.OneDispatch.{dispatch_one}
 
 -- the trace
 abbrev Took : State → State → Report → Type 0
@@ -91,8 +55,23 @@ asked_one : (trace : Bool) (head : List ℕ) (o : Option Asked) (s : State) (x y
 asked_one trace head None s x y l m h k = (h.0 ∙ sym k.0, h.1 ∙ sym k.1)
 asked_one trace head (Some a) s x y l m h k = unless_one (is_idle a s) trace head a s x y l m h k
 
+told_steps_one : (trace : Bool) (head : List ℕ) (os : List Told) (t : State) (x y : Step) (l m : Left) → HasTold trace head os t x l → HasTold trace head os t y m → (x ≡ y) × (l ≡ m)
+told_steps_one trace head [] t x y l m h k = (h.0 ∙ sym k.0, h.1 ∙ sym k.1)
+told_steps_one trace head (o ∷ os) t x y l m h k = (h.0 ∙ sym k.0, h.1 ∙ sym k.1)
+
+event_one : (trace : Bool) (head : List ℕ) (e : Happening) (n : Option ℕ) (s : State) (x y : Step) (l m : Left) → DoesEvent trace head e n s x l → DoesEvent trace head e n s y m → (x ≡ y) × (l ≡ m)
+event_one trace head e None s x y l m h k = (h.0 ∙ sym k.0, h.1 ∙ sym k.1)
+event_one trace head e (Some n) s x y l m (os, t, d, h) (ps, u, b, k) =
+    let one = dispatch_one e n s os ps t u d b in
+    let with_told : HasTold trace head os u y m = subst (λ (z : List Told). HasTold trace head z u y m) (sym one.0) k in
+    told_steps_one trace head os t x y l m h (subst (λ (z : State). HasTold trace head os z y m) (sym one.1) with_told)
+
+act_one : (trace : Bool) (head : List ℕ) (f : Option Fired) (a : Act) (s : State) (x y : Step) (l m : Left) → DoesAct trace head f a s x l → DoesAct trace head f a s y m → (x ≡ y) × (l ≡ m)
+act_one trace head None a s x y l m h k = asked_one trace head (asked_of a s) s x y l m h k
+act_one trace head (Some f) a s x y l m h k = event_one trace head f.event (target_in f.target (named s)) s x y l m h k
+
 pub does_one : (trace : Bool) (k : ℕ) (e : Entry) (s : State) (x y : Step) (l m : Left) → Does trace k e s x l → Does trace k e s y m → (x ≡ y) × (l ≡ m)
-does_one trace k e s x y l m h j = asked_one trace (header k e.shown) (asked_of e.act s) s x y l m h j
+does_one trace k e s x y l m h j = act_one trace (header k e.shown) (fired_by e.act) e.act s x y l m h j
 
 -- ---- the step that opens the page; it is the same whatever is done then
 

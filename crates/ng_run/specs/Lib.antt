@@ -1,5 +1,7 @@
 pub mod Lines
 pub mod Aims
+pub mod Left
+pub mod Happenings
 pub mod Steps
 pub mod Session
 pub mod ReplyOf

@@ -1,5 +1,5 @@
 -- The lines that a step writes.
-use Rattle.std.specs.Prelude.{ℕ, List, [], ◌++◌, Option, None, Some, Result, Ok, Err, codes, encode_utf8_all}
+use Rattle.std.specs.Prelude.{ℕ, Bool, true, false, List, [], ◌++◌, Option, None, Some, Result, Ok, Err, codes, encode_utf8_all}
 use Rattle.std.specs.List.{flat_map}
 use Rattle.std.specs.Fmt.{decimal}
 use Rattle.ng_base.specs.Faults.{fault_name}
@@ -26,6 +26,13 @@ action_line count (Some f) = codes "action: fault " ++ faults count f
 -- what a digest that answered Ok took
 abbrev pub trace_line : Report → List ℕ
 trace_line r = codes "~ rounds " ++ decimal r.rounds ++ codes " fires " ++ decimal r.fires ++ codes " tests " ++ decimal r.tests ++ codes "\n"
+
+-- the trace of a digest, where it is asked for
+abbrev pub told_lines : Bool → Option (Result Report DigestFault) → List ℕ
+told_lines false digest = []
+told_lines true None = []
+told_lines true (Some (Ok r)) = trace_line r
+told_lines true (Some (Err f)) = []
 
 -- the line of a digest that did not answer Ok
 abbrev pub failed_line : DigestFault → List ℕ

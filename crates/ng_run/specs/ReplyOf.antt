@@ -1,4 +1,5 @@
 -- What the values of the code stand for.
+pub use Rattle.ng_run.specs.Lines.{told_lines}
 use Rattle.std.specs.Prelude.{◌≡◌, ℕ, IsTrue, Bool, true, false, List, [], ◌∷◌, Option, None, Some, Result, Ok, Err}
 use Rattle.ng_digest.specs.declared.log.Report.{Report}
 use Rattle.ng_digest.specs.declared.rounds.DigestFault.{DigestFault}
@@ -9,7 +10,6 @@ use Rattle.ng_page.specs.Settled.{IsSettled}
 use Rattle.ng_page.specs.declared.page.Page.{Page}
 use Rattle.ng_script.specs.Acts.{entries_of}
 use Rattle.ng_inputs.specs.Acts.{AreSound}
-use Rattle.ng_run.specs.Lines.{trace_line}
 use Rattle.ng_run.specs.Session.{Extent, within, done}
 use Rattle.ng_run.specs.Session as session
 use Rattle.ng_run.specs.Steps.{Left, Step, Continues}
@@ -20,13 +20,6 @@ use Rattle.ng_run.specs.declared.reply.Reply.TheVariants as reply
 
 abbrev pub step_seen : Lines → Step
 step_seen l = record { lines = l.piece.items; well = l.well }
-
--- the trace of a digest, where it is asked for
-abbrev pub told_lines : Bool → Option (Result Report DigestFault) → List ℕ
-told_lines false digest = []
-told_lines true None = []
-told_lines true (Some (Ok r)) = trace_line r
-told_lines true (Some (Err f)) = []
 
 -- a page shows what its watchers have kept, and further commands can be done on it
 pub record IsReady (p : Page) : Type 0 where

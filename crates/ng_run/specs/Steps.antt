@@ -1,41 +1,20 @@
 -- The steps of a session: what each prints, and how it leaves the page.
+pub use Rattle.ng_run.specs.Left.{Left, Step, is_digested, has_no_failure, is_well, idle_step, aimless_step, same_page}
 use Rattle.std.specs.Prelude.{ℕ, ◌≡◌, ◌+◌, Bool, true, false, List, [], ◌∷◌, ◌++◌, codes, Option, None, Some, Ok, Err}
 use Rattle.ng_base.specs.declared.fault.Fault.{Fault}
 use Rattle.ng_digest.specs.declared.log.Report.{Report}
 use Rattle.ng_drawing.specs.Drawing.{Rendered}
 use Rattle.ng_markup.specs.Forest.{Forest}
+use Rattle.ng_link.specs.Events.{named}
 use Rattle.ng_link.specs.State.{State, rendering}
 use Rattle.ng_page.specs.Commands.{Asked, is_idle}
 use Rattle.ng_page.specs.Steps.{Outcome, Steps, StepsShort, Opens, OpensShort}
-use Rattle.ng_script.specs.Acts.{Entry}
+use Rattle.ng_page.specs.Targets.{target_in}
+use Rattle.ng_script.specs.Acts.{Act, Entry}
 use Rattle.ng_run.specs.Aims.{asked_of}
+use Rattle.ng_run.specs.Happenings.{Fired, fired_by, DoesEvent}
 use Rattle.ng_run.specs.Lines.{Digest, header, action_line, trace_line, digest_line, probe_lines, last_line}
 use Rattle.ng_inputs.specs.Refusals.{Accepted}
-
--- the page as a step left it, and whether the last digest of that step answered Ok
-pub record Left : Type 0 where
-  pub state : State
-  pub digested : Bool
-
--- what a step prints, and whether none of its lines is `action:`, `digest:` or `target:`
-pub record Step : Type 0 where
-  pub lines : List ℕ
-  pub well : Bool
-
-abbrev pub is_digested : Digest → Bool
-is_digested None = false
-is_digested (Some (Ok counts)) = true
-is_digested (Some (Err f)) = false
-
-abbrev pub has_no_failure : Digest → Bool
-has_no_failure None = true
-has_no_failure (Some (Ok counts)) = true
-has_no_failure (Some (Err f)) = false
-
--- all went well where no fault was handed over and no digest failed
-abbrev pub is_well : Option Fault → Digest → Bool
-is_well None digest = has_no_failure digest
-is_well (Some f) digest = false
 
 -- the lines of a step in their order, after its header: the faults of its programs, the trace, a digest that failed, the probes, the document
 abbrev pub step_lines : List ℕ → Outcome → Rendered Forest → List ℕ
@@ -46,15 +25,6 @@ step_of head trace o document = record { lines = head ++ step_lines trace o docu
 
 abbrev pub left_by : Outcome → State → Left
 left_by o s = record { state = s; digested = is_digested o.digest }
-
-abbrev pub idle_step : List ℕ → Step
-idle_step head = record { lines = head ++ codes "idle\n"; well = true }
-
-abbrev pub aimless_step : List ℕ → Step
-aimless_step head = record { lines = head ++ codes "target: none\n"; well = false }
-
-abbrev pub same_page : State → Left
-same_page s = record { state = s; digested = false }
 
 -- With `--trace` a digest that answered Ok is told with what it took, where each round stops at the watcher that was last dirty.
 abbrev pub IsTrace : Bool → (Report → Type 0) → Digest → List ℕ → Type 0
@@ -83,9 +53,14 @@ abbrev pub DoesAsked : Bool → List ℕ → Option Asked → State → Step →
 DoesAsked trace head None s step left = (step ≡ aimless_step head) × (left ≡ same_page s)
 DoesAsked trace head (Some a) s step left = DoesUnlessIdle (is_idle a s) trace head a s step left
 
+-- a command fires an event, or asks something else of the page
+abbrev pub DoesAct : Bool → List ℕ → Option Fired → Act → State → Step → Left → Type 0
+DoesAct trace head None a s step left = DoesAsked trace head (asked_of a s) s step left
+DoesAct trace head (Some x) a s step left = DoesEvent trace head x.event (target_in x.target (named s)) s step left
+
 -- a command, the k-th of the script, is done so
 abbrev pub Does : Bool → ℕ → Entry → State → Step → Left → Type 0
-Does trace k e s step left = DoesAsked trace (header k e.shown) (asked_of e.act s) s step left
+Does trace k e s step left = DoesAct trace (header k e.shown) (fired_by e.act) e.act s step left
 
 -- commands are done one after another, the first of them as step k
 abbrev pub Continues : Bool → ℕ → List Entry → Left → List Step → Left → Type 0

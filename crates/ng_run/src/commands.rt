@@ -1,6 +1,7 @@
 //! Commands, done on a page.
-ghost use Rattle.std.specs.Prelude.{◌≡◌, true, is_some, IfOk, option_map};
+ghost use Rattle.std.specs.Prelude.{◌≡◌, true, codes, is_some, IfOk, option_map};
 ghost use Rattle.std.specs.Option.{IfSome};
+ghost use Rattle.serde_json.specs.Data.{object, no_members};
 ghost use Rattle.serde_json.specs.Find.{as_array};
 ghost use Rattle.serde_json.specs.View.{view};
 ghost use Rattle.ng_page.specs.Commands.{applies, destroys_scope, emits, broadcasts};
@@ -8,30 +9,35 @@ ghost use Rattle.ng_page.specs.PageOf.{state_of};
 ghost use Rattle.ng_parse.specs.ProgramOf.{program as program_of};
 ghost use Rattle.ng_script.specs.Acts.{act_of, entry_of};
 ghost use Rattle.ng_inputs.specs.Acts.{IsSound};
-ghost use Rattle.ng_run.specs.Aims.{scope_in, asked_of};
-ghost use Rattle.ng_run.specs.Performed.{Answers, Performed, IsStepOf};
+ghost use Rattle.ng_run.specs.Aims.{scope_in};
+ghost use Rattle.ng_run.specs.Happenings.{fired_by};
+ghost use Rattle.ng_run.specs.Performed.{Answers, AnswersFired, Performed, FiredBy, PerformedAct, IsStepOf};
 ghost use Rattle.ng_run.specs.ReplyOf.{IsReady};
 
+use crate::events::event_step;
 use crate::lines::header;
 use crate::reply::Lines;
 use crate::step::{aimless, idle, step};
 use ng_base::fault::Memory;
 use ng_base::name::ScopeId;
+use ng_base::path::Target;
 use ng_base::txt::Txt;
 use ng_inputs::words::Flags;
-use ng_page::outcome::{Outcome, PageFault};
+use ng_page::outcome::{Outcome, Outcomes, PageFault};
 use ng_page::page::Page;
 use ng_parse::Program;
 use ng_script::{Command, ScopeOf, What};
-use serde_json::Value as Json;
+use serde_json::{Map, Value as Json};
 use std::alloc::Global;
 
-/// What became of a command: no element stands at its target; nothing was to be done; or it was done.
+/// What became of a command: no element stands at its target; nothing was to be done; it was done; or the handlers of its event have
+/// run.
 #[derive(Drop)]
 pub(crate) enum Done {
     Aimless,
     Idle,
     Outcome(Outcome),
+    Outcomes(Outcomes),
 }
 
 /// What the call of a page came to. A page that is spent has wanted memory.
@@ -107,11 +113,44 @@ fn destroy(page: &mut Page, scope: &ScopeOf) -> Result<Done, Memory>
     }
 }
 
-/// Does what a command asks of the page. The commands of the document's elements ask nothing yet, and are refused with the script.
-fn perform(page: &mut Page, what: &What) -> Result<Done, Memory>
+/// What a dispatch came to. A page that is spent has wanted memory.
+fn fired(answer: Result<Outcomes, PageFault>) -> Result<Done, Memory>
+    ensures { AnswersFired answer result }
+{
+    match answer {
+        Ok(outcomes) => Ok(Done::Outcomes(outcomes)),
+        Err(PageFault::Idle) => Ok(Done::Idle),
+        Err(PageFault::Spent) => Err(Memory::Refused),
+        Err(PageFault::Memory(memory)) => Err(memory),
+    }
+}
+
+/// An event is fired at a target.
+fn fire(page: &mut Page, target: &Target, event: &Txt, extra: &Json) -> Result<Done, Memory>
+    requires { IsReady page.old }
+    ensures { FiredBy (record { event = record { type = event.now; extra = view extra.now }; target = target.now }) page.old result page.new }
+{
+    match page.find(target) {
+        None => Ok(Done::Aimless),
+        Some(node) => fired(page.dispatch(node, event, extra)),
+    }
+}
+
+/// The event `click` is fired at a target.
+fn click(alloc: Global, page: &mut Page, target: &Target) -> Result<Done, Memory>
+    requires { IsReady page.old }
+    ensures { FiredBy (record { event = record { type = codes "click"; extra = object no_members }; target = target.now }) page.old result page.new }
+{
+    let mut event = Txt::new(alloc);
+    event.push_word("click")?;
+    fire(page, target, &event, &Json::Object(Map::new(alloc)))
+}
+
+/// Does what a command asks of the page. Those of controls ask nothing yet, and are refused with the script.
+fn perform(alloc: Global, page: &mut Page, what: &What) -> Result<Done, Memory>
     requires ready { IsReady page.old }
     requires sound { IsSound (act_of what.now) }
-    ensures { Performed (asked_of (act_of what.now) (state_of page.old)) page.old result page.new }
+    ensures { PerformedAct (fired_by (act_of what.now)) (act_of what.now) page.old result page.new }
 {
     match what {
         What::Eval(program) => apply(page, &ScopeOf::Root, program),
@@ -122,8 +161,12 @@ fn perform(page: &mut Page, what: &What) -> Result<Done, Memory>
         What::Probe(program) => answered(page.probe(program)),
         What::Destroy(scope) => destroy(page, scope),
         What::Digest => answered(page.digest()),
-        What::Click(_) => Ok(Done::Aimless),
-        What::Fire { .. } => Ok(Done::Aimless),
+        What::Click(target) => click(alloc, page, target),
+        What::Fire {
+            event,
+            target,
+            extra,
+        } => fire(page, target, event, extra),
         What::Typed { .. } => Ok(Done::Aimless),
         What::Check { .. } => Ok(Done::Aimless),
     }
@@ -142,9 +185,10 @@ pub(crate) fn do_command(
     ensures { IfOk result (λ l. IsStepOf flags.trace number (entry_of command.now) page.old l page.new) }
 {
     let header = header(alloc, number, &command.shown)?;
-    match perform(page, &command.what)? {
+    match perform(alloc, page, &command.what)? {
         Done::Aimless => Ok(aimless(header)?),
         Done::Idle => Ok(idle(header)?),
         Done::Outcome(outcome) => step(alloc, flags, header, page, &outcome),
+        Done::Outcomes(outcomes) => event_step(alloc, flags, header, page, outcomes.as_slice()),
     }
 }

@@ -6,12 +6,13 @@
 //! answered Ok it is settled and shows its rendering. Every status has its cause.
 //!
 //! The definitions stand in `specs/`. `Lines.antt` has the lines of a step; `Aims.antt` what a command is aimed at, and what it
-//! asks of the page; `Steps.antt` what a step prints and leaves; `Session.antt` the reply, in pieces of which each is a put;
+//! asks of the page; `Happenings.antt` the step of an event; `Steps.antt` what a step prints and leaves; `Session.antt` the reply, in pieces of which each is a put;
 //! `Run.antt` what a run writes and leaves, and the causes of its statuses. `Performed.antt` and `Doing.antt` say what the code
 //! makes of one command and of all of them, and `ReplyOf.antt` what its values stand for. The words, the files and their refusals
 //! are defined in `ng_inputs`.
 //!
-//! In reading order: `reply` has the types; `lines` writes lines, and `step` puts them together; `commands` does one command on a
+//! In reading order: `reply` has the types; `lines` writes lines, `step` puts them together, and `events` those of an event;
+//! `commands` does one command on a
 //! page, `doing` those of a script over a sink; `opening` opens a page; `answer` finds the reply to words, and `run` writes it.
 //! `laws` says that there is one session at most.
 //!
@@ -22,6 +23,7 @@
 mod answer;
 mod commands;
 mod doing;
+mod events;
 pub mod laws;
 mod lines;
 mod opening;

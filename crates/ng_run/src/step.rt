@@ -20,7 +20,7 @@ use ng_page::page::Page;
 use std::alloc::{AllocError, Global};
 
 /// Whether all went well: no fault was handed over, and no digest failed.
-fn is_well(first: &Option<Fault>, digest: &Option<Result<Report, DigestFault>>) -> bool
+pub(crate) fn is_well(first: &Option<Fault>, digest: &Option<Result<Report, DigestFault>>) -> bool
     ensures { result ≡ is_well_of first.now (option_map plain_answer digest.now) }
 {
     match first {
@@ -35,7 +35,7 @@ fn is_well(first: &Option<Fault>, digest: &Option<Result<Report, DigestFault>>) 
 
 /// The line that a step ends with. After a digest that answered Ok it is the document, or with `--static` the rendering, which is
 /// the same.
-fn last(
+pub(crate) fn last(
     alloc: Global,
     flags: Flags,
     digest: &Option<Result<Report, DigestFault>>,

@@ -13,7 +13,7 @@ use Rattle.ng_template.specs.declared.manners.Manner.{Manner}
 use Rattle.ng_template.specs.declared.manners.Manner.TheVariants as manners
 use Rattle.ng_template.specs.declared.manners.Setting.TheVariants.{Interpolates, Links, Switches, Binds, Classes, Shows, Hides}
 
--- what a directive of the core does with its text; many are not built yet
+-- what a directive of the core does with its text; some are not built yet
 abbrev pub core_manner : CoreDirective → Option Manner
 core_manner dirs.Init = None
 core_manner dirs.Checked = Some (manners.Sets Switches)
@@ -27,7 +27,7 @@ core_manner dirs.Bind = Some (manners.Sets Binds)
 core_manner dirs.Show = Some (manners.Sets Shows)
 core_manner dirs.Hide = Some (manners.Sets Hides)
 core_manner dirs.Class = Some (manners.Sets Classes)
-core_manner (dirs.Event e) = None
+core_manner (dirs.Event e) = Some (manners.Handles e)
 core_manner _ = None
 
 abbrev pub manner_of : Directive → Option Manner

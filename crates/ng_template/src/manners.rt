@@ -48,7 +48,7 @@ fn core_manner(d: CoreDirective) -> Option<Manner>
         CoreDirective::Show => Some(Manner::Sets(Setting::Shows)),
         CoreDirective::Hide => Some(Manner::Sets(Setting::Hides)),
         CoreDirective::Class => Some(Manner::Sets(Setting::Classes)),
-        CoreDirective::Event(_) => None,
+        CoreDirective::Event(event) => Some(Manner::Handles(event)),
         _ => None,
     }
 }

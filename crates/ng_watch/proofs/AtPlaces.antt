@@ -12,7 +12,7 @@ use Rattle.ng_watch.specs.declared.watched.Watched.{Watched}
 use Rattle.ng_watch.proofs.Chunks.{parts, parts_row, row_of}
 use Rattle.ng_watch.proofs.Rows.{Sorted, find_gap, find_hit, insert_gap, insert_hit, lookup_gap, lookup_hit, lookup_key_gap, lookup_key_hit, one_more, remove_gap, remove_hit, set_hit, sorted_changed, sorted_with, sorted_without}
 
-abbrev Row : Type 0
+abbrev pub Row : Type 0
 Row = Key × Watched
 
 -- the key of a row, if there is one
@@ -84,6 +84,10 @@ module _ (k : Key) (cs : List Rows) (i j : ℕ) (t : Rows) (all : joined cs ≡ 
     kept_at kept new n =
         let v : Watched = record { watch = row.1.watch; kept = kept } in
         subst (λ (o : Option Watched). MatchOption o (new ≡ t) (λ w. new ≡ set_value (is_key k) t (record { watch = w.watch; kept = kept }))) (sym (lookup_at ∙ ap watcher_in is)) (n row is ∙ sym (ap (λ (es : Rows). set_value (is_key k) es v) (sym all ∙ cut) ∙ set_hit k v (before cs i j) (after cs i (suc j)) row sorted hit))
+
+  -- a row that has the key, at its place
+  pub lookup_row : Sorted (joined cs) → (e : Row) → row_at cs i j ≡ Some e → is_key k e.0 ≡ true → lookup (is_key k) t ≡ Some e.1
+  lookup_row s e is hit = lookup_at s (ap (has_key k) is ∙ hit) ∙ ap watcher_in is
 
   pub no_kept : (g : IsGap k (before cs i j) (after cs i j)) (kept : Option Snap) → MatchOption (lookup (is_key k) t) (t ≡ t) (λ w. t ≡ set_value (is_key k) t (record { watch = w.watch; kept = kept }))
   no_kept g kept = subst (λ (o : Option Watched). MatchOption o (t ≡ t) (λ w. t ≡ set_value (is_key k) t (record { watch = w.watch; kept = kept }))) (sym (lookup_none g)) refl

@@ -94,6 +94,14 @@ after_past cs i j l = rw (chunk_past cs i l, back_past cs i l) (nothing j)
     nothing zero = refl
     nothing (suc j) = refl
 
+-- no row stands past the last chunk
+pub place_past : (cs : List Rows) (i j m : ℕ) → length cs ≤ i → row_at cs i j ≡ slice_get (after cs i m) 0
+place_past cs i j m l = rw (chunk_past cs i l) (nothing j) ∙ sym (ap (λ (es : Rows). slice_get es 0) (after_past cs i m l))
+  where
+    nothing : (j : ℕ) → slice_get (joined []) j ≡ None
+    nothing zero = refl
+    nothing (suc j) = refl
+
 pub front_more : (cs : List Rows) (i : ℕ) → i < length cs → front cs (suc i) ≡ front cs i ++ chunk_at cs i
 front_more [] i l = absurd (omega arith)
 front_more (c ∷ cs) zero l = front_none cs c
@@ -265,15 +273,16 @@ first_joined (c ∷ cs) r e h g = let same : r ≡ c = cc in by_chunk c (subst (
     by_chunk [] g = absurd (cc)
     by_chunk (x ∷ c) g = sym g
 
-pub first_of : (cs : List Rows) (i : ℕ) (r : Rows) (e : Row) → i < length cs → r ≡ get_or cs i r → slice_get r 0 ≡ Some e → Some e ≡ slice_get (after cs i 0) 0
-first_of cs i r e l is g = sym (ap (λ (es : Rows). slice_get es 0) (after_row cs i 0 e (subst (λ (c : Rows). slice_get c 0 ≡ Some e) (read_at cs i r l is) g)))
+pub first_place : (cs : List Rows) (i : ℕ) (r : Rows) (e : Row) → i < length cs → r ≡ get_or cs i r → slice_get r 0 ≡ Some e → row_at cs i 0 ≡ slice_get (after cs i 0) 0
+first_place cs i r e l is g =
+    let there : row_at cs i 0 ≡ Some e = subst (λ (c : Rows). slice_get c 0 ≡ Some e) (read_at cs i r l is) g in
+    there ∙ sym (ap (λ (es : Rows). slice_get es 0) (after_row cs i 0 e there))
 
-pub next_within : (cs : List Rows) (i j : ℕ) (r : Rows) → i < length cs → r ≡ get_or cs i r → j < length r - 1 → slice_get r (j + 1) ≡ slice_get (after cs i (suc j)) 0
+pub next_within : (cs : List Rows) (i j : ℕ) (r : Rows) → i < length cs → r ≡ get_or cs i r → j < length r - 1 → row_at cs i (j + 1) ≡ slice_get (after cs i (suc j)) 0
 next_within cs i j r l is m =
     let next : j + 1 ≡ suc j = omega arith in
-    let same : r ≡ chunk_at cs i = read_at cs i r l is in
-    let p = get_there (chunk_at cs i) (suc j) (subst (λ (c : Rows). suc j < length c) same (omega arith)) in
-    ap (λ (k : ℕ). slice_get r k) next ∙ ap (λ (c : Rows). slice_get c (suc j)) same ∙ p.1 ∙ sym (ap (λ (es : Rows). slice_get es 0) (after_row cs i (suc j) p.0 p.1))
+    let p = get_there (chunk_at cs i) (suc j) (subst (λ (c : Rows). suc j < length c) (read_at cs i r l is) (omega arith)) in
+    ap (row_at cs i) next ∙ p.1 ∙ sym (ap (λ (es : Rows). slice_get es 0) (after_row cs i (suc j) p.0 p.1))
 
 pub next_chunk : (cs : List Rows) (i j : ℕ) (r : Rows) → i < length cs → r ≡ get_or cs i r → length r - 1 ≤ j → slice_get (after cs (i + 1) 0) 0 ≡ slice_get (after cs i (suc j)) 0
 next_chunk cs i j r l is m =

@@ -1,14 +1,18 @@
 -- Rows in key order, parted at a key.
-use Rattle.std.proofs.Common.{◌≡◌, ◌<◌, ◌≤◌, ◌+◌, ℕ, suc, zero, true, false, List, [], ◌∷◌, ◌++◌, Some, None, refl, ap, subst, ◌∙◌, length, take, drop, get_or, arith}
-use Rattle.std.specs.Prelude.{find, slice_get}
+use Rattle.std.proofs.Common.{◌≡◌, ◌<◌, ◌≤◌, ◌+◌, ℕ, suc, zero, Bool, true, false, List, [], ◌∷◌, ◌++◌, Some, None, refl, ap, sym, subst, ◌∙◌, length, take, drop, get_or, arith}
+use Rattle.std.specs.Prelude.{find, nat_eq, slice_get}
 use Rattle.std.specs.List.{AllByRecursion, AllWithin}
 use Rattle.std.specs.List.Sorted.{IsStrictlySortedBy}
 use Rattle.std.specs.Map.{lookup, lookup_key, remove_entry, set_value, keys_of}
 use Rattle.std.specs.BTreeMap.{insert_entry}
-use Rattle.std.specs.Ordering.{is_eq, is_lt, ordering_reverse}
+use Rattle.std.specs.Cmp.{nat_cmp_is}
+use Rattle.std.specs.Ordering.{is_eq, is_lt, ordering_reverse, ordering_then}
 use Rattle.std.specs.declared.cmp.Ordering.{Ordering}
 use Rattle.std.specs.declared.cmp.Ordering.TheVariants.{Less, Equal, Greater}
+use Rattle.std.proofs.lemmas.Bool.Decides.{nat_tests}
 use Rattle.std.proofs.lemmas.Map.Keys.{sorted_head, sorted_tail}
+use Rattle.ng_base.specs.Order.{path_cmp, path_cmp-eq}
+use Rattle.std.specs.Str.{bytes_eq}
 use Rattle.ng_base.specs.declared.path.Key.{Key}
 use Rattle.ng_watch.specs.Chunks.{Rows, is_below, AllBelow, AllAbove, IsGap}
 use Rattle.ng_watch.specs.Keys.{key_cmp, key_cmp_total, is_key, is_above}
@@ -41,6 +45,17 @@ below_is k e h = ap is_lt h
 -- the other way round
 reversed : (k q : Key) → key_cmp q k ≡ Less → key_cmp k q ≡ Greater
 reversed k q h = key_cmp_total.antisymm k q ∙ ap ordering_reverse h
+
+-- a key is the one that has its number and its path
+same_path : (o : Ordering) → is_eq (ordering_then o Equal) ≡ is_eq o
+same_path Less = refl
+same_path Equal = refl
+same_path Greater = refl
+
+pub same_key : (k q : Key) (b : Bool) → nat_eq k.serial.0 q.serial.0 ≡ true → b ≡ bytes_eq k.path q.path → b ≡ is_key k q
+same_key k q b h e =
+    let same : k.serial.0 ≡ q.serial.0 = grind (arith, nat_tests) in
+    e ∙ path_cmp-eq k.path q.path ∙ sym (ap (λ o. is_eq (ordering_then (path_cmp k.path q.path) o)) (sym (nat_cmp_is k.serial.0 q.serial.0 Equal same)) ∙ same_path (path_cmp k.path q.path))
 
 -- ---- rows below a key, and rows above it
 

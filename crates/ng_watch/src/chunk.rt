@@ -117,6 +117,7 @@ impl Chunk {
     }
 
     /// Puts a row in at a place.
+    #[inline(always)]
     pub(crate) fn insert(&mut self, at: usize, row: (Key, Watched)) -> Result<(), AllocError>
         requires { at ≤ length self.old }
         ensures ok { OnOk result (self.new ≡ insert self.old at row) }

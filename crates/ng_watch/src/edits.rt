@@ -68,6 +68,7 @@ pub(crate) fn drop_under(chunks: &mut Vec<Chunk>, count: u64, p: &Path) -> u64
 }
 
 /// Puts a row into the chunk of a place.
+#[inline(always)]
 fn insert_row(chunks: &mut [Chunk], at: Place, row: (Key, Watched)) -> Result<(), AllocError>
     requires chunk { at.chunk < length chunks.old }
     requires row { at.row ≤ length (chunk_at chunks.old at.chunk) }
@@ -94,6 +95,7 @@ fn room_at_end(chunks: &[Chunk]) -> Option<Place>
 }
 
 /// Puts a row in after all others.
+#[inline(always)]
 fn put_last(chunks: &mut Vec<Chunk>, alloc: Global, row: (Key, Watched)) -> Result<(), AllocError>
     ensures ok { OnOk result (joined chunks.new.items ≡ joined chunks.old.items ++ row ∷ []) }
     ensures err { OnErr result (joined chunks.new.items ≡ joined chunks.old.items) }
@@ -131,6 +133,7 @@ fn split(chunks: &mut Vec<Chunk>, chunk: usize) -> Result<(), AllocError>
 }
 
 /// Puts a row in at a place, which is past the last chunk where it is to come after all others.
+#[inline(always)]
 fn put_at(
     chunks: &mut Vec<Chunk>,
     alloc: Global,

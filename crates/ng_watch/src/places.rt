@@ -1,11 +1,11 @@
 //! Places in the chunks of the watchers' table: what stands there, and where a key stands.
-ghost use Rattle.std.specs.Prelude.{◌≡◌, ◌+◌, ◌<◌, ◌≤◌, suc, Some, None, true, false, length, IfOk, IfErr, IfSome, IsNone, not, option_copied, option_map, slice_get};
+ghost use Rattle.std.specs.Prelude.{◌≡◌, find as find_first, ◌<◌, ◌≤◌, suc, Some, None, true, false, length, IfOk, IfErr, IfSome, IsNone, not, option_copied, option_map, slice_get};
 ghost use Rattle.std.specs.List.{filter};
 ghost use Rattle.std.specs.List.Sorted.{IsStrictlySortedBy};
 ghost use Rattle.std.specs.Map.{keys_of};
 ghost use Rattle.std.specs.Option.{IsSomeAnd};
 ghost use Rattle.ng_watch.specs.Chunks.{joined, before, after, front, chunk_at, row_at, has_key, key_from, is_passed, AllBelow, IsEdge, IsGap};
-ghost use Rattle.ng_watch.specs.Keys.{begins, key_cmp};
+ghost use Rattle.ng_watch.specs.Keys.{begins, is_above, is_key, key_cmp};
 
 use crate::chunk::{Chunk, is_below};
 use crate::paths::begins;
@@ -40,35 +40,24 @@ pub(crate) fn first_row(chunks: &[Chunk]) -> Option<&(Key, Watched)>
     }
 }
 
-/// The first row of the chunks after one.
-fn first_after(chunks: &[Chunk], chunk: usize) -> Option<&(Key, Watched)>
-    requires { chunk < length chunks.now }
-    ensures { option_copied result ≡ slice_get (after chunks.now (chunk + 1) 0) 0 }
+/// The place of the first row of the chunks from one on.
+fn start(chunks: &[Chunk], chunk: usize) -> Place
+    ensures { row_at chunks.now result.chunk result.row ≡ slice_get (after chunks.now chunk 0) 0 }
 {
-    match chunks.get(chunk + 1) {
-        None => None,
-        Some(next) => Some(next.first()),
-    }
-}
-
-/// The row after a place that has one.
-pub(crate) fn row_after(chunks: &[Chunk], at: Place) -> Option<&(Key, Watched)>
-    ensures { option_copied result ≡ slice_get (after chunks.now at.chunk (suc at.row)) 0 }
-{
-    match chunks.get(at.chunk) {
-        None => None,
+    let at = Place { chunk, row: 0 };
+    match chunks.get(chunk) {
+        None => at,
         Some(chunk) => {
-            if at.row < chunk.len() - 1 {
-                chunk.row(at.row + 1)
-            } else {
-                first_after(chunks, at.chunk)
-            }
+            let _first = chunk.first();
+            at
         }
     }
 }
 
-/// The place after one.
-pub(crate) fn step(chunks: &[Chunk], at: Place) -> Place {
+/// The place after one that has a row.
+fn step(chunks: &[Chunk], at: Place) -> Place
+    ensures { row_at chunks.now result.chunk result.row ≡ slice_get (after chunks.now at.chunk (suc at.row)) 0 }
+{
     match chunks.get(at.chunk) {
         None => at,
         Some(chunk) => {
@@ -78,13 +67,17 @@ pub(crate) fn step(chunks: &[Chunk], at: Place) -> Place {
                     row: at.row + 1,
                 }
             } else {
-                Place {
-                    chunk: at.chunk + 1,
-                    row: 0,
-                }
+                start(chunks, at.chunk + 1)
             }
         }
     }
+}
+
+/// Whether a row has a key. The numbers, which mostly tell two keys apart, are compared first.
+pub(crate) fn is_of(row: &(Key, Watched), key: &Key) -> bool
+    ensures { result ≡ is_key key.now row.now.0 }
+{
+    key.serial == row.0.serial && key.path == row.0.path
 }
 
 /// Whether the row of a key stands at a place.
@@ -93,7 +86,7 @@ pub(crate) fn is_at(chunks: &[Chunk], at: Place, key: &Key) -> bool
 {
     match row_at(chunks, at) {
         None => false,
-        Some(row) => key.cmp(&row.0).is_eq(),
+        Some(row) => is_of(row, key),
     }
 }
 
@@ -126,6 +119,7 @@ fn chunk_for(chunks: &[Chunk], path: &Path, serial: Serial) -> usize
 }
 
 /// Where the rows that are not below the key of a path and a number begin.
+#[inline(never)]
 pub(crate) fn edge(chunks: &[Chunk], path: &Path, serial: Serial) -> Place
     requires { IsStrictlySortedBy key_cmp (keys_of (joined chunks.now)) }
     ensures edge { IsEdge (key_from path.now serial) chunks.now result.chunk result.row }
@@ -141,7 +135,24 @@ pub(crate) fn edge(chunks: &[Chunk], path: &Path, serial: Serial) -> Place
     }
 }
 
+/// The place of a key's row, or the one where it would stand, by a search.
+#[inline(never)]
+pub(crate) fn search(chunks: &[Chunk], key: &Key) -> Result<Place, Place>
+    requires { IsStrictlySortedBy key_cmp (keys_of (joined chunks.now)) }
+    ensures there { IfOk result (λ p. has_key key.now (row_at chunks.now p.chunk p.row) ≡ true) }
+    ensures gap { IfErr result (λ p. IsGap key.now (before chunks.now p.chunk p.row) (after chunks.now p.chunk p.row)) }
+    ensures next { IfErr result (λ p. slice_get (after chunks.now p.chunk p.row) 0 ≡ row_at chunks.now p.chunk p.row) }
+{
+    let at = edge(chunks, &key.path, key.serial);
+    if is_at(chunks, at, key) {
+        Ok(at)
+    } else {
+        Err(at)
+    }
+}
+
 /// The place of a key's row, or the one where it would stand. A place that may be right is looked at first.
+#[inline]
 pub(crate) fn find(chunks: &[Chunk], at: Place, key: &Key) -> Result<Place, Place>
     requires { IsStrictlySortedBy key_cmp (keys_of (joined chunks.now)) }
     ensures there { IfOk result (λ p. has_key key.now (row_at chunks.now p.chunk p.row) ≡ true) }
@@ -149,13 +160,20 @@ pub(crate) fn find(chunks: &[Chunk], at: Place, key: &Key) -> Result<Place, Plac
     ensures next { IfErr result (λ p. slice_get (after chunks.now p.chunk p.row) 0 ≡ row_at chunks.now p.chunk p.row) }
 {
     if is_at(chunks, at, key) {
-        return Ok(at);
-    }
-    let at = edge(chunks, &key.path, key.serial);
-    if is_at(chunks, at, key) {
         Ok(at)
     } else {
-        Err(at)
+        search(chunks, key)
+    }
+}
+
+/// The place of the first row above a key, if there is one. A place where the key may stand is looked at first.
+pub(crate) fn next_place(chunks: &[Chunk], at: Place, key: &Key) -> Place
+    requires { IsStrictlySortedBy key_cmp (keys_of (joined chunks.now)) }
+    ensures { row_at chunks.now result.chunk result.row ≡ find_first (λ e. is_above key.now e.0) (joined chunks.now) }
+{
+    match find(chunks, at, key) {
+        Ok(at) => step(chunks, at),
+        Err(at) => at,
     }
 }
 

@@ -12,20 +12,25 @@ ghost use Rattle.ng_watch.specs.Keys.{key_cmp, is_key, is_above, begins};
 
 use crate::chunk::Chunk;
 use crate::edits::{drop_under, put_in, set_kept, set_watched, take_row};
-use crate::places::{Place, edge, find, first_row, is_at, row_after, row_at, step};
+use crate::places::{Place, edge, find, first_row, is_at, is_of, next_place, row_at, search};
 use crate::watched::Watched;
 use ng_base::fault::Memory;
 use ng_base::path::{Key, Path};
 use ng_value::snapshot::Snap;
 use std::alloc::Global;
+use std::cell::Cell;
 use std::marker::Model;
 
-/// Rows in key order. Contracts see them as one list.
+/// The place of the first row.
+const FIRST: Place = Place { chunk: 0, row: 0 };
+
+/// Rows in key order. Contracts see them as one list. The place is that of the row that was found last, where the next
+/// look begins: it stands in a cell, since no answer depends on it.
 #[derive(Drop)]
 pub(crate) struct RowTable {
     alloc: Global,
     chunks: Vec<Chunk>,
-    at: Place,
+    at: Cell<Place>,
     count: u64,
 }
 
@@ -63,7 +68,7 @@ impl RowTable {
         RowTable {
             alloc,
             chunks: Vec::new(alloc),
-            at: Place { chunk: 0, row: 0 },
+            at: Cell::new(FIRST),
             count: 0,
         }
     }
@@ -88,40 +93,42 @@ impl RowTable {
     pub(crate) fn first(&self) -> Option<&Key>
         ensures { option_copied result ≡ option_map (λ e. e.0) (slice_get self.now 0) }
     {
+        self.at.set(FIRST);
         let row = first_row(&self.chunks)?;
         Some(&row.0)
     }
 
-    /// The least key above one. The row after the place of the walk is looked at first.
+    /// The least key above one. The place moves on to its row.
     pub(crate) fn next_after(&self, key: &Key) -> Option<&Key>
         ensures { option_copied result ≡ option_map (λ e. e.0) (find (λ e. is_above key.now e.0) self.now) }
     {
-        match find(&self.chunks, self.at, key) {
-            Ok(at) => key_of(row_after(&self.chunks, at)),
-            Err(at) => key_of(row_at(&self.chunks, at)),
-        }
+        let next = next_place(&self.chunks, self.at.get(), key);
+        self.at.set(next);
+        key_of(row_at(&self.chunks, next))
     }
 
     /// The watcher of a key.
+    #[inline]
     pub(crate) fn get(&self, key: &Key) -> Option<&Watched>
         ensures value { option_copied result ≡ lookup (is_key key.now) self.now }
     {
-        let Ok(at) = find(&self.chunks, self.at, key) else {
-            return None;
-        };
-        let row = row_at(&self.chunks, at)?;
-        Some(&row.1)
+        match row_at(&self.chunks, self.at.get()) {
+            Some(row) if is_of(row, key) => Some(&row.1),
+            _ => self.search(key),
+        }
     }
 
-    /// A walk has come to a key. Mostly that is the next one.
-    pub(crate) fn seek(&mut self, key: &Key)
-        ensures { self.new ≡ self.old }
+    /// The watcher of a key, by a search.
+    #[inline(never)]
+    fn search(&self, key: &Key) -> Option<&Watched>
+        ensures value { option_copied result ≡ lookup (is_key key.now) self.now }
     {
-        let next = step(&self.chunks, self.at);
-        self.at = match find(&self.chunks, next, key) {
-            Ok(at) => at,
-            Err(at) => at,
+        let Ok(at) = search(&self.chunks, key) else {
+            return None;
         };
+        self.at.set(at);
+        let row = row_at(&self.chunks, at)?;
+        Some(&row.1)
     }
 
     /// Puts a row in at the place of its key. A row that has the key takes the watcher.
@@ -150,10 +157,10 @@ impl RowTable {
         ensures entries { self.new ≡ remove_entry (is_key key.now) self.old }
         ensures ordered { IsStrictlySortedBy key_cmp (keys_of self.new) }
     {
-        let Ok(at) = find(&self.chunks, self.at, key) else {
+        let Ok(at) = find(&self.chunks, self.at.get(), key) else {
             return None;
         };
-        self.at = at;
+        self.at.set(at);
         self.count -= 1;
         Some(take_row(&mut self.chunks, at))
     }
@@ -179,7 +186,7 @@ impl RowTable {
         ensures former { result ≡ option_map (λ w. w.kept) (lookup (is_key key.now) self.old) }
         ensures kept { MatchOption (lookup (is_key key.now) self.old) (self.new ≡ self.old) (λ w. self.new ≡ set_value (is_key key.now) self.old (record { watch = w.watch; kept = kept })) }
     {
-        let Ok(at) = find(&self.chunks, self.at, key) else {
+        let Ok(at) = find(&self.chunks, self.at.get(), key) else {
             return None;
         };
         Some(set_kept(&mut self.chunks, at, kept))

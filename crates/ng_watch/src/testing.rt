@@ -120,24 +120,9 @@ fn word_snap(alloc: Global, store: &Store, value: &View) -> Result<Snap, Fault>
     Ok(Snap::of_view(View::of_list(views)))
 }
 
-/// The verdict of a text: a value that is no object is spelled only where the kept text is another.
-fn text_verdict(
-    alloc: Global,
-    store: &Store,
-    kept: &Option<Snap>,
-    value: &View,
-) -> Result<Verdict, Fault>
-    requires { ViewStands (length store.now) (view_of value.now) }
-    ensures { Gives is_memory judged_of (verdict_of kinds.Text (option_map snap_of kept.now) store.now (view_of value.now)) result }
-{
-    if shows_kept(value, kept) {
-        return Ok(Verdict::Clean);
-    }
-    let now = text_snap(alloc, store, value)?;
-    Ok(against(kept, now))
-}
-
-/// The verdict of a watch of a kind, by what was kept, of a value.
+/// The verdict of a watch of a kind, by what was kept, of a value. It stands apart so that the test of a hole that is
+/// clean needs little room.
+#[inline(never)]
 fn verdict_of(
     alloc: Global,
     store: &Store,
@@ -153,7 +138,7 @@ fn verdict_of(
         WatchKind::Reference => snap(alloc, SnapKind::Reference, store, value)?,
         WatchKind::Collection => snap(alloc, SnapKind::Collection, store, value)?,
         WatchKind::Deep => snap(alloc, SnapKind::Deep, store, value)?,
-        WatchKind::Text => return text_verdict(alloc, store, kept, value),
+        WatchKind::Text => text_snap(alloc, store, value)?,
         WatchKind::Words => word_snap(alloc, store, value)?,
         WatchKind::TwoWay { dest, name } => {
             return two_way_verdict(alloc, store, *dest, name, kept, value);
@@ -162,11 +147,24 @@ fn verdict_of(
     Ok(against(kept, now))
 }
 
-/// The verdict of a watcher.
+/// Whether a watch is told to be clean without a snapshot: a hole that still shows the text that was kept.
+fn is_shown(watched: &Watched, value: &View) -> bool
+    ensures { IsTrue result → (objects : List Object) → verdict_of watched.now.watch.kind (option_map snap_of watched.now.kept) objects (view_of value.now) ≡ Ok clean }
+{
+    match watched.watch.kind {
+        WatchKind::Text => shows_kept(value, &watched.kept),
+        _ => false,
+    }
+}
+
+/// The verdict of a watcher: a value that is no object is spelled only where the kept text is another.
 pub(crate) fn verdict(alloc: Global, store: &Store, watched: &Watched) -> Result<Verdict, Fault>
     requires { WatchStands (length store.now) (watching_of watched.now.watch) }
     ensures { Gives is_memory judged_of (verdict store.now (watcher_of watched.now)) result }
 {
     let value = value_now(alloc, store, &watched.watch)?;
+    if is_shown(watched, &value) {
+        return Ok(Verdict::Clean);
+    }
     verdict_of(alloc, store, watched, &value)
 }

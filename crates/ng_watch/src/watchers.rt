@@ -207,13 +207,6 @@ impl Watchers {
         Ok(rows)
     }
 
-    /// Says where a walk stands: calls at this key, or right after it, find it without a search.
-    pub fn seek(&mut self, key: &Key)
-        ensures unchanged { self.new ≡ self.old }
-    {
-        self.table.seek(key);
-    }
-
     /// The least key.
     pub fn first(&self) -> Option<&Key>
         ensures key { option_copied result ≡ first_key (watchers_of self.now) }
@@ -222,7 +215,8 @@ impl Watchers {
         self.table.first()
     }
 
-    /// The least key above one, which need not be there.
+    /// The least key above one, which need not be there. The next call at the key that is found, or right after it, needs
+    /// no search.
     pub fn next_after(&self, key: &Key) -> Option<&Key>
         ensures key { option_copied result ≡ key_after key.now (watchers_of self.now) }
         ensures there { IfSome result (λ k. IsSome (found k.now (watchers_of self.now))) }

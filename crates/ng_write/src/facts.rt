@@ -2,15 +2,15 @@
 //!
 //! The object of the data is the root scope's own object (guide: Scopes, "Scope Hierarchies"): it is made as a scope, gets
 //! the names that a scope has of its own, and then the members of the data.
-ghost use Rattle.std.specs.Prelude.{◌≡◌, ◌<◌, ◌≤◌, length, is_some, Ok, true, IfOk, IfErr};
-ghost use Rattle.std.specs.Str.{chars};
+ghost use Rattle.std.specs.Prelude.{◌≡◌, ◌<◌, ◌≤◌, length, is_some, Ok};
+ghost use Rattle.std.specs.Str.{chars, bytes_eq};
+ghost use Rattle.ng_base.specs.Word.{IsWord};
 ghost use Rattle.serde_json.specs.View.{view, items_view, members_view, number_view};
 ghost use Rattle.ng_language.specs.Objects.{set_name};
 ghost use Rattle.ng_store.specs.Json.{json_value, with_json, whole, is_whole, are_items_whole, are_members_whole};
 ghost use Rattle.ng_write.specs.Assigning.{is_kept_name};
-ghost use Rattle.ng_write.specs.Facts.{facts_are_whole, read_then, members_entered, facts_entered, is_memory_fault, Reads};
+ghost use Rattle.ng_write.specs.Facts.{facts_are_whole, read_then, members_entered, facts_entered, Reads};
 
-use crate::assigning::is_kept_name;
 use ng_base::name::Oid;
 use ng_base::txt::Txt;
 use ng_store::{JsonFault, Store};
@@ -67,26 +67,32 @@ fn are_members_whole(members: &Map<String, Json>) -> bool
     true
 }
 
-/// Whether a name of JSON is one that a scope keeps for itself.
-fn is_left_out(alloc: Global, name: &str) -> Result<bool, JsonFault>
-    ensures left { IfOk result (λ b. b ≡ is_kept_name (chars name.now)) }
-    ensures memory { IfErr result (λ e. is_memory_fault e ≡ true) }
+/// Whether a name of JSON is a word of ASCII characters. Nothing is allocated.
+fn is_name(name: &str, word: &str) -> bool
+    requires { IsWord word.now }
+    ensures { result ≡ bytes_eq (chars name.now) word.now }
 {
-    Ok(is_kept_name(&Txt::from_str(alloc, name)?))
+    name == word
+}
+
+/// Whether a name of JSON is one that a scope keeps for itself.
+fn is_left_out(name: &str) -> bool
+    ensures { result ≡ is_kept_name (chars name.now) }
+{
+    is_name(name, "$id") || is_name(name, "$parent") || is_name(name, "$root")
 }
 
 /// Whether each number but those under the names that are left out is whole and in range.
-fn facts_are_whole(alloc: Global, facts: &Map<String, Json>) -> Result<bool, JsonFault>
-    ensures whole { IfOk result (λ b. b ≡ facts_are_whole (members_view facts.now.entries)) }
-    ensures memory { IfErr result (λ e. is_memory_fault e ≡ true) }
+fn facts_are_whole(facts: &Map<String, Json>) -> bool
+    ensures { result ≡ facts_are_whole (members_view facts.now.entries) }
 {
     for (name, v) in facts {
-        let known = is_left_out(alloc, name.as_str())? || is_whole(v);
+        let known = is_left_out(name.as_str()) || is_whole(v);
         if !known {
-            return Ok(false);
+            return false;
         }
     }
-    Ok(true)
+    true
 }
 
 /// Reads a value as a name of an object that stands.
@@ -120,7 +126,7 @@ fn enter_members(
     ensures grown { length store.old ≤ length store.new }
 {
     for (name, v) in facts {
-        if !is_left_out(alloc, name.as_str())? {
+        if !is_left_out(name.as_str()) {
             enter_member(alloc, store, o, name.as_str(), v)?;
         }
     }
@@ -139,7 +145,7 @@ pub fn enter_facts(
     ensures entered { Reads (facts_entered store.old o.0 (members_view facts.now.entries)) store.new result }
     ensures grown { length store.old ≤ length store.new }
 {
-    if !facts_are_whole(alloc, facts)? {
+    if !facts_are_whole(facts) {
         return Err(JsonFault::Number);
     }
     enter_members(alloc, store, o, facts)

@@ -13,7 +13,7 @@ use ng_run::run::run;
 use std::alloc::Global;
 use std::process::ExitCode;
 use std::rt::Env;
-use std::{env, io};
+use std::{env, io, mem};
 
 /// The status where memory was refused.
 const NO_MEMORY: u8 = 8;
@@ -40,5 +40,8 @@ fn main(rt: HostRuntime) -> ExitCode {
     let mut shelf = FileShelf::new(alloc, &rt);
     let mut sink = StdoutSink::new(io::writer(&rt));
     let ran = run(alloc, words.as_slice(), &mut shelf, &mut sink);
-    ExitCode::from(ran.status)
+    let status = ran.status;
+    // The page's memory goes back to the system with the program, all at once.
+    mem::forget(ran);
+    ExitCode::from(status)
 }

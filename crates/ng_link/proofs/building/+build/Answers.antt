@@ -1,7 +1,7 @@
 use Rattle.std.proofs.Common.{arith, refl, ap, sym, subst, ◌∙◌, ◌≡◌, ◌++◌, ◌∷◌, [], List, ℕ, map, take, drop, suc, ◌+◌, append_assoc}
 use Rattle.std.proofs.lemmas.List.{map_more}
 use Rattle.ng_dom.specs.Document.{next_name}
-use Rattle.ng_dom.specs.Drawing.{none_stand, stand_then, shows}
+use Rattle.ng_dom.specs.Drawing.{shows}
 use Rattle.ng_dom.specs.Nodes.{names_of}
 use Rattle.ng_drawing.specs.Nodes.{nodes}
 use Rattle.ng_drawing.specs.Template.{Part, Contents, parts_from}

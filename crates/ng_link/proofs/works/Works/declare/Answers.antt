@@ -17,7 +17,7 @@ returns-clause-state c =
     let off : is_site s.linked k ≡ false = sym c.is_site.ensures ∙ c.if-is_site.false in
     let copy : record { path = c.in_ok-path.path; serial = k.serial } ≡ k = ap (λ (p : List ℕ). record { path = p; serial = k.serial }) c.in_ok-path.ensures in
     let watchers : watchers_of c.add.new.self ≡ with_watch k w s.watchers = c.in_ok-add.ensures.added ∙ ap (λ (q : Key). with_watch q w s.watchers) copy in
-    let listeners : declared_of c.insert.new.self.entries ≡ insert_entry key_cmp s.declared k (listening_of c.args.l) = ap declared_of c.in_ok-insert.ensures.entries ∙ put-seen listening_of k c.args.l c.args.self.now.declared.entries in
+    let listeners : declared_of c.insert.new.self.entries ≡ insert_entry key_cmp s.declared k (listening_of c.args.l) = ap declared_of c.in_ok-insert.ensures.entries ∙ put-seen listening_of key_cmp k c.args.l c.args.self.now.declared.entries in
     rw off (ap (λ (t : Table). record s { watchers = t; declared = declared_of c.insert.new.self.entries }) watchers ∙ ap (λ (d : Declared). record s { watchers = with_watch k w s.watchers; declared = d }) listeners)
 
 pub returns-clause-stands : goal.returns-clause-stands

@@ -1,14 +1,15 @@
-use Rattle.std.proofs.Common.{◌≡◌, Option, Some, None, ap, sym, subst, ◌∙◌}
+use Rattle.std.proofs.Common.{◌≡◌, ℕ, Option, Some, None, ap, sym, subst, ◌∙◌}
 use Rattle.std.specs.Prelude.{option_map, option_and_then}
 use Rattle.ng_base.specs.Views.{ViewTree}
+use Rattle.ng_dom.specs.Document.{next_name}
 use Rattle.ng_value.specs.Snaps.{snap_of}
 use Rattle.ng_watch.specs.Seen.{Watcher}
-use Rattle.ng_watch.specs.Table.{Table}
+use Rattle.ng_watch.specs.Table.{Table, watchers_of, with_kept}
 use Rattle.ng_link.specs.Firing.{WritesAt}
 use Rattle.ng_link.specs.State.{state_of, looks_of, spot_in}
 use Rattle.ng_link.specs.Standing.{Standing}
 use Rattle.ng_link.specs.declared.works.Works.{Works}
-use Rattle.ng_link.proofs.Fired.{kept_stands}
+use Rattle.ng_link.proofs.Fired.{kept_stands, written_next}
 use Rattle.ng_link.proofs.works.Works.keep.Goals as goal
 
 -- what a watcher that is there had kept
@@ -18,8 +19,15 @@ former_kept (Some w) r e = let same : w.kept ≡ r = cc in sym same
 
 pub returns-clause-state : goal.returns-clause-state
 returns-clause-state c =
-    ap state_of c.in_ok-show_kept.ensures.fires.rest
-    ∙ ap (λ (t : Table). record (state_of c.args.self.now) { watchers = t }) c.keep-former.ensures.kept
+    let s = state_of c.args.self.now in
+    let old = c.args.self.now.dom in
+    let new = c.show_kept.new.self.dom in
+    let t = with_kept c.args.key.now (Some (snap_of c.args.s)) s.watchers in
+    let fires = c.in_ok-show_kept.ensures.fires in
+    let next : next_name new ≡ next_name old = written_next (looks_of (watchers_of c.keep-former.new.self) s.resting) (spot_in c.args.self.now.page c.args.key.now) old new fires.dom in
+    ap state_of fires.rest
+    ∙ (ap (λ (x : Table). record s { watchers = x; next_node = next_name new }) c.keep-former.ensures.kept
+    ∙ ap (λ (n : ℕ). record s { watchers = t; next_node = n }) next)
 
 pub returns-clause-former : goal.returns-clause-former
 returns-clause-former c = former_kept _ _ c.keep-former.ensures.former

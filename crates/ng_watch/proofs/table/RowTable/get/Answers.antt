@@ -1,16 +1,11 @@
-use Rattle.std.proofs.Common.{List, ap, sym, subst, true, ◌≡◌, ◌∙◌}
-use Rattle.ng_watch.specs.Chunks.{Rows, before, after, row_at, has_key, IsGap}
-use Rattle.ng_watch.proofs.AtPlaces.{lookup_none, lookup_at, watcher_in}
+use Rattle.std.proofs.Common.{List, Some, ap, sym, ◌≡◌, ◌∙◌}
+use Rattle.ng_watch.specs.Chunks.{Rows, row_at}
+use Rattle.ng_watch.proofs.AtPlaces.{lookup_row}
 use Rattle.ng_watch.proofs.table.RowTable.get.Goals as goal
 
-pub returns-in_default : goal.returns-in_default
-returns-in_default c =
-    let k = c.args.key.now in
-    let g = subst (λ (cs : List Rows). IsGap k (before cs c.in_default.field-0.chunk c.in_default.field-0.row) (after cs c.in_default.field-0.chunk c.in_default.field-0.row)) c.deref.ensures.value c.in_default.ensures.gap in
-    record { value = sym (lookup_none k c.self.inside.chunks.items c.in_default.field-0.chunk c.in_default.field-0.row c.args.self.now c.self.view_is g) }
-
-pub returns : goal.returns
-returns c =
-    let k = c.args.key.now in
-    let h = subst (λ (cs : List Rows). has_key k (row_at cs c.in-Ok.at.chunk c.in-Ok.at.row) ≡ true) c.deref.ensures.value c.in-Ok.ensures.there in
-    record { value = ap watcher_in (c.in_ok-row.ensures ∙ ap (λ (cs : List Rows). row_at cs c.in-Ok.at.chunk c.in-Ok.at.row) c.deref-2.ensures.value) ∙ sym (lookup_at k c.self.inside.chunks.items c.in-Ok.at.chunk c.in-Ok.at.row c.args.self.now c.self.view_is c.self.invariant.sorted h) }
+pub returns-in-Some : goal.returns-in-Some
+returns-in-Some c =
+    let i = c.get.result.chunk in
+    let j = c.get.result.row in
+    let is : row_at c.self.inside.chunks.items i j ≡ Some c.in-Some.row.now = sym (c.in-Some.ensures ∙ ap (λ (cs : List Rows). row_at cs i j) c.deref.ensures.value) in
+    record { value = sym (lookup_row c.args.key.now c.self.inside.chunks.items i j c.args.self.now c.self.view_is c.self.invariant.sorted c.in-Some.row.now is (sym c.is_of.ensures ∙ c.if-is_of.true)) }
