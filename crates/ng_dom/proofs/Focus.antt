@@ -4,11 +4,11 @@ use Rattle.std.specs.Prelude.{◌==◌}
 use Rattle.std.proofs.lemmas.Bool.{eqb-true, eqb-false}
 use Rattle.ng_base.specs.declared.path.Key.{Key}
 use Rattle.ng_markup.specs.Forest.{Attributes}
-use Rattle.ng_dom.specs.Nodes.{NamedNode, NamedForest, NamedGroups, named_text, named_comment, named_element, named_anchor, named_then, group_then, name_of, names_of, group_names}
+use Rattle.ng_dom.specs.Nodes.{NamedNode, NamedForest, NamedGroups, named_text, named_comment, named_element, named_anchor, nothing_named, named_then, no_groups, group_then, name_of, names_of, group_names}
 use Rattle.ng_dom.specs.Editing.{changed, changed_in, changed_groups, at_name, with_text, with_attributes, with_groups}
 use Rattle.ng_dom.specs.Rooms.{Room, Rooms, anchor_shape, room_of, HasRoom, ReadsInside, ReadsIn, ReadsGroups}
 use Rattle.ng_dom.specs.Drawing.{Look, Stand, Stands, Bodies, Source, DrawnAttributes, text_stands, comment_stands, element_stands, block_stands, none_stand, stand_then, no_bodies, body_then, of_text, of_comment, of_element, joined, drawn_attributes, show, shows, show_bodies, Held, HeldAll, HeldBodies, DifferAt, at_block, at_block_all, at_block_bodies}
-use Rattle.ng_dom.specs.Laws.{TextWritten, AttributesWritten, GroupsChanged}
+use Rattle.ng_dom.specs.Laws.{TextWritten, AttributesWritten, NothingWritten, GroupsChanged}
 use Rattle.ng_dom.specs.declared.record.Piece.{Piece}
 use Rattle.ng_dom.proofs.Attributes.{same_joined, same_attributes}
 
@@ -50,7 +50,7 @@ module _ (site : Key → Option ℕ) (home : ℕ → Option Source) (k : Key) (n
         (λ q. anew.element m e ats (shows w ms) (drawn_from m (of_element ats) h.0 q))
         (λ apart. ap (λ (us : Attributes). named_element m e us (shows w ms)) (same_attributes site m v w (elsewhere m apart) ats [] h.1))
     redrawn (block_stands m bs) h =
-        ap (λ (gs : NamedGroups). at_name n g (named_anchor m gs)) (bodies_redrawn bs h)
+        ap (λ (gs : NamedGroups). at_name n g (named_anchor m gs)) (bodies_redrawn bs h.1)
         ∙ by_name n g (named_anchor m (show_bodies w bs)) (named_anchor m (show_bodies w bs)) (λ e. anew.anchor m (show_bodies w bs)) (λ apart. refl)
 
     all_redrawn : (ms : Stands) → HeldAll site home ms → changed_in n g (shows v ms) ≡ shows w ms
@@ -83,6 +83,36 @@ attributes_anew v w ats = record {
 pub attributes_written : AttributesWritten
 attributes_written site home k n ats v w ms here is held off =
     all_redrawn site home k n (of_element ats) (with_attributes (λ _. drawn_attributes w ats)) v w here is off (attributes_anew v w ats) ms held
+
+-- nothing is changed by a change that leaves each node as it is
+as_it_is : (n : ℕ) (x : NamedNode) → at_name n (λ y. y) x ≡ x
+as_it_is n x = by_name n (λ y. y) x x (λ e. refl) (λ apart. refl)
+
+mutual
+  node_left : (n : ℕ) (x : NamedNode) → changed n (λ y. y) x ≡ x
+  node_left n (named_text m t) = as_it_is n (named_text m t)
+  node_left n (named_comment m t) = as_it_is n (named_comment m t)
+  node_left n (named_element m e ats f) = as_it_is n (named_element m e ats (changed_in n (λ y. y) f)) ∙ ap (named_element m e ats) (all_left n f)
+  node_left n (named_anchor m gs) = as_it_is n (named_anchor m (changed_groups n (λ y. y) gs)) ∙ ap (named_anchor m) (groups_left n gs)
+
+  all_left : (n : ℕ) (f : NamedForest) → changed_in n (λ y. y) f ≡ f
+  all_left n nothing_named = refl
+  all_left n (named_then x f) = ap (λ (y : NamedNode). named_then y (changed_in n (λ y. y) f)) (node_left n x) ∙ ap (named_then x) (all_left n f)
+
+  groups_left : (n : ℕ) (gs : NamedGroups) → changed_groups n (λ y. y) gs ≡ gs
+  groups_left n no_groups = refl
+  groups_left n (group_then f gs) = ap (λ (y : NamedForest). group_then y (changed_groups n (λ y. y) gs)) (all_left n f) ∙ ap (group_then f) (groups_left n gs)
+
+nothing_anew : (v w : Key → Look) → Redraws v w of_comment (λ y. y)
+nothing_anew v w = record {
+  text = λ m ps e. absurd (cc);
+  comment = λ m t e. refl;
+  element = λ m e ats f q. absurd (cc);
+  anchor = λ m gs. refl;
+}
+
+pub nothing_written : NothingWritten
+nothing_written site home k n v w ms here is held off = sym (all_left n (shows v ms)) ∙ all_redrawn site home k n of_comment (λ y. y) v w here is off (nothing_anew v w) ms held
 
 -- the names of what stands don't change with the bodies of a block
 same_name : (v : Key → Look) (a : ℕ) (h : Bodies → Bodies) (m : Stand) → name_of (show v (at_block a h m)) ≡ name_of (show v m)

@@ -74,7 +74,7 @@ reads-cut s p i no_groups t = tt
 reads-cut s p zero (group_then g gs) t = t.1
 reads-cut s p (suc i) (group_then g gs) t = (t.0, reads-cut s p i gs t.1)
 
-names-at : (i : ℕ) (gs : NamedGroups) → names_of (group_at i gs) ≡ list_at i (group_names gs)
+pub names-at : (i : ℕ) (gs : NamedGroups) → names_of (group_at i gs) ≡ list_at i (group_names gs)
 names-at i no_groups = refl
 names-at zero (group_then g gs) = refl
 names-at (suc i) (group_then g gs) = names-at i gs
@@ -83,7 +83,7 @@ names-picked : (is : List ℕ) (gs : NamedGroups) → group_names (picked is gs)
 names-picked [] gs = refl
 names-picked (i ∷ is) gs = ap (λ (n : List ℕ). n ∷ group_names (picked is gs)) (names-at i gs) ∙ ap (λ (ns : List (List ℕ)). list_at i (group_names gs) ∷ ns) (names-picked is gs)
 
-reads-at : (s : Rooms) (p : Option ℕ) (i : ℕ) (gs : NamedGroups) → ReadsGroups s p gs → ReadsIn s p (group_at i gs)
+pub reads-at : (s : Rooms) (p : Option ℕ) (i : ℕ) (gs : NamedGroups) → ReadsGroups s p gs → ReadsIn s p (group_at i gs)
 reads-at s p i no_groups t = tt
 reads-at s p zero (group_then g gs) t = t.0
 reads-at s p (suc i) (group_then g gs) t = reads-at s p i gs t.1

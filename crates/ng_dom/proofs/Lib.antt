@@ -19,3 +19,7 @@ pub mod Ways
 pub mod Stands
 pub mod Standing
 pub mod Lines
+pub mod Homes
+pub mod Apart
+pub mod Counting
+pub mod Keeping

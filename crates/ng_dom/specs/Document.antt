@@ -1,8 +1,10 @@
 -- The document that a `Dom` keeps.
-use Rattle.std.specs.Prelude.{ℕ, ◌≡◌, ◌⊎◌, ◌+◌, ◌==◌, List, Option, Some, None, true, IsSome, if◌then◌else◌}
+use Rattle.std.specs.Prelude.{ℕ, ◌≡◌, ◌⊎◌, ◌+◌, ◌==◌, nat_eq, List, Option, Some, None, true, IsSome, if◌then◌else◌}
 use Rattle.std.specs.BTreeMap.{btree_map_len}
+use Rattle.std.specs.List.{IsDistinct}
 use Rattle.ng_base.specs.declared.name.NodeId.{NodeId}
-use Rattle.ng_dom.specs.Nodes.{NamedNode, NamedForest, name_of, names_of, nothing_named, named_then}
+use Rattle.ng_dom.specs.Lists.{among}
+use Rattle.ng_dom.specs.Nodes.{NamedNode, NamedForest, name_of, names_of, all_names, nothing_named, named_then}
 use Rattle.ng_dom.specs.Walks.{read, read_all}
 use Rattle.ng_dom.specs.Printed.{level, inner, counted_level, seek, found, IsRead}
 use Rattle.ng_dom.specs.Paths.{StandsIn}
@@ -49,6 +51,12 @@ IsParent d (Some p) = IsElement d p.made.0
 -- the whole document is this forest
 abbrev pub Shows : Dom → NamedForest → Type 0
 Shows d f = (top d ≡ names_of f) × ReadsIn (rooms d) None f
+
+-- The whole document is this forest, each live node is one of its nodes, and no two of these have one name: so nothing stands apart.
+pub record Holds (d : Dom) (f : NamedForest) : Type 0 where
+  pub shows : Shows d f
+  pub all : (q : ℕ) → IsLive d q → among q (all_names f) ≡ true
+  pub once : IsDistinct nat_eq (all_names f)
 
 -- whatever is read before, in the document or in a piece that is built apart, is read changed so afterwards
 abbrev pub Becomes : Dom → Dom → (NamedForest → NamedForest) → Type 0

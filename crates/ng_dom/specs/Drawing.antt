@@ -106,7 +106,23 @@ abbrev mutual
   show_bodies v no_bodies = no_groups
   show_bodies v (body_then ms bs) = group_then (shows v ms) (show_bodies v bs)
 
--- what a node is drawn from
+-- the names of all nodes that stand, in document order
+abbrev mutual
+  pub stand_names : Stand → List ℕ
+  stand_names (text_stands n ps) = n ∷ []
+  stand_names (comment_stands n t) = n ∷ []
+  stand_names (element_stands n e ats ms) = n ∷ names_standing ms
+  stand_names (block_stands n bs) = n ∷ body_names bs
+
+  pub names_standing : Stands → List ℕ
+  names_standing none_stand = []
+  names_standing (stand_then m ms) = stand_names m ++ names_standing ms
+
+  pub body_names : Bodies → List ℕ
+  body_names no_bodies = []
+  body_names (body_then ms bs) = names_standing ms ++ body_names bs
+
+-- what a node is drawn from; an anchor is an empty comment
 pub data Source : Type 0 where
   of_text : List Piece → Source
   of_comment : Source
@@ -137,13 +153,29 @@ abbrev pub AttributesAt : (Key → Option ℕ) → ℕ → DrawnAttributes → T
 AttributesAt site n [] = Unit {0}
 AttributesAt site n (a ∷ ats) = ValueAt site n a.1 × AttributesAt site n ats
 
+-- each node is drawn from what stands
+abbrev mutual
+  pub Homed : (ℕ → Option Source) → Stand → Type 0
+  Homed home (text_stands n ps) = home n ≡ Some (of_text ps)
+  Homed home (comment_stands n t) = home n ≡ Some of_comment
+  Homed home (element_stands n e ats ms) = (home n ≡ Some (of_element ats)) × HomedAll home ms
+  Homed home (block_stands n bs) = (home n ≡ Some of_comment) × HomedBodies home bs
+
+  pub HomedAll : (ℕ → Option Source) → Stands → Type 0
+  HomedAll home none_stand = Unit {0}
+  HomedAll home (stand_then m ms) = Homed home m × HomedAll home ms
+
+  pub HomedBodies : (ℕ → Option Source) → Bodies → Type 0
+  HomedBodies home no_bodies = Unit {0}
+  HomedBodies home (body_then ms bs) = HomedAll home ms × HomedBodies home bs
+
 -- what stands is known: for each node what it is drawn from, for each hole its node
 abbrev mutual
   pub Held : (Key → Option ℕ) → (ℕ → Option Source) → Stand → Type 0
   Held site home (text_stands n ps) = (home n ≡ Some (of_text ps)) × HolesAt site n ps
   Held site home (comment_stands n t) = home n ≡ Some of_comment
   Held site home (element_stands n e ats ms) = (home n ≡ Some (of_element ats)) × AttributesAt site n ats × HeldAll site home ms
-  Held site home (block_stands n bs) = HeldBodies site home bs
+  Held site home (block_stands n bs) = (home n ≡ Some of_comment) × HeldBodies site home bs
 
   pub HeldAll : (Key → Option ℕ) → (ℕ → Option Source) → Stands → Type 0
   HeldAll site home none_stand = Unit {0}

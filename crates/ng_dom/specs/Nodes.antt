@@ -1,6 +1,6 @@
 -- A document whose nodes have names. An anchor stands for a block of the template: it holds what the block brought, a group
 -- for each body or row.
-use Rattle.std.specs.Prelude.{ℕ, List, [], ◌∷◌}
+use Rattle.std.specs.Prelude.{ℕ, List, [], ◌∷◌, ◌++◌}
 use Rattle.ng_markup.specs.Forest.{Attributes, Forest, element, text, comment, no_nodes, node}
 
 mutual
@@ -31,6 +31,22 @@ names_of (named_then x f) = name_of x ∷ names_of f
 abbrev pub group_names : NamedGroups → List (List ℕ)
 group_names no_groups = []
 group_names (group_then f gs) = names_of f ∷ group_names gs
+
+-- the names of all nodes, in document order: a node comes before what it holds
+abbrev mutual
+  pub node_names : NamedNode → List ℕ
+  node_names (named_text n t) = n ∷ []
+  node_names (named_comment n t) = n ∷ []
+  node_names (named_element n e ats f) = n ∷ all_names f
+  node_names (named_anchor n gs) = n ∷ all_group_names gs
+
+  pub all_names : NamedForest → List ℕ
+  all_names nothing_named = []
+  all_names (named_then x f) = node_names x ++ all_names f
+
+  pub all_group_names : NamedGroups → List ℕ
+  all_group_names no_groups = []
+  all_group_names (group_then f gs) = all_names f ++ all_group_names gs
 
 -- one forest after another
 abbrev pub followed_by : Forest → Forest → Forest

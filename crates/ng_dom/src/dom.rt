@@ -1,12 +1,12 @@
 //! The document: its calls.
-ghost use Rattle.std.specs.Prelude.{◌≡◌, ◌≤◌, ◌<◌, ◌+◌, ◌==◌, ◌&&◌, ◌++◌, encode_utf8_all, ℕ, List, Option, Some, None, false, is_some, OnOk, OnErr, IfOk, IfErr, IfSome, [], ◌∷◌, IsOk, nat_lt, option_map, if◌then◌else◌};
+ghost use Rattle.std.specs.Prelude.{◌≡◌, ◌≤◌, ◌<◌, ◌+◌, ◌==◌, ◌&&◌, ◌++◌, encode_utf8_all, ℕ, List, length, Option, Some, None, false, is_some, OnOk, OnErr, IfOk, IfErr, IfSome, [], ◌∷◌, IsOk, nat_lt, option_map, if◌then◌else◌};
 ghost use Rattle.std.specs.BTreeMap.{get, btree_map_len};
 ghost use Rattle.std.specs.Ordering.{nat_cmp};
 ghost use Rattle.ng_base.specs.Meets.{Meets};
 ghost use Rattle.ng_dom.specs.Lists.{put_at, without_at, list_at, lists_at, filled_with};
 ghost use Rattle.ng_dom.specs.Removal.{without, room_without, top_without, groups_in, group_emptied, Takes, Spares, AreGone, IsThere, IsApartFromOthers};
 ghost use Rattle.ng_dom.specs.Editing.{changed_in, with_kids, with_text, with_attributes, attribute_set, attribute_dropped, with_groups, group_inserted, group_removed, picked};
-ghost use Rattle.ng_dom.specs.Nodes.{NamedNode, NamedForest, nothing_named, named_then, name_of, names_of, plain};
+ghost use Rattle.ng_dom.specs.Nodes.{NamedNode, NamedForest, nothing_named, named_then, name_of, names_of, all_names, plain};
 ghost use Rattle.ng_markup.specs.Forest.{print};
 ghost use Rattle.ng_html.specs.Seen.{forest_of};
 ghost use Rattle.ng_dom.specs.Ancestors.{line as line_of};
@@ -56,7 +56,7 @@ pub struct Dom {
 }
 
 impl Dom {
-    ghost use Rattle.ng_dom.specs.Document.{rooms, homes, top, next_name, live_count, IsElement, IsLive, IsParent, Shows, Becomes, Stays, Unchanged, Gains, IsPlaced, IsApart, IsMoved, IsMovedUnder, Keeps, Undone, Fewer, Leaves, Counts, Stands, child_in};
+    ghost use Rattle.ng_dom.specs.Document.{rooms, homes, top, next_name, live_count, IsElement, IsLive, IsParent, Shows, Becomes, Stays, Unchanged, Gains, IsPlaced, IsApart, IsMoved, IsMovedUnder, Keeps, Undone, Fewer, Leaves, Counts, Stands, Holds, child_in};
 
     /// No node.
     pub fn new(alloc: Global) -> Dom
@@ -428,6 +428,14 @@ impl Dom {
         ensures { result ≡ (n.slot == 0 && is_some (rooms self.now n.made.0)) }
     {
         n.slot == 0 && self.nodes.contains_key(&n.made.0)
+    }
+
+    /// How many nodes are live. Where nothing stands apart, that is how many names the document has.
+    pub fn live(&self) -> usize
+        ensures value { result ≡ live_count self.now }
+        ensures counts { (f : NamedForest) → Holds self.now f → result ≡ length (all_names f) }
+    {
+        self.nodes.len()
     }
 
     /// What a node is drawn from, where it is live.

@@ -26,6 +26,9 @@
 //!   anchor with all its groups is one of them.
 //! - `path` asks for a node that stands in the document, as one that `at` or `by_id` answers does ([`laws::places_stand`],
 //!   [`laws::found_stand`]): then it wants for nothing but memory.
+//! - `live` counts the live nodes at the cost of a look-up. `Holds` says that nothing stands apart: each live node is one of the
+//!   document's, under a name of its own. Then the count is that of the printed document ([`laws::names_are_counted`]), and it stays
+//!   so as groups come and go ([`laws::nothing_stands_apart`]).
 //! - `line` is the way of an event that bubbles: a node and the elements that it stands in, from the inside out. It costs as many
 //!   look-ups.
 //! - `forest`, `print`, `by_id` and `path` walk the document from the top. No walk goes deeper than names were given, as a child has a

@@ -7,3 +7,8 @@ pub mod Runs
 pub mod Cores
 pub mod Fired
 pub mod Names
+pub mod ProgramRuns
+pub mod Numbered
+pub mod Placed
+pub mod Sorted
+pub mod Ordered

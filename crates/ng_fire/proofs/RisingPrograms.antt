@@ -214,7 +214,7 @@ mutual
   pairs-rises go th scope done no_pairs s = rises-refl s.serial
   pairs-rises go th scope done (pair_then p ps) s = bind-rises s.serial (acted_pair go scope p s).0 (acted_pair go scope p s).1 (λ f a. acted_pairs go scope (insert_entry bytes_eq done f.0 f.1) ps a) (pair-rises go th scope p s) (λ f a. pairs-rises go th scope (insert_entry bytes_eq done f.0 f.1) ps a)
 
-statements-rises : (go : Doing) → IsRising go → (scope : ℕ) (v : ViewTree) (ts : Trees) (s : State) → Rises s.serial (statements go scope v ts s).0.serial
+pub statements-rises : (go : Doing) → IsRising go → (scope : ℕ) (v : ViewTree) (ts : Trees) (s : State) → Rises s.serial (statements go scope v ts s).0.serial
 statements-rises go th scope v no_trees s = rises-refl s.serial
 statements-rises go th scope v (tree_then t ts) s = bind-rises s.serial (acted go scope t s).0 (acted go scope t s).1 (λ w a. statements go scope w ts a) (acted-rises go th scope t s) (λ w a. statements-rises go th scope w ts a)
 

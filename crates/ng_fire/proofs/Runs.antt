@@ -1,13 +1,14 @@
 -- What a run as a value leaves, and what it comes to.
-use Rattle.std.proofs.Common.{◌≡◌, ◌≤◌, ◌-◌, ℕ, refl, sym, subst}
+use Rattle.std.proofs.Common.{◌≡◌, ◌≤◌, ◌-◌, ℕ, [], refl, sym, subst}
 use Rattle.std.specs.Prelude.{Result, Ok, Err, is_err}
-use Rattle.ng_act.specs.Actions.{Asked, does}
+use Rattle.ng_act.specs.Actions.{Asked, does, nothing, programmed}
 use Rattle.ng_act.specs.Running.{as_value_run}
-use Rattle.ng_act.specs.State.{State, Run, handed}
+use Rattle.ng_act.specs.State.{State, Run, handed, with_locals}
 use Rattle.ng_base.specs.Views.{ViewTree}
 use Rattle.ng_base.specs.declared.fault.Fault.{Fault}
-use Rattle.ng_fire.proofs.RisingPrograms.{does-rises}
-use Rattle.ng_fire.specs.Runs.{asked_first}
+use Rattle.ng_language.specs.Trees.{Trees}
+use Rattle.ng_fire.proofs.RisingPrograms.{does-rises, statements-rises}
+use Rattle.ng_fire.specs.Runs.{asked_first, program_run}
 
 value_state : (s : State) (o : Result ViewTree Fault) → (as_value_run (s, o)).0 ≡ s
 value_state s (Ok v) = refl
@@ -39,3 +40,11 @@ asked_rises a s = does-rises 64 a s
 pub asked_is : (a : Asked) (s : State) (n : ℕ) → n ≡ 0 → does (64 - n) a s ≡ asked_first a s
 unfolding asked_first
 asked_is a s n e = subst (λ (k : ℕ). does (64 - k) a s ≡ does 64 a s) (sym e) refl
+
+-- nor does a program that is run on a scope
+pub program_rises : (scope : ℕ) (p : Trees) (c : State) → c.serial ≤ (program_run scope p c).0.serial
+unfolding program_run
+program_rises scope p c =
+    let d : State = with_locals [] c in
+    let r : Run ViewTree = programmed (does 64) scope p d in
+    subst (λ (s : State). c.serial ≤ s.serial) (sym (value_run_state r)) (statements-rises (does 64) (does-rises 64) scope nothing p d)

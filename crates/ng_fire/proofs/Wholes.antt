@@ -65,13 +65,14 @@ whole_after w core h sound idle scopes store serial = record {
 }
 
 -- After a run left the core, which lowered no number of registration. Want of memory leaves nothing to be said.
+pub whole_ran : (w : Works) (core : Core) (end : Result Value Fault) (r : Run Value) → IsWhole w → Acts same end (cores.state_of core) r → w.core.serial.0 ≤ r.0.serial → IsSound core → core.depth ≡ 0 → length core.scopes ≡ length w.core.scopes → length w.core.store ≤ length core.store → Unless end (IsWhole (record w { core = core }))
+whole_ran w core (Ok v) r h acts rises sound idle scopes store =
+    whole_after w core h sound idle scopes store (subst (λ (s : act.State). w.core.serial.0 ≤ s.serial) (ap (λ (q : Run Value). q.0) acts) rises)
+whole_ran w core (Err e) r h acts rises sound idle scopes store = λ told.
+    whole_after w core h sound idle scopes store (subst (λ (s : act.State). w.core.serial.0 ≤ s.serial) (ap (λ (q : Run Value). q.0) (acts told)) rises)
+
 pub whole_run : (w : Works) (core : Core) (end : Result Value Fault) (r : Run ViewTree) → IsWhole w → Acts same end (cores.state_of core) (as_value_run r) → w.core.serial.0 ≤ r.0.serial → IsSound core → core.depth ≡ 0 → length core.scopes ≡ length w.core.scopes → length w.core.store ≤ length core.store → Unless end (IsWhole (record w { core = core }))
-whole_run w core (Ok v) r h acts rises sound idle scopes store =
-    let left : r.0 ≡ cores.state_of core = sym (value_run_state r) ∙ ap (λ (q : Run Value). q.0) acts in
-    whole_after w core h sound idle scopes store (subst (λ (s : act.State). w.core.serial.0 ≤ s.serial) left rises)
-whole_run w core (Err e) r h acts rises sound idle scopes store = λ told.
-    let left : r.0 ≡ cores.state_of core = sym (value_run_state r) ∙ ap (λ (q : Run Value). q.0) (acts told) in
-    whole_after w core h sound idle scopes store (subst (λ (s : act.State). w.core.serial.0 ≤ s.serial) left rises)
+whole_run w core end r h acts rises = whole_ran w core end (as_value_run r) h acts (subst (λ (s : act.State). w.core.serial.0 ≤ s.serial) (sym (value_run_state r)) rises)
 
 module _ (scopes objects : ℕ) where
   abbrev Kept : State → Type 0
@@ -113,7 +114,7 @@ module _ (scopes objects : ℕ) where
         rows = all_removed (Row objects s.linked) (is_key k) s.watchers h.rows;
       }
 
-  left_stays : (p : List ℕ) (s : State) → Kept s → Kept (left_at p s)
+  pub left_stays : (p : List ℕ) (s : State) → Kept s → Kept (left_at p s)
   left_stays p s h = record {
     listeners = all_filtered (Listener scopes) (λ e. not (begins p e.0.path)) s.declared h.listeners;
     rows = all_filtered (Row objects s.linked) (λ e. not (begins p e.0.path)) s.watchers h.rows;

@@ -1,10 +1,13 @@
--- The program of a declared watch, of a task: a body that is run while no other is open.
-use Rattle.std.specs.Prelude.{Bool, true, false, List, [], ◌∷◌}
+-- Programs that run while no body and no event is open: that of a declared watch, of a task, of a command.
+use Rattle.std.specs.Prelude.{ℕ, Bool, true, false, List, [], ◌∷◌}
 use Rattle.ng_act.specs.Actions.{Asked, a_body, does}
 use Rattle.ng_act.specs.State as act
-use Rattle.ng_act.specs.State.{Run, Task, handed}
+use Rattle.ng_act.specs.Running.{act_run}
+use Rattle.ng_act.specs.State.{Run, Task, handed, with_locals}
 use Rattle.ng_base.specs.Views.{ViewTree}
+use Rattle.ng_base.specs.declared.value.Value.{Value}
 use Rattle.ng_fire.specs.Changes.{changed}
+use Rattle.ng_language.specs.Trees.{Trees}
 use Rattle.ng_link.specs.Calls.{with_core}
 use Rattle.ng_link.specs.State.{State}
 
@@ -35,3 +38,11 @@ ran_of (t ∷ ts) s = followed (task_run t (without_task ts s.core)) s
 -- the first task that waits runs on its scope, live or not (API: `$rootScope.Scope`, `$evalAsync`)
 abbrev pub ran : State → State
 ran s = ran_of s.core.tasks s
+
+-- locals are given back as they were
+abbrev pub back : {A : Type 0} → act.State → Run A → Run A
+back c r = (with_locals c.locals r.0, r.1)
+
+-- a program runs on a scope while no body and no event is open
+unfoldable pub program_run : ℕ → Trees → act.State → Run Value
+program_run scope p c = back c (act_run 64 scope [] p c)

@@ -105,6 +105,7 @@ fn take_changes(works: &mut Works, alloc: Global) -> Vec<WatchChange>
     ensures stand { AllByRecursion (ChangeStands (length works.new.core.scopes)) (map change_of result.items) }
     ensures state { state_of works.new ≡ without_changes (state_of works.old) }
     ensures whole { IsWhole works.new }
+    ensures scopes { works.new.core.scopes ≡ works.old.core.scopes }
     ensures templates { templates_of works.new ≡ templates_of works.old }
 {
     replace(&mut works.core.changes, Vec::new(alloc))
@@ -116,6 +117,7 @@ fn apply_all(works: &mut Works, changes: Vec<WatchChange>) -> Result<(), Memory>
     requires stand { AllByRecursion (ChangeStands (length works.old.core.scopes)) (map change_of changes.items) }
     ensures state { OnOk result (state_of works.new ≡ applied_all (map change_of changes.items) (state_of works.old)) }
     ensures whole { OnOk result (IsWhole works.new) }
+    ensures core { OnOk result (works.new.core ≡ works.old.core) }
     ensures linked { OnOk result ((state_of works.new).linked ≡ (state_of works.old).linked) }
     ensures templates { templates_of works.new ≡ templates_of works.old }
 {
@@ -131,6 +133,7 @@ pub fn apply_changes(works: &mut Works, alloc: Global) -> Result<bool, Memory>
     ensures state { OnOk result (state_of works.new ≡ changed (state_of works.old)) }
     ensures added { IfOk result (λ added. added ≡ has_additions (state_of works.old).core.changes) }
     ensures whole { OnOk result (IsWhole works.new) }
+    ensures scopes { OnOk result (works.new.core.scopes ≡ works.old.core.scopes) }
     ensures linked { OnOk result ((state_of works.new).linked ≡ (state_of works.old).linked) }
     ensures templates { templates_of works.new ≡ templates_of works.old }
 {

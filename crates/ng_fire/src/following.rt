@@ -32,6 +32,7 @@ fn done(works: &mut Works, alloc: Global, faulted: bool) -> Result<Followed, Mem
     ensures faulted { IfOk result (λ f. f.faulted ≡ faulted) }
     ensures added { IfOk result (λ f. f.added ≡ has_additions (state_of works.old).core.changes) }
     ensures whole { OnOk result (IsWhole works.new) }
+    ensures scopes { OnOk result (works.new.core.scopes ≡ works.old.core.scopes) }
     ensures linked { OnOk result ((state_of works.new).linked ≡ (state_of works.old).linked) }
     ensures templates { templates_of works.new ≡ templates_of works.old }
 {
@@ -44,6 +45,7 @@ fn hand_over(works: &mut Works, fault: Fault)
     requires { IsWhole works.old }
     ensures state { state_of works.new ≡ with_core (with_fault fault (state_of works.old).core) (state_of works.old) }
     ensures whole { IsWhole works.new }
+    ensures scopes { works.new.core.scopes ≡ works.old.core.scopes }
     ensures templates { templates_of works.new ≡ templates_of works.old }
 {
     works.core.hand_over(fault);
@@ -59,6 +61,7 @@ pub fn follow(
     ensures state { IfOk result (λ f. (r : Run Given) → Acts same end (cores.state_of works.old.core) r → (state_of works.new ≡ followed r (state_of works.old)) × (f.faulted ≡ is_err r.1)) }
     ensures added { IfOk result (λ f. (r : Run Given) → Acts same end (cores.state_of works.old.core) r → f.added ≡ has_additions r.0.changes) }
     ensures whole { OnOk result (IsWhole works.new) }
+    ensures scopes { OnOk result (works.new.core.scopes ≡ works.old.core.scopes) }
     ensures linked { OnOk result ((state_of works.new).linked ≡ (state_of works.old).linked) }
     ensures templates { templates_of works.new ≡ templates_of works.old }
 {

@@ -1,8 +1,11 @@
-//! What a fire, a task and a settled digest do to the works of a page (guide: Scopes, "Scope Life Cycle"; API: `$watch`, `$digest`).
+//! What a linking, a fire, a task and a settled digest do to the works of a page (guide: Scopes, "Scope Life Cycle"; API: `$watch`,
+//! `$digest`).
 //!
 //! The works of `ng_link` are a core, watchers and a document. A program that runs on the core leaves there what the watchers
-//! are to become, and its fault is handed over. This crate runs the programs that a digest runs, and does what they leave:
+//! are to become, and its fault is handed over. This crate runs the programs that a linking and a digest run, and does what they leave:
 //!
+//! - `link`: a template becomes the page's. Its programs run and its sites get their numbers of registration in link order, and then it
+//!   stands;
 //! - `fire`: a dirty watcher keeps its snapshot of now. The site of a template shows it, and that is all; a declared watch runs
 //!   its program with the locals `value` and `old`;
 //! - `run_task`: the first task that waits runs;
@@ -13,8 +16,8 @@
 //! The contract that the crate above uses: each call leaves the state that its definition in `specs/` says, want of memory
 //! alone apart, and `IsWhole` of `specs/Whole.antt` holds of the works after it as before.
 //!
-//! In reading order: `changing` does what programs leave for the watchers, `following` hands a fault over before that,
-//! `listening` runs the program of a declared watch, `firing` is the fire, `tasks` the tasks, `settling` what comes last.
+//! In reading order: `changing` does what programs leave for the watchers, `following` hands a fault over before that, `programs` runs a
+//! program on a scope, `linking` links a template, `listening` runs the program of a declared watch, `firing` is the fire, `tasks` the tasks, `settling` what comes last.
 //!
 //! Not here: which watcher is tested when (`ng_digest`, `ng_page`), what a program does (`ng_act`), and how nodes and watchers
 //! hang together (`ng_link`).
@@ -23,6 +26,8 @@
 pub mod changing;
 pub mod firing;
 pub mod following;
+pub mod linking;
 mod listening;
+pub mod programs;
 pub mod settling;
 pub mod tasks;

@@ -1,5 +1,5 @@
 -- A page that would have too many nodes.
-use Rattle.std.proofs.Common.{◌≡◌, ◌<◌, ◌+◌, ℕ, zero, suc, Bool, true, false, List, [], ◌∷◌, refl, ap, sym, ◌∙◌, subst, Option, Some, None, Ok, Err, nat_lt, arith}
+use Rattle.std.proofs.Common.{◌≡◌, ◌<◌, ◌+◌, ℕ, zero, suc, Bool, true, false, List, [], ◌∷◌, refl, ap, sym, ◌∙◌, subst, Option, Some, None, Result, Ok, Err, nat_lt, arith}
 use Rattle.std.specs.Option.{IfSome}
 use Rattle.std.specs.Prelude.{◌&&◌, if◌then◌else◌}
 use Rattle.std.proofs.lemmas.Bool.Decides.{nat_tests}
@@ -15,12 +15,14 @@ use Rattle.ng_dom.specs.Drawing.{shows}
 use Rattle.ng_dom.specs.Nodes.{NamedNode, nothing_named}
 use Rattle.ng_dom.specs.Printed.{nth_of, went}
 use Rattle.ng_drawing.specs.Nodes.{nodes, node_limit}
+use Rattle.ng_fire.specs.Links.{Linking, begins_linking, step_linked, steps_linked, link_by}
 use Rattle.ng_link.specs.Calls.{blank}
+use Rattle.ng_link.specs.Linking.{LinkStep, makes, starts, registers, steps, steps_within}
 use Rattle.ng_link.specs.Events.{named, stands_in}
 use Rattle.ng_link.specs.State.{State, looks_in, shown_in, shown}
 use Rattle.ng_markup.specs.Forest.{no_nodes}
 use Rattle.ng_page.specs.Answered.{DigestsWhere}
-use Rattle.ng_page.specs.Commands.{Asked, is_idle, begun, asked_run, program_run}
+use Rattle.ng_page.specs.Commands.{Asked, is_idle, begun, asked_run}
 use Rattle.ng_page.specs.Opening.{prepared, linked_by, opening}
 use Rattle.ng_page.specs.Steps.{Outcome, Ends}
 use Rattle.ng_page.specs.Targets.{element_name, target_in}
@@ -34,16 +36,31 @@ use Rattle.ng_run.specs.Lines.{Digest, header}
 use Rattle.ng_run.specs.Session.{Reply, all_well, steps_status, whole, Runs, SessionOf}
 use Rattle.ng_run.specs.Steps.{Left, Step, is_well, DoesUnlessIdle, DoesAsked, DoesAct, Continues, OpensPage}
 use Rattle.ng_laws.specs.Sessions.{CrowdedPageIsEmpty}
+use Rattle.ng_fire.specs.Runs.{program_run}
 
 is_full : (n : ℕ) → node_limit < n → nat_lt node_limit (0 + n) ≡ true
 is_full n l = grind (arith, nat_tests)
 
-empty : (a : Accepted) → node_limit < nodes a.template.parts → opening a.facts a.template ≡ linked_by a.template (Err NodeLimit) (prepared a.facts)
-empty a l = ap (λ b. linked_by a.template (if b then Err NodeLimit else Ok tt) (prepared a.facts)) (is_full (nodes a.template.parts) l)
+-- what the programs before the node too many leave
+abbrev begun_on : Accepted → State
+begun_on a = (steps_linked 0 (steps_within node_limit (steps a.template.parts)) (begins_linking (prepared a.facts))).state
+
+empty : (a : Accepted) → node_limit < nodes a.template.parts → opening a.facts a.template ≡ linked_by (Err NodeLimit) (begun_on a)
+empty a l = ap (λ b. by (if b then Err NodeLimit else Ok tt)) (is_full (nodes a.template.parts) l)
+  where
+    by : Result (Unit {0}) Fault → State
+    by r = linked_by r (link_by 0 0 a.template r (prepared a.facts))
 
 -- nothing is linked before the template is
 none_linked : (f : Facts) → (prepared f).linked ≡ None
 none_linked f = (followed_sites (program_run 0 f.run (installed f)) (blank (installed f)) (program_stays 0 f.run (installed f))).linked
+
+started_linked : (scope : ℕ) (xs : List LinkStep) (g : Linking) → (steps_linked scope xs g).state.linked ≡ g.state.linked
+started_linked scope [] g = refl
+started_linked scope (makes ∷ xs) g = started_linked scope xs g
+started_linked scope (starts p ∷ xs) g =
+    started_linked scope xs (step_linked scope (starts p) g) ∙ (followed_sites (program_run scope p g.state.core) g.state (program_stays scope p g.state.core)).linked
+started_linked scope (registers ∷ xs) g = started_linked scope xs (step_linked scope registers g)
 
 -- and a digest links nothing
 linked_stays : (due : Bool) (s : State) (d : Digest) (probed : List (List ℕ)) (t : State) → DigestsWhere due s d probed t → t.linked ≡ s.linked
@@ -100,14 +117,14 @@ module _ (trace : Bool) (a : Accepted) (more : node_limit < nodes a.template.par
   abbrev started : State
   started = opening a.facts a.template
 
-  first_fault : h.outcome.first ≡ first_or (prepared a.facts).core.handed.first NodeLimit
+  first_fault : h.outcome.first ≡ first_or (begun_on a).core.handed.first NodeLimit
   first_fault = h.opens.first ∙ ap (λ (s : State). s.core.handed.first) (empty a more)
 
   first_faulted : x.well ≡ false
-  first_faulted = ap (λ (s : Step). s.well) h.prints ∙ (ap (λ f. is_well f h.outcome.digest) first_fault ∙ not_well (prepared a.facts).core.handed.first NodeLimit h.outcome.digest)
+  first_faulted = ap (λ (s : Step). s.well) h.prints ∙ (ap (λ f. is_well f h.outcome.digest) first_fault ∙ not_well (begun_on a).core.handed.first NodeLimit h.outcome.digest)
 
   first_unlinked : left.state.linked ≡ None
-  first_unlinked = ap (λ (z : Left). z.state.linked) h.leaves ∙ ends_unlinked started h.outcome h.state h.opens (ap (λ (s : State). s.linked) (empty a more) ∙ none_linked a.facts)
+  first_unlinked = ap (λ (z : Left). z.state.linked) h.leaves ∙ ends_unlinked started h.outcome h.state h.opens (ap (λ (s : State). s.linked) (empty a more) ∙ (started_linked 0 (steps_within node_limit (steps a.template.parts)) (begins_linking (prepared a.facts)) ∙ none_linked a.facts))
 
 runs_crowded : (trace : Bool) (a : Accepted) (r : Reply) → node_limit < nodes a.template.parts → Runs whole trace a r → (r.status ≡ 1) × IfSome r.page (λ l. shown l.state ≡ no_nodes)
 runs_crowded trace a r more (xs, end, (x, left, rest, opens, then_on, is), done_so) =

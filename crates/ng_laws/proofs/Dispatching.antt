@@ -6,8 +6,8 @@ use Rattle.ng_language.specs.Trees.{Trees}
 use Rattle.ng_link.specs.Calls.{left_at}
 use Rattle.ng_link.specs.Events.{handlers_at, scope_of}
 use Rattle.ng_link.specs.State.{State}
-use Rattle.ng_page.specs.Dispatch.{Happening, Event, unmade, made, refused, Going, Told, way, has_turn, ready, handling_run, rested, handled, event_then, TakesTurn, MayTakeTurn, Handles, is_stopped, Unless, Bubbles, before, Dispatches}
-use Rattle.ng_laws.proofs.Ordered.{IsOrdered, either, left_ordered, followed_ordered}
+use Rattle.ng_page.specs.Dispatch.{Happening, Event, unmade, made, refused, Going, Told, way, has_turn, ready, handling_run, rested, handled, event_then, MayTakeTurn, Handles, is_stopped, Unless, Bubbles, before, Dispatches}
+use Rattle.ng_fire.proofs.Ordered.{IsOrdered, either, left_ordered, followed_ordered}
 use Rattle.ng_laws.proofs.StepEnds.{StepEnds, step_ends}
 
 -- ---- one handler

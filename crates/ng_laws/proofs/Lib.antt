@@ -1,5 +1,4 @@
 pub mod Ends
-pub mod Sorted
 pub mod Ordered
 pub mod StepEnds
 pub mod Dispatching

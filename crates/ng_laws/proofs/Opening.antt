@@ -30,7 +30,8 @@ use Rattle.ng_run.specs.Steps.{Left, Step, step_of, left_by, idle_step, aimless_
 use Rattle.ng_run.proofs.Performing.{told_is}
 use Rattle.ng_laws.specs.Sessions.{DigestEnds, SessionIsThere}
 use Rattle.ng_laws.proofs.Ends.{ShortEnds}
-use Rattle.ng_laws.proofs.Ordered.{IsOrdered, IsGood, page_ends, opening_ordered, asked_ordered}
+use Rattle.ng_fire.proofs.Ordered.{IsOrdered}
+use Rattle.ng_laws.proofs.Ordered.{IsGood, page_ends, opening_ordered, asked_ordered}
 use Rattle.ng_laws.proofs.StepEnds.{StepEnds, outcome_by, plain_end, step_ends}
 use Rattle.ng_laws.proofs.Dispatching.{dispatch_some}
 

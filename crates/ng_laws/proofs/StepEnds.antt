@@ -19,7 +19,8 @@ use Rattle.ng_page.specs.PageMachine as page
 use Rattle.ng_page.specs.PageMachine.{page_machine, readied}
 use Rattle.ng_page.specs.Steps.{Outcome, Ends, EndsShort}
 use Rattle.ng_laws.proofs.Ends.{IsSure, ShortEnds}
-use Rattle.ng_laws.proofs.Ordered.{IsOrdered, IsGood, page_ends}
+use Rattle.ng_fire.proofs.Ordered.{IsOrdered}
+use Rattle.ng_laws.proofs.Ordered.{IsGood, page_ends}
 
 sure_plain : (P : Type 0) (answer : Result Report DigestFault) → IsSure answer → Unless answer P → P
 sure_plain P (Ok r) s h = h

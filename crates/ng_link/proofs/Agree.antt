@@ -24,7 +24,7 @@ module _ (site : Key → Option ℕ) (home : ℕ → Option Source) (v w : Key �
     one_agrees (element_stands n e ats ms) h =
         ap (λ (us : List (List ℕ × List ℕ)). named_element n e us (shows v ms)) (same_attributes site n v w (λ k at. agree k n at (subst IsDrawn (sym h.0) tt)) ats [] h.1)
         ∙ ap (named_element n e (drawn_attributes w ats)) (all_agree ms h.2)
-    one_agrees (block_stands n bs) h = ap (named_anchor n) (bodies_agree bs h)
+    one_agrees (block_stands n bs) h = ap (named_anchor n) (bodies_agree bs h.1)
 
     pub all_agree : (ms : Stands) → HeldAll site home ms → shows v ms ≡ shows w ms
     all_agree none_stand h = refl

@@ -1,6 +1,7 @@
 -- A page that stands displays the drawing of its template with what its instance has kept.
-use Rattle.std.proofs.Common.{◌≡◌, ◌<◌, ◌+◌, ℕ, zero, suc, Bool, List, [], ◌∷◌, ◌++◌, Option, Some, None, refl, ap, ◌∙◌, sym, subst, arith, slice_get}
-use Rattle.std.specs.Prelude.{◌||◌}
+use Rattle.std.proofs.Common.{◌≡◌, ◌<◌, ℕ, Bool, List, [], ◌∷◌, ◌++◌, Option, Some, None, refl, ap, ◌∙◌, sym, subst, length, slice_get}
+use Rattle.std.specs.Prelude.{◌||◌, option_map}
+use Rattle.std.proofs.lemmas.Option.{slice_get-map, slice_get-get_or}
 use Rattle.std.specs.List.{flat_map, list_any}
 use Rattle.ng_base.specs.Views.{ViewTree}
 use Rattle.ng_markup.specs.Attributes.{if_any, word_if, with_value, class_value}
@@ -9,7 +10,7 @@ use Rattle.ng_dom.specs.Document.{Shows}
 use Rattle.ng_dom.specs.Drawing.{Stands, shows}
 use Rattle.ng_dom.specs.Nodes.{plain}
 use Rattle.ng_drawing.specs.Drawing.{Look, draw_pieces, is_hiding, class_words, draw_class, draw_value, draw_attributes, draw_part, draw_contents, draw}
-use Rattle.ng_drawing.specs.Instance.{SiteState, state_kept}
+use Rattle.ng_drawing.specs.Instance.{state_kept}
 use Rattle.ng_drawing.specs.Looks.{kept_text, kept_words, is_kept_true, is_kept_false}
 use Rattle.ng_drawing.specs.Template.{Piece, word, hole, Hiding, while_true, while_false, PartClass, PartValue, always, unless_empty, flag, classes, PartAttributes, Part, Contents, Parts, text_part, comment_part, element_part, children, bound, no_parts, part_then}
 use Rattle.ng_watch.specs.Table.{Table}
@@ -18,7 +19,7 @@ use Rattle.ng_link.specs.Holes.{PiecesBelow, SitesBelow, HidingsBelow, ClassBelo
 use Rattle.ng_link.specs.Laws.{PageDisplaysInstance, PageHasItsNames}
 use Rattle.ng_link.specs.Shape.{key_on}
 use Rattle.ng_link.specs.Standing.{HasShape, IsPage, Standing, Displays}
-use Rattle.ng_link.specs.State.{Page, Linked, Resting, keys_of, state_of, kept_in, looks_in, site_state, site_states, instance_at, shown_in}
+use Rattle.ng_link.specs.State.{Page, Linked, Resting, keys_of, state_of, kept_in, looks_in, site_state, instance_at, shown_in}
 use Rattle.ng_link.specs.declared.works.Works.{Works}
 use Rattle.ng_link.proofs.Shapes.{shape_draws}
 
@@ -82,24 +83,10 @@ module _ (look same : Look) (count : ℕ) (agree : (n : ℕ) → n < count → l
         ∙ ap (λ (f : Forest). node (draw_part same p) f) (same_parts ps h.1)
 
 -- the state of a site by its number
-module _ (t : Table) (r : Resting) (scope : ℕ) (path : List ℕ) where
-  state_at : (n k j : ℕ) → j < k → slice_get (site_states t r scope path n k) j ≡ Some (site_state t r scope (key_on path (n + j)))
-  state_at n zero j lt = absurd (omega (arith, lt))
-  state_at n (suc k) zero lt = ap (λ (m : ℕ). Some (site_state t r scope (key_on path m))) (let same : n ≡ n + 0 = omega arith in same)
-  state_at n (suc k) (suc j) lt = state_at (n + 1) k j (omega (arith, lt)) ∙ ap (λ (m : ℕ). Some (site_state t r scope (key_on path m))) (let same : n + 1 + j ≡ n + suc j = omega arith in same)
-
-  -- one site more
-  states-push : (n k : ℕ) → site_states t r scope path n k ++ site_state t r scope (key_on path (n + k)) ∷ [] ≡ site_states t r scope path n (suc k)
-  states-push n zero = ap (λ (m : ℕ). site_state t r scope (key_on path m) ∷ []) (let same : n + 0 ≡ n = omega arith in same)
-  states-push n (suc k) =
-      ap (λ (m : ℕ). site_state t r scope (key_on path n) ∷ (site_states t r scope path (n + 1) k ++ site_state t r scope (key_on path m) ∷ [])) (let same : n + suc k ≡ n + 1 + k = omega arith in same)
-      ∙ ap (λ (zs : List SiteState). site_state t r scope (key_on path n) ∷ zs) (states-push (n + 1) k)
-
-  pub states_then : (n k : ℕ) (xs : List SiteState) (y : SiteState) → xs ≡ site_states t r scope path n k → y ≡ site_state t r scope (key_on path (n + k)) → xs ++ y ∷ [] ≡ site_states t r scope path n (k + 1)
-  states_then n k xs y e is =
-      ap (λ (ys : List SiteState). ys ++ y ∷ []) e
-      ∙ (ap (λ (z : SiteState). site_states t r scope path n k ++ z ∷ []) is
-      ∙ (states-push n k ∙ ap (site_states t r scope path n) (let same : suc k ≡ k + 1 = omega arith in same)))
+state_at : (t : Table) (r : Resting) (p : Page) (j : ℕ) → j < length p.serials → slice_get (instance_at t r p).sites j ≡ Some (site_state t r p.scope (keys_of p j))
+state_at t r p j lt =
+    let state = λ (n : ℕ). site_state t r p.scope (key_on p.path n) in
+    slice_get-map state p.serials j ∙ ap (option_map state) (slice_get-get_or p.serials j 0 lt)
 
 -- what is linked
 shaped : (w : Works) (ts : Stands) (l : Linked) → Standing w ts → HasShape l.template l.page ts → Displays w (shown_in (state_of w).watchers (state_of w).resting (Some l))
@@ -113,8 +100,8 @@ shaped w ts l g h =
       plain =
           ap (λ (s : Stands). plain (shows (looks_in (state_of w)) s)) h.shape
           ∙ (shape_draws (keys_of p) (kept_in t r) p.node l.template.parts
-          ∙ same_parts (λ n. kept_in t r (keys_of p n)) (λ n. state_kept (slice_get (instance_at t r p).sites n)) p.count
-          (λ n lt. sym (ap state_kept (state_at t r p.scope p.path p.first p.count n lt))) l.template.parts h.holes);
+          ∙ same_parts (λ n. kept_in t r (keys_of p n)) (λ n. state_kept (slice_get (instance_at t r p).sites n)) (length p.serials)
+          (λ n lt. sym (ap state_kept (state_at t r p n lt))) l.template.parts h.holes);
     }
 
 displays_linked : (w : Works) (ts : Stands) (o : Option Linked) → Standing w ts → IsPage o w.dom ts → Displays w (shown_in (state_of w).watchers (state_of w).resting o)

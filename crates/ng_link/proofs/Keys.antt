@@ -18,7 +18,7 @@ then_equal Less p e = absurd (cc)
 then_equal Equal p e = (refl, e)
 then_equal Greater p e = absurd (cc)
 
-equal_numbers : (m n : ℕ) → is_eq (nat_cmp m n) ≡ true → m ≡ n
+pub equal_numbers : (m n : ℕ) → is_eq (nat_cmp m n) ≡ true → m ≡ n
 equal_numbers m n e = grind (arith, e)
 
 -- keys that compare alike are one

@@ -12,8 +12,10 @@ pub mod Rested
 pub mod Same
 pub mod Built
 pub mod Loops
+pub mod Serials
 pub mod Rows
 pub mod Displayed
 pub mod Fired
+pub mod Counted
 pub mod Links
 pub mod Entered

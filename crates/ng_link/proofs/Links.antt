@@ -1,11 +1,12 @@
--- What a link leaves stands.
+-- What placing a template leaves stands.
 use Rattle.std.proofs.Common.{◌≡◌, ◌<◌, ◌+◌, ℕ, true, false, List, [], Option, Some, refl, ap, ◌∙◌, sym, subst, length, arith, slice_get, get_or, zero-add}
 use Rattle.std.specs.Prelude.{IsSome, unwrap_or}
-use Rattle.std.specs.Map.{lookup}
-use Rattle.std.proofs.lemmas.Option.{slice_get-get_or}
-use Rattle.ng_act.specs.Frames as cores
-use Rattle.ng_act.specs.State as act
-use Rattle.ng_act.specs.declared.core_state.Core.{Core}
+use Rattle.std.specs.BTreeMap.{is_at}
+use Rattle.std.specs.List.{AllByRecursion}
+use Rattle.std.specs.List.Sorted.{IsStrictlySortedBy}
+use Rattle.std.specs.Map.{lookup, keys_of as map_keys}
+use Rattle.std.specs.Ordering.{nat_cmp}
+use Rattle.std.proofs.lemmas.Option.{slice_get-get_or, slice_get_within}
 use Rattle.ng_behaviour.specs.Scopes.{path_at, object_at}
 use Rattle.ng_base.specs.declared.path.Key.{Key}
 use Rattle.ng_dom.specs.Document.{next_name, Shows}
@@ -17,20 +18,20 @@ use Rattle.ng_drawing.specs.Template.{no_parts, Site, Template}
 use Rattle.ng_drawing.specs.declared.kind.SiteKind.TheVariants.{Text}
 use Rattle.ng_language.specs.Trees.{no_trees}
 use Rattle.ng_template.specs.Kept.{Named}
-use Rattle.ng_template.specs.Numbering.{after_parts, is_regular}
+use Rattle.ng_template.specs.Numbering.{is_regular}
 use Rattle.ng_watch.specs.Keys.{is_key}
 use Rattle.ng_watch.specs.Seen.{Watcher}
 use Rattle.ng_watch.specs.Table.{Table, watchers_of, found}
 use Rattle.ng_watch.specs.declared.watched.Watched.{Watched}
 use Rattle.ng_link.specs.Building.{unset, HomedAll, AllAt}
-use Rattle.ng_link.specs.Calls.{numbered, page_on, linked_in}
+use Rattle.ng_link.specs.Calls.{page_on, placed_on}
 use Rattle.ng_link.specs.Handlers.{Handled, handled}
 use Rattle.ng_link.specs.Holes.{HolesBelow}
 use Rattle.ng_link.specs.Rows.{with_sites}
-use Rattle.ng_link.specs.Shape.{keys_from, shape, holes}
+use Rattle.ng_link.specs.Shape.{key_on, keys_in, shape, holes}
 use Rattle.ng_link.specs.Sources.{sources}
 use Rattle.ng_link.specs.Standing.{WatchersStand, IsStanding}
-use Rattle.ng_link.specs.State.{State, Page, is_site_of, kept_or, look_of, handled_of, page_of, templates_of, template_at, template_or, places_of, state_of, looks_in}
+use Rattle.ng_link.specs.State.{State, Page, is_in, kept_or, look_of, handled_of, page_of, templates_of, template_at, template_or, places_of, state_of, looks_in}
 use Rattle.ng_link.specs.declared.works.Linked.{Linked as Instance}
 use Rattle.ng_link.specs.declared.works.Works.{Works}
 use Rattle.ng_link.proofs.Agree.{Agree, all_agree}
@@ -38,14 +39,15 @@ use Rattle.ng_link.proofs.Holding.{all_held}
 use Rattle.ng_link.proofs.Numbers.{regular_count, counted}
 use Rattle.ng_link.proofs.Places.{placed_site, number_below, number_of_site, spot_there}
 use Rattle.ng_link.proofs.Rows.{fresh, sites_found, all_at}
+use Rattle.ng_link.proofs.Serials.{paired, paired_keys, paired_found}
 use Rattle.ng_link.proofs.Watched.{stand_sites}
 
 no_site : Site
 no_site = record { kind = Text; one_time = false; program = no_trees }
 
--- What a link leaves: the works with another core, other watchers, another document and an instance.
-abbrev pub after : Works → Core → List (Key × Watched) → Dom → Instance → Works
-after w core ws d p = record w { core = core; watchers = ws; dom = d; page = Some p }
+-- What is left: the works with other watchers, another document and an instance.
+abbrev pub after : Works → List (Key × Watched) → Dom → Instance → Works
+after w ws d p = record w { watchers = ws; dom = d; page = Some p }
 
 -- a site for each hole
 pub many_holes : (t : Template) (m : ℕ) → is_regular t ≡ true → length (holes m t.parts) ≡ length t.sites
@@ -56,86 +58,98 @@ many_holes t m regular =
 pub is_template : (all : List Named) (n : ℕ) (t : Template) → template_at all n ≡ Some t → template_or all n ≡ t
 is_template all n t at = ap (λ (o : Option Template). unwrap_or o (record { parts = no_parts; sites = [] })) at
 
--- the state after a link
-module _ (w : Works) (core : Core) (ws : List (Key × Watched)) (d : Dom) (p : Instance) (t : Template) where
-  abbrev made : act.State → Table → Template → Page → ℕ → State
-  made c table u page next = record (state_of w) { core = c; watchers = table; linked = Some (record { template = u; page = page }); next_node = next }
+-- the state that is left
+module _ (w : Works) (ws : List (Key × Watched)) (d : Dom) (p : Instance) (t : Template) (serials : List ℕ) where
+  abbrev made : Table → Template → Page → ℕ → State
+  made table u page next = record (state_of w) { watchers = table; linked = Some (record { template = u; page = page }); next_node = next }
 
-  abbrev paged : List ℕ → ℕ → ℕ → ℕ → Handled → Page
-  paged path first count node handlers = record { template = p.template.0; scope = p.scope.0; path = path; first = first; count = count; node = node; handlers = handlers }
+  abbrev paged : List ℕ → List ℕ → ℕ → Handled → Page
+  paged path numbers node handlers = record { template = p.template.0; scope = p.scope.0; path = path; serials = numbers; node = node; handlers = handlers }
 
-  pub linked_page : p.path ≡ path_at (state_of w).core.scopes p.scope.0 → p.first ≡ (state_of w).core.serial → length p.spots.items ≡ length t.sites
-      → p.node ≡ (state_of w).next_node → handled_of p.handlers.entries ≡ handled p.node t.parts []
-      → page_of p ≡ page_on p.template.0 p.scope.0 t (state_of w)
-  linked_page is_path is_first many is_node entered =
+  pub placed_page : p.path ≡ path_at (state_of w).core.scopes p.scope.0 → map_keys p.spots.entries ≡ serials → p.node ≡ (state_of w).next_node → handled_of p.handlers.entries ≡ handled p.node t.parts []
+      → page_of p ≡ page_on p.template.0 p.scope.0 t serials (state_of w)
+  placed_page is_path are_serials is_node entered =
       let path : List ℕ = path_at (state_of w).core.scopes p.scope.0 in
-      let first : ℕ = (state_of w).core.serial in
       let all : Handled = handled_of p.handlers.entries in
-      ap (λ (x : List ℕ). paged x p.first (length p.spots.items) p.node all) is_path
-      ∙ (ap (λ (x : ℕ). paged path x (length p.spots.items) p.node all) is_first
-      ∙ (ap (λ (x : ℕ). paged path first x p.node all) many
-      ∙ (ap (λ (x : Handled). paged path first (length t.sites) p.node x) entered
-      ∙ ap (λ (x : ℕ). paged path first (length t.sites) x (handled x t.parts [])) is_node)))
+      ap (λ (x : List ℕ). paged x (map_keys p.spots.entries) p.node all) is_path
+      ∙ (ap (λ (x : List ℕ). paged path x p.node all) are_serials
+      ∙ (ap (λ (x : Handled). paged path serials p.node x) entered
+      ∙ ap (λ (x : ℕ). paged path serials x (handled x t.parts [])) is_node))
 
-  pub linked_state : cores.state_of core ≡ numbered t (state_of w).core
-      → watchers_of ws ≡ with_sites (path_at (state_of w).core.scopes p.scope.0) (object_at (state_of w).core.scopes p.scope.0) (state_of w).core.serial t.sites (state_of w).watchers
-      → template_at (templates_of w) p.template.0 ≡ Some t → page_of p ≡ page_on p.template.0 p.scope.0 t (state_of w) → next_name d ≡ next_name w.dom + nodes t.parts
-      → state_of (after w core ws d p) ≡ linked_in p.template.0 p.scope.0 t (state_of w)
-  linked_state is_core is_table at is_page is_next =
+  pub placed_state : watchers_of ws ≡ with_sites (path_at (state_of w).core.scopes p.scope.0) (object_at (state_of w).core.scopes p.scope.0) serials t.sites (state_of w).watchers
+      → template_at (templates_of w) p.template.0 ≡ Some t → page_of p ≡ page_on p.template.0 p.scope.0 t serials (state_of w) → next_name d ≡ next_name w.dom + nodes t.parts
+      → state_of (after w ws d p) ≡ placed_on p.template.0 p.scope.0 t serials (state_of w)
+  placed_state is_table at is_page is_next =
       let u = template_or (templates_of w) p.template.0 in
-      let c : act.State = numbered t (state_of w).core in
-      let table : Table = with_sites (path_at (state_of w).core.scopes p.scope.0) (object_at (state_of w).core.scopes p.scope.0) (state_of w).core.serial t.sites (state_of w).watchers in
-      let page : Page = page_on p.template.0 p.scope.0 t (state_of w) in
-      ap (λ (x : act.State). made x (watchers_of ws) u (page_of p) (next_name d)) is_core
-      ∙ (ap (λ (x : Table). made c x u (page_of p) (next_name d)) is_table
-      ∙ (ap (λ (x : Template). made c table x (page_of p) (next_name d)) (is_template (templates_of w) p.template.0 t at)
-      ∙ (ap (λ (x : Page). made c table t x (next_name d)) is_page
-      ∙ ap (λ (x : ℕ). made c table t page x) is_next)))
+      let table : Table = with_sites (path_at (state_of w).core.scopes p.scope.0) (object_at (state_of w).core.scopes p.scope.0) serials t.sites (state_of w).watchers in
+      let page : Page = page_on p.template.0 p.scope.0 t serials (state_of w) in
+      ap (λ (x : Table). made x u (page_of p) (next_name d)) is_table
+      ∙ (ap (λ (x : Template). made table x (page_of p) (next_name d)) (is_template (templates_of w) p.template.0 t at)
+      ∙ (ap (λ (x : Page). made table t x (next_name d)) is_page
+      ∙ ap (λ (x : ℕ). made table t page x) is_next))
 
--- what stands after a link
-module _ (w : Works) (core : Core) (ws : List (Key × Watched)) (d : Dom) (p : Instance) (t : Template) (object m : ℕ)
-    (regular : is_regular t ≡ true) (room : object < length (state_of w).core.objects)
-    (is_node : p.node ≡ m) (is_first : p.first ≡ (state_of w).core.serial) (is_holes : p.spots.items ≡ holes m t.parts)
-    (serial : core.serial.0 ≡ p.first + length t.sites) (objects : length core.store ≡ length (state_of w).core.objects)
-    (watchers : watchers_of ws ≡ with_sites p.path object p.first t.sites (state_of w).watchers) where
-  many : length p.spots.items ≡ length t.sites
-  many = ap length is_holes ∙ many_holes t m regular
+-- what stands then
+module _ (w : Works) (ws : List (Key × Watched)) (d : Dom) (p : Instance) (t : Template) (object m : ℕ) (serials : List ℕ)
+    (regular : is_regular t ≡ true) (room : object < length (state_of w).core.objects) (rising : IsStrictlySortedBy nat_cmp serials)
+    (all_below : AllByRecursion (λ n. n < (state_of w).core.serial) serials) (count : length serials ≡ length t.sites)
+    (is_node : p.node ≡ m) (spots : p.spots.entries ≡ paired serials (holes m t.parts))
+    (watchers : watchers_of ws ≡ with_sites p.path object serials t.sites (state_of w).watchers) where
+  abbrev new : Works
+  new = after w ws d p
+
+  as_many : length serials ≡ length (holes m t.parts)
+  as_many = count ∙ sym (many_holes t m regular)
+
+  pub are_serials : map_keys p.spots.entries ≡ serials
+  are_serials = ap map_keys spots ∙ paired_keys serials (holes m t.parts) as_many
+
+  site_here : (k : Key) → IsSome (places_of new k) → (j : ℕ) × (slice_get serials j ≡ Some k.serial.0) × (k ≡ key_on p.path k.serial.0)
+  site_here k there =
+      let which = number_of_site p.path (map_keys p.spots.entries) k (placed_site new k there) in
+      (which.0, ap (λ (ns : List ℕ). slice_get ns which.0) (sym are_serials) ∙ which.1, which.2)
 
   -- the site of each number has kept nothing
-  none_kept : Agree (places_of (after w core ws d p)) (sources d) unset (looks_in (state_of (after w core ws d p)))
+  none_kept : Agree (places_of new) (sources d) unset (looks_in (state_of new))
   none_kept k n at drawn =
-      let there : IsSome (places_of (after w core ws d p) k) = subst (λ (o : Option ℕ). IsSome o) (sym at) refl in
-      let site : is_site_of (page_of p) k ≡ true = placed_site (after w core ws d p) k there in
-      let which = number_of_site p.path p.first (length p.spots.items) k site in
-      let lt : which.0 < length t.sites = let h : which.0 < length p.spots.items = which.1 in omega (arith, h, many) in
+      let which = site_here k (subst (λ (o : Option ℕ). IsSome o) (sym at) refl) in
+      let lt : which.0 < length t.sites = let h = slice_get_within serials which.0 k.serial.0 which.1 in omega (arith, h, count) in
       let x : Site = get_or t.sites which.0 no_site in
       let one : slice_get t.sites which.0 ≡ Some x = slice_get-get_or t.sites which.0 no_site lt in
+      let table : Table = with_sites p.path object serials t.sites (state_of w).watchers in
       let found_here : found k (watchers_of ws) ≡ Some (fresh object x) =
-      ap (found k) watchers ∙ (ap (λ (q : Key). found q (with_sites p.path object p.first t.sites (state_of w).watchers)) which.2 ∙ sites_found p.path object p.first t.sites (state_of w).watchers which.0 x one) in
+      ap (found k) watchers ∙ (ap (λ (q : Key). found q table) which.2 ∙ sites_found p.path object serials t.sites (state_of w).watchers which.0 k.serial.0 x rising which.1 one) in
       sym (ap (λ (o : Option Watcher). look_of (kept_or o (lookup (is_key k) (state_of w).resting))) found_here)
 
-  places : AllAt (places_of (after w core ws d p)) (keys_from p.path p.first) 0 (holes m t.parts)
+  places : AllAt (places_of new) (keys_in p.path serials) 0 (holes m t.parts)
   places =
-      subst (λ (xs : List ℕ). AllAt (places_of (after w core ws d p)) (keys_from p.path p.first) 0 xs) is_holes
-      (all_at (places_of (after w core ws d p)) (keys_from p.path p.first) 0 p.spots.items
-      (λ j x e. ap (λ (i : ℕ). places_of (after w core ws d p) (keys_from p.path p.first i)) (zero-add j) ∙ spot_there p j x e))
+      all_at (places_of new) (keys_in p.path serials) 0 (holes m t.parts)
+      (λ j x e.
+      let s : ℕ = get_or serials j 0 in
+      let at : slice_get serials j ≡ Some s = slice_get-get_or serials j 0 (let h = slice_get_within (holes m t.parts) j x e in omega (arith, h, as_many)) in
+      ap (λ (i : ℕ). places_of new (keys_in p.path serials i)) (zero-add j)
+      ∙ spot_there p s x (ap (lookup (is_at (nat_cmp s))) spots ∙ paired_found serials (holes m t.parts) j s x rising at e))
 
-  pub linked_stands : HolesBelow (length t.sites) t.parts → template_at (templates_of w) p.template.0 ≡ Some t
-      → Shows d (shows unset (shape (keys_from p.path p.first) m t.parts)) → HomedAll (sources d) (shape (keys_from p.path p.first) m t.parts)
-      → WatchersStand (length (state_of w).core.objects) (state_of w).watchers → IsStanding (after w core ws d p)
-  linked_stands below at shown homed watched =
-      let ts : Stands = shape (keys_from p.path p.first) m t.parts in
-      let count : after_parts 0 t.parts ≡ Some (length t.sites) = regular_count t regular in
-      let held : HeldAll (places_of (after w core ws d p)) (sources d) ts = all_held (places_of (after w core ws d p)) (sources d) (keys_from p.path p.first) 0 m (length t.sites) t.parts count places homed in
-      let drawn : shows unset ts ≡ shows (looks_in (state_of (after w core ws d p))) ts = all_agree (places_of (after w core ws d p)) (sources d) unset (looks_in (state_of (after w core ws d p))) none_kept ts held in
+  pub placed_stands : HolesBelow (length t.sites) t.parts → template_at (templates_of w) p.template.0 ≡ Some t
+      → Shows d (shows unset (shape (keys_in p.path serials) m t.parts)) → HomedAll (sources d) (shape (keys_in p.path serials) m t.parts)
+      → WatchersStand (length (state_of w).core.objects) (state_of w).watchers → IsStanding new
+  placed_stands below at shown homed watched =
+      let ts : Stands = shape (keys_in p.path serials) m t.parts in
+      let held : HeldAll (places_of new) (sources d) ts = all_held (places_of new) (sources d) (keys_in p.path serials) 0 m (length t.sites) t.parts (regular_count t regular) places homed in
+      let drawn : shows unset ts ≡ shows (looks_in (state_of new)) ts = all_agree (places_of new) (sources d) unset (looks_in (state_of new)) none_kept ts held in
       let F : NamedForest → Type 0 = λ f. Shows d f in
-      let is : template_or (templates_of w) p.template.0 ≡ t = is_template (templates_of w) p.template.0 t at in (
+      let is : template_or (templates_of w) p.template.0 ≡ t = is_template (templates_of w) p.template.0 t at in
+      let numbers : length (map_keys p.spots.entries) ≡ length t.sites = ap length are_serials ∙ count in (
         ts,
         record {
           shown = subst F drawn shown;
           held = held;
-          below = λ k h. let lt = number_below p.path p.first (length p.spots.items) k (placed_site (after w core ws d p) k h) in omega (arith, lt, many, serial);
-          watched = rw (watchers, objects) (stand_sites (length (state_of w).core.objects) p.path object p.first t.sites (state_of w).watchers room watched);
-          page = rw is (record { shape = ap (λ (n : ℕ). shape (keys_from p.path p.first) n t.parts) (sym is_node); count = many; holes = rw many below });
+          below = λ k h. number_below p.path serials (state_of w).core.serial k all_below (subst (λ (ns : List ℕ). is_in p.path ns k ≡ true) are_serials (placed_site new k h));
+          watched = rw watchers (stand_sites (length (state_of w).core.objects) p.path object serials t.sites (state_of w).watchers room watched);
+          page = rw is
+              (record {
+                shape = ap (λ (ns : List ℕ). shape (keys_in p.path ns) m t.parts) (sym are_serials) ∙ ap (λ (n : ℕ). shape (keys_in p.path (map_keys p.spots.entries)) n t.parts) (sym is_node);
+                count = numbers;
+                holes = subst (λ n. HolesBelow n t.parts) (sym numbers) below;
+              });
         },
       )

@@ -1,5 +1,5 @@
 -- Steps of the loops that build nodes.
-use Rattle.std.proofs.Common.{◌≡◌, ◌≤◌, ◌<◌, ◌+◌, ℕ, zero, suc, List, [], ◌∷◌, ◌++◌, Option, Some, None, refl, ap, sym, map, take, drop, length, get_or, arith}
+use Rattle.std.proofs.Common.{◌≡◌, ◌≤◌, ◌<◌, ◌+◌, ℕ, zero, suc, List, [], ◌∷◌, ◌++◌, Option, Some, None, refl, ap, sym, map, take, drop, length, get_or, arith, add-one, drop-cons}
 use Rattle.std.specs.Prelude.{IsSome, option_map}
 use Rattle.std.specs.BTreeMap.{get}
 use Rattle.std.specs.Ordering.{nat_cmp}
@@ -47,3 +47,7 @@ part_within seen (y ∷ ys) zero x lt e = ap_le (ap (λ z. part_nodes (seen z)) 
     ap_le : part_nodes (seen x) ≡ part_nodes (seen y) → part_nodes (seen x) ≤ part_nodes (seen y) + nodes (parts_from (map seen ys))
     ap_le g = omega (arith, g)
 part_within seen (y ∷ ys) (suc i) x lt e = let more = part_within seen ys i x (omega (arith, lt)) e in omega (arith, more)
+
+-- one more of the same
+pub next_same : {A : Type 0} (x : A) (ns : List ℕ) (i : ℕ) → i < length ns → map (λ (_ : ℕ). x) (drop i ns) ≡ x ∷ map (λ (_ : ℕ). x) (drop (i + 1) ns)
+next_same x ns i lt = rw (add-one, drop-cons ns i 0) refl

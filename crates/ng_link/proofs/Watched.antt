@@ -1,5 +1,5 @@
 -- The objects that watchers name are there, whatever watchers come and go.
-use Rattle.std.proofs.Common.{◌≡◌, ◌≤◌, ◌<◌, ◌+◌, ℕ, Bool, true, false, cond, List, [], ◌∷◌, Option, Some, None, subst, arith}
+use Rattle.std.proofs.Common.{◌≡◌, ◌≤◌, ◌<◌, ℕ, Bool, true, false, cond, List, [], ◌∷◌, Option, Some, None, subst, arith}
 use Rattle.std.specs.BTreeMap.{insert_entry}
 use Rattle.std.specs.List.{filter}
 use Rattle.std.specs.Map.{remove_entry}
@@ -84,9 +84,11 @@ module _ (count : ℕ) where
   no_dest sites.Collection = tt
   no_dest sites.Deep = tt
 
-  pub stand_sites : (path : List ℕ) (o n : ℕ) (xs : List Site) (t : Table) → o < count → WatchersStand count t → WatchersStand count (with_sites path o n xs t)
-  stand_sites path o n [] t lt h = h
-  stand_sites path o n (x ∷ xs) t lt h = stand_sites path o (n + 1) xs (insert_entry key_cmp t (key_on path n) (record { watch = watching_site o x; kept = None })) lt (stand_put (key_on path n) (record { watch = watching_site o x; kept = None }) t (lt, no_dest x.kind) h)
+  pub stand_sites : (path : List ℕ) (o : ℕ) (ss : List ℕ) (xs : List Site) (t : Table) → o < count → WatchersStand count t → WatchersStand count (with_sites path o ss xs t)
+  stand_sites path o [] xs t lt h = h
+  stand_sites path o (s ∷ ss) [] t lt h = h
+  stand_sites path o (s ∷ ss) (x ∷ xs) t lt h =
+      stand_sites path o ss xs (insert_entry key_cmp t (key_on path s) (record { watch = watching_site o x; kept = None })) lt (stand_put (key_on path s) (record { watch = watching_site o x; kept = None }) t (lt, no_dest x.kind) h)
 
 pub watchers_found : WatchersAreFound
 watchers_found count t h = stand_found count t h

@@ -4,7 +4,8 @@ use Rattle.ng_base.specs.declared.name.NodeId.{NodeId}
 use Rattle.ng_base.specs.declared.path.Key.{Key}
 use Rattle.ng_dom.specs.Document.{rooms, homes, top, next_name, live_count, IsLive, Remains}
 use Rattle.ng_link.specs.Sources.{sources}
-use Rattle.ng_dom.specs.Drawing.{Look, Source, of_text, of_comment, of_element, Stand, Stands, Bodies, text_stands, comment_stands, element_stands, block_stands, none_stand, stand_then, no_bodies, body_then, shows}
+pub use Rattle.ng_dom.specs.Drawing.{Homed, HomedAll}
+use Rattle.ng_dom.specs.Drawing.{Look, Stands, shows}
 use Rattle.ng_dom.specs.Nodes.{NamedNode, named_then, nothing_named}
 use Rattle.ng_dom.specs.Rooms.{Rooms, ReadsIn}
 use Rattle.ng_dom.specs.Nodes.{NamedForest}
@@ -13,22 +14,6 @@ use Rattle.ng_dom.specs.declared.dom.Dom.{Dom}
 -- nothing is kept yet
 abbrev pub unset : Key → Look
 unset k = record { text = []; words = []; truth = None }
-
--- each node is drawn from what stands
-abbrev mutual
-  pub Homed : (ℕ → Option Source) → Stand → Type 0
-  Homed home (text_stands n ps) = home n ≡ Some (of_text ps)
-  Homed home (comment_stands n t) = home n ≡ Some of_comment
-  Homed home (element_stands n e ats ms) = (home n ≡ Some (of_element ats)) × HomedAll home ms
-  Homed home (block_stands n bs) = HomedBodies home bs
-
-  pub HomedAll : (ℕ → Option Source) → Stands → Type 0
-  HomedAll home none_stand = Unit {0}
-  HomedAll home (stand_then m ms) = Homed home m × HomedAll home ms
-
-  pub HomedBodies : (ℕ → Option Source) → Bodies → Type 0
-  HomedBodies home no_bodies = Unit {0}
-  HomedBodies home (body_then ms bs) = HomedAll home ms × HomedBodies home bs
 
 abbrev pub parent_name : Option NodeId → Option ℕ
 parent_name p = option_map (λ n. n.made.0) p

@@ -1,5 +1,5 @@
 -- What the calls on the works of a page come to.
-use Rattle.std.specs.Prelude.{ℕ, ◌+◌, List, [], ◌∷◌, length, Option, Some, None, not, if◌then◌else◌}
+use Rattle.std.specs.Prelude.{ℕ, ◌+◌, List, [], ◌∷◌, Option, Some, None, not, if◌then◌else◌}
 use Rattle.std.specs.BTreeMap.{insert_entry}
 use Rattle.std.specs.List.{filter}
 use Rattle.std.specs.Map.{remove_entry}
@@ -60,28 +60,23 @@ ended_at s = record s {
   resting = rested s.linked (over s.core.objects s.watchers) s.resting;
 }
 
--- the instance of a template, by its number, on a scope: its sites get the next numbers of registration, its nodes the names from
--- the next one on, and its handlers are entered with these
-abbrev pub page_on : ℕ → ℕ → Template → State → Page
-page_on number scope t s = record {
+-- the instance of a template, by its number, on a scope: its sites have these numbers of registration, its nodes the names from the
+-- next one on, and its handlers are entered with these
+abbrev pub page_on : ℕ → ℕ → Template → List ℕ → State → Page
+page_on number scope t serials s = record {
   template = number;
   scope = scope;
   path = path_at s.core.scopes scope;
-  first = s.core.serial;
-  count = length t.sites;
+  serials = serials;
   node = s.next_node;
   handlers = handled s.next_node t.parts [];
 }
 
--- registration numbers are given to the sites of a template
-abbrev pub numbered : Template → act.State → act.State
-numbered t c = record c { serial = c.serial + length t.sites }
-
--- a template, by its number, is linked on a scope: its sites are watched, and none has kept anything
-abbrev pub linked_in : ℕ → ℕ → Template → State → State
-linked_in number scope t s = record s {
-  core = numbered t s.core;
-  watchers = with_sites (path_at s.core.scopes scope) (object_at s.core.scopes scope) s.core.serial t.sites s.watchers;
-  linked = Some (record { template = t; page = page_on number scope t s });
+-- A template, by its number, stands on a scope: its sites are watched, each under its number of registration, its nodes are the
+-- document, and its instance is the page's.
+abbrev pub placed_on : ℕ → ℕ → Template → List ℕ → State → State
+placed_on number scope t serials s = record s {
+  watchers = with_sites (path_at s.core.scopes scope) (object_at s.core.scopes scope) serials t.sites s.watchers;
+  linked = Some (record { template = t; page = page_on number scope t serials s });
   next_node = s.next_node + nodes t.parts;
 }

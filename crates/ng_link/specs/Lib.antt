@@ -5,6 +5,8 @@ pub mod Holes
 pub mod Rows
 pub mod Building
 pub mod Handlers
+pub mod Linking
+pub mod StepOf
 pub mod State
 pub mod Events
 pub mod Calls

@@ -1,6 +1,6 @@
 -- What linking makes of a template: what stands of it, with a name for each node in document order, and a key for each site
 -- (guide: HTML Compiler, "How directives are compiled").
-use Rattle.std.specs.Prelude.{ℕ, ◌+◌, ◌==◌, List, [], ◌∷◌, ◌++◌, map, Result, Ok, Err, nat_lt, if◌then◌else◌}
+use Rattle.std.specs.Prelude.{ℕ, ◌+◌, ◌==◌, List, [], ◌∷◌, ◌++◌, map, Result, Ok, Err, nat_lt, slice_index_or, if◌then◌else◌}
 use Rattle.ng_base.specs.declared.fault.Fault.{Fault}
 use Rattle.ng_base.specs.declared.fault.Fault.TheVariants.{NodeLimit}
 use Rattle.ng_base.specs.declared.path.Key.{Key}
@@ -15,9 +15,9 @@ use Rattle.ng_drawing.specs.Template.{word, hole, PartAttributes, Part, Contents
 abbrev pub key_on : List ℕ → ℕ → Key
 key_on path serial = record { path = path; serial = record { 0 = serial } }
 
--- the keys of sites by their numbers: they rise from the next number of registration on
-abbrev pub keys_from : List ℕ → ℕ → ℕ → Key
-keys_from path first n = key_on path (first + n)
+-- the keys of sites by their numbers in the template, where each has a number of registration on a scope's path
+abbrev pub keys_in : List ℕ → List ℕ → ℕ → Key
+keys_in path serials n = key_on path (slice_index_or serials n 0)
 
 abbrev pub linked_piece : (ℕ → Key) → template.Piece → Piece
 linked_piece keys (word w) = Words w

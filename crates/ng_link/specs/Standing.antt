@@ -19,8 +19,8 @@ use Rattle.ng_link.specs.declared.works.Works.{Works}
 -- a template's parts stand with the keys of an instance, from its first node on
 pub record HasShape (t : Template) (p : Page) (ts : Stands) : Type 0 where
   pub shape : ts ≡ shape (keys_of p) p.node t.parts
-  pub count : p.count ≡ length t.sites
-  pub holes : HolesBelow p.count t.parts
+  pub count : length p.serials ≡ length t.sites
+  pub holes : HolesBelow (length p.serials) t.parts
 
 -- nothing stands, and the document has no node
 pub record NothingStands (d : Dom) (ts : Stands) : Type 0 where

@@ -1,6 +1,9 @@
 -- The state of a page, as contracts see its works.
-use Rattle.std.specs.Prelude.{ℕ, zero, suc, ◌+◌, ◌-◌, ◌&&◌, Bool, false, List, [], ◌∷◌, Option, Some, None, map, length, option_map, unwrap_or, slice_get, not, is_some, nat_le, nat_lt, if◌then◌else◌}
-use Rattle.std.specs.Map.{lookup}
+use Rattle.std.specs.Prelude.{ℕ, ◌&&◌, Bool, false, List, [], Option, Some, None, map, option_map, unwrap_or, slice_get, not, is_some, if◌then◌else◌}
+use Rattle.std.specs.BTreeMap.{is_at}
+use Rattle.std.specs.List.{list_any}
+use Rattle.std.specs.Ordering.{nat_cmp}
+use Rattle.std.specs.Map.{lookup, keys_of as map_keys}
 use Rattle.std.specs.Str.{bytes_eq}
 use Rattle.std.specs.declared.alloc.Global.{Global}
 use Rattle.std.specs.declared.vec.Vec.{Vec}
@@ -28,25 +31,24 @@ use Rattle.ng_watch.specs.Keys.{is_key}
 use Rattle.ng_watch.specs.Seen.{Watcher}
 use Rattle.ng_watch.specs.Table.{Table, watchers_of, found}
 use Rattle.ng_link.specs.Handlers.{Handled}
-use Rattle.ng_link.specs.Shape.{key_on, keys_from}
+use Rattle.ng_link.specs.Shape.{key_on, keys_in}
 use Rattle.ng_link.specs.declared.works.Linked as code
 use Rattle.ng_link.specs.declared.works.Listener.{Listener}
 use Rattle.ng_link.specs.declared.works.Works.{Works}
 
--- an instance that stands: its template and scope by number; the path of its sites' keys, the number of the first, and how many;
--- the name of its first node, and what handles events at its nodes
+-- an instance that stands: its template and scope by number; the path of its sites' keys, and their numbers of registration in the
+-- order of its sites; the name of its first node, and what handles events at its nodes
 pub record Page : Type 0 where
   pub template : ℕ
   pub scope : ℕ
   pub path : List ℕ
-  pub first : ℕ
-  pub count : ℕ
+  pub serials : List ℕ
   pub node : ℕ
   pub handlers : Handled
 
 -- the keys of its sites by number
 abbrev pub keys_of : Page → ℕ → Key
-keys_of p = keys_from p.path p.first
+keys_of p = keys_in p.path p.serials
 
 -- a template that is linked, with its scope and the keys of its sites
 pub record Linked : Type 0 where
@@ -76,12 +78,12 @@ pub record State : Type 0 where
   pub linked : Option Linked
   pub next_node : ℕ
 
--- whether a key is on a path, with one of so many numbers from the first on
-abbrev pub is_in : List ℕ → ℕ → ℕ → Key → Bool
-is_in path first count k = bytes_eq path k.path && (nat_le first k.serial.0 && nat_lt k.serial.0 (first + count))
+-- whether a key is on a path, with one of these numbers
+abbrev pub is_in : List ℕ → List ℕ → Key → Bool
+is_in path serials k = bytes_eq path k.path && list_any (λ n. is_at (nat_cmp k.serial.0) n) serials
 
 abbrev pub is_site_of : Page → Key → Bool
-is_site_of p k = is_in p.path p.first p.count k
+is_site_of p k = is_in p.path p.serials k
 
 -- Whether a key is that of a site of what is linked. Every other watcher is a declared watch.
 abbrev pub is_site : Option Linked → Key → Bool
@@ -112,14 +114,9 @@ looks_in s = looks_of s.watchers s.resting
 abbrev pub site_state : Table → Resting → ℕ → Key → SiteState
 site_state t r scope k = record { key = k; scope = scope; kept = kept_in t r k; rests = not (is_some (found k t)) }
 
--- so many sites from a number on
-abbrev pub site_states : Table → Resting → ℕ → List ℕ → ℕ → ℕ → List SiteState
-site_states t r scope path n zero = []
-site_states t r scope path n (suc k) = site_state t r scope (key_on path n) ∷ site_states t r scope path (n + 1) k
-
 -- the instance that stands
 abbrev pub instance_at : Table → Resting → Page → Instance
-instance_at t r p = record { scope = p.scope; sites = site_states t r p.scope p.path p.first p.count }
+instance_at t r p = record { scope = p.scope; sites = map (λ n. site_state t r p.scope (key_on p.path n)) p.serials }
 
 abbrev pub instance_in : Table → Resting → Option Linked → Option Instance
 instance_in t r None = None
@@ -159,14 +156,13 @@ template_or all n = unwrap_or (template_at all n) (record { parts = no_parts; si
 abbrev pub handled_of : List (ℕ × Vec Handler Global) → Handled
 handled_of t = map (λ e. (e.0, map handler_of e.1.items)) t
 
--- an instance keeps for each site the node that it is drawn in
+-- an instance keeps under the number of each site the node that it is drawn in
 abbrev pub page_of : code.Linked → Page
 page_of i = record {
   template = i.template.0;
   scope = i.scope.0;
   path = i.path;
-  first = i.first;
-  count = length i.spots.items;
+  serials = map_keys i.spots.entries;
   node = i.node;
   handlers = handled_of i.handlers.entries;
 }
@@ -195,7 +191,7 @@ state_of w = record {
 
 -- the node that the site of a key is drawn in
 abbrev pub spot_at : code.Linked → Key → Option ℕ
-spot_at p k = if is_site_of (page_of p) k then slice_get p.spots.items (k.serial.0 - p.first) else None
+spot_at p k = if bytes_eq p.path k.path then lookup (is_at (nat_cmp k.serial.0)) p.spots.entries else None
 
 abbrev pub spot_in : Option code.Linked → Key → Option ℕ
 spot_in None k = None

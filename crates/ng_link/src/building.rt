@@ -10,7 +10,7 @@ ghost use Rattle.ng_drawing.specs.Template.{parts_from, text_part, bound};
 ghost use Rattle.ng_template.specs.PieceOf.{piece_of as seen_piece};
 ghost use Rattle.ng_template.specs.Seen.{part_of, contents_of};
 ghost use Rattle.ng_link.specs.Building.{unset, parent_name, IsThere, IsMade, Builds};
-ghost use Rattle.ng_link.specs.Shape.{keys_from, linked_values, part_shape, content_shape, shape, own_node, piece_holes, part_holes, content_holes, holes};
+ghost use Rattle.ng_link.specs.Shape.{keys_in, linked_values, part_shape, content_shape, shape, own_node, piece_holes, part_holes, content_holes, holes};
 ghost use Rattle.ng_link.specs.Seen.{fault_of, named_as};
 
 use crate::attributes::unset_attributes;
@@ -105,17 +105,17 @@ fn build_text(
     alloc: Global,
     dom: &mut Dom,
     path: &Path,
-    first: u64,
+    serials: &[u64],
     parent: Option<NodeId>,
     pieces: &Pieces,
 ) -> Result<NodeId, Fault>
     requires there { IsThere dom.old parent }
     requires room { live_count dom.old < dom_limit }
     ensures name { IfOk result (λ n. n.made.0 ≡ next_name dom.old) }
-    ensures builds { OnOk result (Builds (parent_name parent) (stand_then (part_shape (keys_from path.now first) (next_name dom.old) (text_part pieces.now)) none_stand) 1 dom.old dom.new) }
+    ensures builds { OnOk result (Builds (parent_name parent) (stand_then (part_shape (keys_in path.now serials.now) (next_name dom.old) (text_part pieces.now)) none_stand) 1 dom.old dom.new) }
     ensures faults { IfErr result (λ e. is_memory e ≡ true) }
 {
-    let drawn = copied_pieces(alloc, path, first, pieces.as_slice())?;
+    let drawn = copied_pieces(alloc, path, serials, pieces.as_slice())?;
     let text = unset_text(alloc, drawn.as_slice())?;
     make(
         dom,
@@ -147,18 +147,18 @@ fn build_bound(
     alloc: Global,
     dom: &mut Dom,
     path: &Path,
-    first: u64,
+    serials: &[u64],
     parent: Option<NodeId>,
     b: u32,
 ) -> Result<NodeId, Fault>
     requires there { IsThere dom.old parent }
     requires room { live_count dom.old < dom_limit }
     ensures name { IfOk result (λ n. n.made.0 ≡ next_name dom.old) }
-    ensures builds { OnOk result (Builds (parent_name parent) (content_shape (keys_from path.now first) (next_name dom.old) (bound b)) 1 dom.old dom.new) }
+    ensures builds { OnOk result (Builds (parent_name parent) (content_shape (keys_in path.now serials.now) (next_name dom.old) (bound b)) 1 dom.old dom.new) }
     ensures faults { IfErr result (λ e. is_memory e ≡ true) }
 {
     let mut drawn = Vec::new(alloc);
-    drawn.push(DrawnPiece::Hole(key_at(path, first, b as u64)?))?;
+    drawn.push(DrawnPiece::Hole(key_at(path, serials, b as u64)?))?;
     make(
         dom,
         parent,
@@ -172,7 +172,7 @@ fn build_element(
     alloc: Global,
     dom: &mut Dom,
     path: &Path,
-    first: u64,
+    serials: &[u64],
     parent: Option<NodeId>,
     name: &Txt,
     attributes: &Attributes,
@@ -180,10 +180,10 @@ fn build_element(
     requires there { IsThere dom.old parent }
     requires room { live_count dom.old < dom_limit }
     ensures name { IfOk result (λ n. n.made.0 ≡ next_name dom.old) }
-    ensures builds { OnOk result (Builds (parent_name parent) (stand_then (element_stands (next_name dom.old) name.now (linked_values (keys_from path.now first) attributes.now) none_stand) none_stand) 1 dom.old dom.new) }
+    ensures builds { OnOk result (Builds (parent_name parent) (stand_then (element_stands (next_name dom.old) name.now (linked_values (keys_in path.now serials.now) attributes.now) none_stand) none_stand) 1 dom.old dom.new) }
     ensures faults { IfErr result (λ e. is_memory e ≡ true) }
 {
-    let drawn = copied_attributes(alloc, path, first, attributes.as_slice())?;
+    let drawn = copied_attributes(alloc, path, serials, attributes.as_slice())?;
     let shown = unset_attributes(alloc, drawn.as_slice())?;
     let name = name.copied()?;
     let n = make(
@@ -202,7 +202,7 @@ fn build_part(
     alloc: Global,
     dom: &mut Dom,
     path: &Path,
-    first: u64,
+    serials: &[u64],
     spots: &mut Vec<u64>,
     parent: Option<NodeId>,
     part: &Part,
@@ -210,13 +210,13 @@ fn build_part(
     requires there { IsThere dom.old parent }
     requires room { live_count dom.old + part_nodes (part_of part.now) ≤ dom_limit }
     ensures name { IfOk result (λ n. n.made.0 ≡ next_name dom.old) }
-    ensures builds { OnOk result (Builds (parent_name parent) (stand_then (part_shape (keys_from path.now first) (next_name dom.old) (part_of part.now)) none_stand) (part_nodes (part_of part.now)) dom.old dom.new) }
+    ensures builds { OnOk result (Builds (parent_name parent) (stand_then (part_shape (keys_in path.now serials.now) (next_name dom.old) (part_of part.now)) none_stand) (part_nodes (part_of part.now)) dom.old dom.new) }
     ensures holes { OnOk result (spots.new.items ≡ spots.old.items ++ part_holes (next_name dom.old) (part_of part.now)) }
     ensures faults { IfErr result (λ e. is_memory e ≡ true) }
 {
     match part {
         Part::Text(pieces) => {
-            let n = build_text(alloc, dom, path, first, parent, pieces)?;
+            let n = build_text(alloc, dom, path, serials, parent, pieces)?;
             note_holes(spots, n, pieces.as_slice())?;
             Ok(n)
         }
@@ -231,7 +231,7 @@ fn build_part(
             alloc,
             dom,
             path,
-            first,
+            serials,
             spots,
             parent,
             name,
@@ -248,7 +248,7 @@ fn build_whole(
     alloc: Global,
     dom: &mut Dom,
     path: &Path,
-    first: u64,
+    serials: &[u64],
     spots: &mut Vec<u64>,
     parent: Option<NodeId>,
     name: &Txt,
@@ -259,12 +259,12 @@ fn build_whole(
     requires there { IsThere dom.old parent }
     requires room { live_count dom.old + (1 + content_nodes (contents_of contents.now)) ≤ dom_limit }
     ensures name { IfOk result (λ n. n.made.0 ≡ next_name dom.old) }
-    ensures builds { OnOk result (Builds (parent_name parent) (stand_then (element_stands (next_name dom.old) name.now (linked_values (keys_from path.now first) attributes.now) (content_shape (keys_from path.now first) (next_name dom.old + 1) (contents_of contents.now))) none_stand) (1 + content_nodes (contents_of contents.now)) dom.old dom.new) }
+    ensures builds { OnOk result (Builds (parent_name parent) (stand_then (element_stands (next_name dom.old) name.now (linked_values (keys_in path.now serials.now) attributes.now) (content_shape (keys_in path.now serials.now) (next_name dom.old + 1) (contents_of contents.now))) none_stand) (1 + content_nodes (contents_of contents.now)) dom.old dom.new) }
     ensures holes { OnOk result (spots.new.items ≡ spots.old.items ++ (map (own_node (next_name dom.old) (contents_of contents.now)) own.now ++ content_holes (next_name dom.old + 1) (contents_of contents.now))) }
     ensures faults { IfErr result (λ e. is_memory e ≡ true) }
 {
-    let n = build_element(alloc, dom, path, first, parent, name, attributes)?;
-    let kids = build_contents(alloc, dom, path, first, spots, n, own, contents)?;
+    let n = build_element(alloc, dom, path, serials, parent, name, attributes)?;
+    let kids = build_contents(alloc, dom, path, serials, spots, n, own, contents)?;
     dom.fill(n, kids);
     Ok(n)
 }
@@ -275,7 +275,7 @@ fn build_contents(
     alloc: Global,
     dom: &mut Dom,
     path: &Path,
-    first: u64,
+    serials: &[u64],
     spots: &mut Vec<u64>,
     n: NodeId,
     own: &[u32],
@@ -284,18 +284,18 @@ fn build_contents(
     requires there { IsLive dom.old n.made.0 }
     requires last { next_name dom.old ≡ n.made.0 + 1 }
     requires room { live_count dom.old + content_nodes (contents_of contents.now) ≤ dom_limit }
-    ensures names { IfOk result (λ g. g.nodes.items ≡ names_of (shows unset (content_shape (keys_from path.now first) (next_name dom.old) (contents_of contents.now)))) }
-    ensures builds { OnOk result (Builds (Some n.made.0) (content_shape (keys_from path.now first) (next_name dom.old) (contents_of contents.now)) (content_nodes (contents_of contents.now)) dom.old dom.new) }
+    ensures names { IfOk result (λ g. g.nodes.items ≡ names_of (shows unset (content_shape (keys_in path.now serials.now) (next_name dom.old) (contents_of contents.now)))) }
+    ensures builds { OnOk result (Builds (Some n.made.0) (content_shape (keys_in path.now serials.now) (next_name dom.old) (contents_of contents.now)) (content_nodes (contents_of contents.now)) dom.old dom.new) }
     ensures holes { OnOk result (spots.new.items ≡ spots.old.items ++ (map (own_node n.made.0 (contents_of contents.now)) own.now ++ content_holes (next_name dom.old) (contents_of contents.now))) }
     ensures faults { IfErr result (λ e. is_memory e ≡ true) }
 {
     match contents {
         Contents::Children(parts) => {
             note_own(spots, n, own)?;
-            build_parts(alloc, dom, path, first, spots, Some(n), parts.as_slice())
+            build_parts(alloc, dom, path, serials, spots, Some(n), parts.as_slice())
         }
         Contents::Bound(b) => {
-            let text = build_bound(alloc, dom, path, first, Some(n), *b)?;
+            let text = build_bound(alloc, dom, path, serials, Some(n), *b)?;
             note_bound(spots, n, text, *b, own)?;
             let mut group = Group::new(alloc);
             group.push(text)?;
@@ -310,21 +310,21 @@ pub(crate) fn build_parts(
     alloc: Global,
     dom: &mut Dom,
     path: &Path,
-    first: u64,
+    serials: &[u64],
     spots: &mut Vec<u64>,
     parent: Option<NodeId>,
     parts: &[Part],
 ) -> Result<Group, Fault>
     requires there { IsThere dom.old parent }
     requires room { live_count dom.old + nodes (parts_from (map part_of parts.now)) ≤ dom_limit }
-    ensures names { IfOk result (λ g. g.nodes.items ≡ names_of (shows unset (shape (keys_from path.now first) (next_name dom.old) (parts_from (map part_of parts.now))))) }
-    ensures builds { OnOk result (Builds (parent_name parent) (shape (keys_from path.now first) (next_name dom.old) (parts_from (map part_of parts.now))) (nodes (parts_from (map part_of parts.now))) dom.old dom.new) }
+    ensures names { IfOk result (λ g. g.nodes.items ≡ names_of (shows unset (shape (keys_in path.now serials.now) (next_name dom.old) (parts_from (map part_of parts.now))))) }
+    ensures builds { OnOk result (Builds (parent_name parent) (shape (keys_in path.now serials.now) (next_name dom.old) (parts_from (map part_of parts.now))) (nodes (parts_from (map part_of parts.now))) dom.old dom.new) }
     ensures holes { OnOk result (spots.new.items ≡ spots.old.items ++ holes (next_name dom.old) (parts_from (map part_of parts.now))) }
     ensures faults { IfErr result (λ e. is_memory e ≡ true) }
 {
     let mut group = Group::new(alloc);
     for part in parts {
-        let n = build_part(alloc, dom, path, first, spots, parent, part)?;
+        let n = build_part(alloc, dom, path, serials, spots, parent, part)?;
         group.push(n)?;
     }
     Ok(group)

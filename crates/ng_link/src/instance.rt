@@ -2,9 +2,9 @@
 ghost use Rattle.std.specs.Prelude.{◌≡◌, IfOk, option_map};
 ghost use Rattle.ng_drawing.specs.InstanceOf.{state_of as seen_state, instance_of};
 ghost use Rattle.ng_value.specs.Snaps.{snap_of};
-ghost use Rattle.ng_link.specs.State.{page_of, kept_in, site_state, site_states, instance_at, instance, state_of};
+ghost use Rattle.ng_link.specs.State.{page_of, kept_in, site_state, instance_at, instance, state_of};
 
-use crate::copying::key_at;
+use crate::copying::key_on;
 use crate::looks::kept_in;
 use crate::works::{Linked, Works};
 use ng_base::fault::Memory;
@@ -43,8 +43,8 @@ fn instance_of(works: &Works, page: &Linked) -> Result<Instance, Memory>
     ensures { IfOk result (λ i. instance_of i ≡ instance_at (state_of works.now).watchers (state_of works.now).resting (page_of page.now)) }
 {
     let mut sites = Vec::new(works.alloc);
-    for i in 0..page.spots.len() {
-        let key = key_at(&page.path, page.first, i as u64)?;
+    for serial in page.spots.keys() {
+        let key = key_on(&page.path, *serial)?;
         sites.push(site_state(works, page.scope, key)?)?;
     }
     Ok(Instance {

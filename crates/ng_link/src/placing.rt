@@ -1,14 +1,14 @@
 //! The sites of an instance: where each is drawn, and that it is watched.
-ghost use Rattle.std.specs.Prelude.{◌≡◌, List, map, true, OnOk, IfErr, IfOk, option_map};
+ghost use Rattle.std.specs.Prelude.{◌≡◌, List, [], map, true, OnOk, IfErr, IfOk, option_map};
 ghost use Rattle.ng_base.specs.Faults.{is_memory};
 ghost use Rattle.ng_template.specs.Kept.{Named};
 ghost use Rattle.ng_template.specs.SiteOf.{site_of};
 ghost use Rattle.ng_watch.specs.Seen.{watching_of};
 ghost use Rattle.ng_watch.specs.Table.{watchers_of, with_watch};
-ghost use Rattle.ng_link.specs.Rows.{watch_kind, watching_site, with_sites};
+ghost use Rattle.ng_link.specs.Rows.{watch_kind, watching_site, with_sites, spots_by};
 ghost use Rattle.ng_link.specs.State.{page_of, linked_of, is_site_of, is_site, spot_at, spot_in};
 
-use crate::copying::key_at;
+use crate::copying::key_on;
 use crate::works::Linked;
 use ng_base::fault::Fault;
 use ng_base::name::{NodeId, Oid, Serial};
@@ -18,25 +18,24 @@ use ng_template::Site;
 use ng_watch::watch::{Watch, WatchKind};
 use ng_watch::watchers::Watchers;
 use std::alloc::Global;
+use std::collections::BTreeMap;
 
 impl Linked {
     /// Whether a key is that of one of these sites.
     pub(crate) fn has(&self, key: &Key) -> bool
         ensures { result ≡ is_site_of (page_of self.now) key.now }
     {
-        self.path == key.path
-            && self.first <= key.serial.0
-            && key.serial.0 - self.first < self.spots.len() as u64
+        self.path == key.path && self.spots.contains_key(&key.serial.0)
     }
 
     /// The node that the site of a key is drawn in.
     fn spot(&self, key: &Key) -> Option<NodeId>
         ensures { option_map (λ n. n.made.0) result ≡ spot_at self.now key.now }
     {
-        if !self.has(key) {
+        if self.path != key.path {
             return None;
         }
-        let n = self.spots.get((key.serial.0 - self.first) as usize)?;
+        let n = self.spots.get(&key.serial.0)?;
         Some(NodeId {
             slot: 0,
             made: Serial(*n),
@@ -107,21 +106,51 @@ fn watch_one(
     Ok(())
 }
 
-/// Sites are watched, one after another.
+/// Sites are watched on a path, one after another, each under its number of registration.
 pub(crate) fn watch_all(
     watchers: &mut Watchers,
     alloc: Global,
     path: &Path,
-    first: u64,
     object: Oid,
+    serials: &[u64],
     sites: &[Site],
 ) -> Result<(), Fault>
-    ensures rows { OnOk result (watchers_of watchers.new ≡ with_sites path.now object.0 first (map site_of sites.now) (watchers_of watchers.old)) }
+    ensures rows { OnOk result (watchers_of watchers.new ≡ with_sites path.now object.0 serials.now (map site_of sites.now) (watchers_of watchers.old)) }
     ensures faults { IfErr result (λ e. is_memory e ≡ true) }
 {
-    for i in 0..sites.len() {
-        let key = key_at(path, first, i as u64)?;
-        watch_one(watchers, alloc, key, object, &sites[i])?;
+    let mut left = sites;
+    for serial in serials {
+        match left.split_first() {
+            None => return Ok(()),
+            Some((site, others)) => {
+                let key = key_on(path, *serial)?;
+                watch_one(watchers, alloc, key, object, site)?;
+                left = others;
+            }
+        }
     }
     Ok(())
+}
+
+/// For each site, by its number of registration, the node that it is drawn in.
+pub(crate) fn spots_of(
+    alloc: Global,
+    serials: &[u64],
+    nodes: &[u64],
+) -> Result<BTreeMap<u64, u64>, Fault>
+    ensures spots { IfOk result (λ m. m.entries ≡ spots_by serials.now nodes.now []) }
+    ensures faults { IfErr result (λ e. is_memory e ≡ true) }
+{
+    let mut spots = BTreeMap::new(alloc);
+    let mut left = nodes;
+    for serial in serials {
+        match left.split_first() {
+            None => return Ok(spots),
+            Some((n, others)) => {
+                let _ = spots.insert(*serial, *n)?;
+                left = others;
+            }
+        }
+    }
+    Ok(spots)
 }

@@ -29,15 +29,14 @@ use std::collections::BTreeMap;
 #[derive(Clone, Copy, Debug, PartialEq, Eq, Drop)]
 pub struct InstId(pub u32);
 
-/// An instance that stands. The keys of its sites have this path, and their numbers rise from `first` on. For each site there is
-/// the name of the node that it is drawn in. The names of its nodes rise from `node` on, and its handlers stand by these.
+/// An instance that stands. The keys of its sites have this path. Under the number of registration of each site there is the name
+/// of the node that it is drawn in. The names of its nodes rise from `node` on, and its handlers stand by these.
 #[derive(Drop)]
 pub struct Linked {
     pub(crate) template: TplId,
     pub(crate) scope: ScopeId,
     pub(crate) path: Path,
-    pub(crate) first: u64,
-    pub(crate) spots: Vec<u64>,
+    pub(crate) spots: BTreeMap<u64, u64>,
     pub(crate) node: u64,
     pub(crate) handlers: BTreeMap<u64, Vec<Handler>>,
 }

@@ -1,5 +1,5 @@
 -- The calls of a core, as commands make them.
-use Rattle.std.proofs.Common.{◌≡◌, ◌-◌, ℕ, List, [], ◌∷◌, map, Result, Ok, Err, ap, sym, subst, ◌∙◌}
+use Rattle.std.proofs.Common.{◌≡◌, ◌-◌, ℕ, List, [], ◌∷◌, map, Result, Ok, Err, ap, sym, subst}
 use Rattle.std.specs.Prelude.{codes}
 use Rattle.serde_json.specs.Data.{Data}
 use Rattle.ng_act.specs.Actions.{Asked, does, destroys, object_value}
@@ -10,24 +10,13 @@ use Rattle.ng_base.specs.Views.{ViewTree, prim}
 use Rattle.ng_base.specs.declared.fault.Fault.{Fault}
 use Rattle.ng_base.specs.declared.value.Value.{Value}
 use Rattle.ng_fire.specs.Runs.{asked_first}
+use Rattle.ng_fire.proofs.ProgramRuns.{back_of}
 use Rattle.ng_language.specs.Trees.{Trees}
 use Rattle.ng_view.specs.Evaluation.{Local}
-use Rattle.ng_page.specs.Commands.{back, program_run, destroyed, json_run, items_in}
+use Rattle.ng_page.specs.Commands.{destroyed, json_run, items_in}
 use Rattle.ng_page.specs.Dispatch.{handler_run}
 
-same_locals : (n c : State) → n.locals ≡ c.locals → with_locals c.locals n ≡ n
-same_locals n c e = ap (λ ls. with_locals ls n) (sym e)
-
-back_of : (r : Result Value Fault) (n c : State) (ls : List Local) (run : Run Value) → n.locals ≡ c.locals → Acts same r (with_locals ls n) run → Acts same r n (back c run)
-back_of (Ok v) n c ls run e h = ap (back c) h ∙ ap (λ s. (s, Ok v)) (same_locals n c e)
-back_of (Err f) n c ls run e h = λ m. ap (back c) (h m) ∙ ap (λ s. (s, Err f)) (same_locals n c e)
-
--- a program that is run with no locals gives the core's back
-pub program_acts : (r : Result Value Fault) (n c : State) (ls : List Local) (depth scope : ℕ) (p : Trees) → depth ≡ 0 → n.locals ≡ c.locals → Acts same r (with_locals ls n) (act_run (64 - depth) scope [] p c) → Acts same r n (program_run scope p c)
-unfolding program_run
-program_acts r n c ls depth scope p z e h = back_of r n c ls (act_run 64 scope [] p c) e (subst (λ d. Acts same r (with_locals ls n) (act_run (64 - d) scope [] p c)) z h)
-
--- and so does a handler's, whose one local is `$event`
+-- a handler that is run with its one local, `$event`, gives the core's back
 pub handler_acts : (r : Result Value Fault) (n c : State) (ls : List Local) (depth scope o : ℕ) (p : Trees) → depth ≡ 0 → n.locals ≡ c.locals
     → Acts same r (with_locals ls n) (act_run (64 - depth) scope ((codes "$event", object_value o) ∷ []) p c) → Acts same r n (handler_run scope o p c)
 unfolding handler_run

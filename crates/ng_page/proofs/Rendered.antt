@@ -1,5 +1,5 @@
 -- The rendering of a page is that of its first template, over what is there.
-use Rattle.std.proofs.Common.{◌≡◌, ◌<◌, ℕ, zero, suc, ◌+◌, List, [], ◌∷◌, length, Option, Some, None, refl, ap, sym, subst, ◌∙◌, slice_get, arith}
+use Rattle.std.proofs.Common.{◌≡◌, ◌<◌, ℕ, zero, suc, List, [], ◌∷◌, map, length, Option, Some, None, refl, ap, sym, subst, ◌∙◌, slice_get, arith}
 use Rattle.std.specs.Option.{IfSome}
 use Rattle.ng_act.specs.State as act
 use Rattle.ng_base.specs.Objects.{Object}
@@ -8,7 +8,7 @@ use Rattle.ng_behaviour.specs.Scopes.{Scope, object_at}
 use Rattle.ng_drawing.specs.Drawing.{Rendered, shown_as}
 use Rattle.ng_drawing.specs.Instance as instances
 use Rattle.ng_link.specs.Shape.{key_on}
-use Rattle.ng_link.specs.State.{Page, Linked, Resting, State, state_of, templates_of, template_or, linked_of, page_of, site_state, site_states, instance_at, instance_in, instance, rendering_in, rendering}
+use Rattle.ng_link.specs.State.{Page, Linked, Resting, State, state_of, templates_of, template_or, linked_of, page_of, site_state, instance_at, instance_in, instance, rendering_in, rendering}
 use Rattle.ng_link.specs.declared.works.Linked as code
 use Rattle.ng_link.specs.declared.works.Works.{Works}
 use Rattle.ng_markup.specs.Forest.{Forest, no_nodes}
@@ -19,15 +19,15 @@ use Rattle.ng_page.specs.PlaceOf.{PageIs}
 use Rattle.ng_page.specs.Settled.{IsLinkedIn, IsLinked}
 
 -- the sites of an instance have its scope
-site_scope : (t : Table) (r : Resting) (scope : ℕ) (path : List ℕ) (n k i : ℕ) (s : instances.SiteState) → slice_get (site_states t r scope path n k) i ≡ Some s → s.scope ≡ scope
-site_scope t r scope path n zero i s e = absurd (cc)
-site_scope t r scope path n (suc k) zero s e = let one : site_state t r scope (key_on path n) ≡ s = cc in ap (λ v. v.scope) (sym one)
-site_scope t r scope path n (suc k) (suc i) s e = site_scope t r scope path (n + 1) k i s e
+site_scope : (t : Table) (r : Resting) (scope : ℕ) (path ns : List ℕ) (i : ℕ) (s : instances.SiteState) → slice_get (map (λ n. site_state t r scope (key_on path n)) ns) i ≡ Some s → s.scope ≡ scope
+site_scope t r scope path [] i s e = absurd (cc)
+site_scope t r scope path (n ∷ ns) zero s e = let one : site_state t r scope (key_on path n) ≡ s = cc in ap (λ v. v.scope) (sym one)
+site_scope t r scope path (n ∷ ns) (suc i) s e = site_scope t r scope path ns i s e
 
 states_stand : (objects : List Object) (scopes : List Scope) (t : Table) (r : Resting) (p : Page) → p.scope < length scopes → AreAmong (length objects) scopes → NamesStand objects scopes (instance_at t r p).sites
 states_stand objects scopes t r p there among = record {
   state = λ n s e.
-      let same : s.scope ≡ p.scope = site_scope t r p.scope p.path p.first p.count n s e in
+      let same : s.scope ≡ p.scope = site_scope t r p.scope p.path p.serials n s e in
       record {
         scope = subst (λ k. k < length scopes) (sym same) there;
         object = subst (λ k. object_at scopes k < length objects) (sym same) (among.below p.scope there);

@@ -1,5 +1,5 @@
 -- Where no watcher is dirty, the document that is shown is the rendering.
-use Rattle.std.proofs.Common.{◌≡◌, ℕ, zero, suc, ◌+◌, Bool, true, false, List, [], ◌∷◌, length, cond, Option, None, Some, Result, Ok, Err, refl, ap, sym, subst, ◌∙◌, slice_get}
+use Rattle.std.proofs.Common.{◌≡◌, ℕ, zero, suc, Bool, true, false, List, [], ◌∷◌, map, length, arith, cond, Option, None, Some, Result, Ok, Err, refl, ap, sym, subst, ◌∙◌, slice_get}
 use Rattle.std.specs.Prelude.{is_some, not}
 use Rattle.std.specs.Map.{lookup}
 use Rattle.ng_act.specs.State as act
@@ -17,7 +17,7 @@ use Rattle.ng_drawing.specs.declared.kind.SiteKind.TheVariants as sites
 use Rattle.ng_drawing.proofs.Fresh.{fresh_parts}
 use Rattle.ng_link.specs.Rows.{watch_kind, watching_site}
 use Rattle.ng_link.specs.Shape.{key_on}
-use Rattle.ng_link.specs.State.{State, Linked, Resting, kept_or, site_state, site_states, instance_at, shown_in, shown, rendering_in, rendering}
+use Rattle.ng_link.specs.State.{State, Linked, Resting, kept_or, site_state, instance_at, shown_in, shown, rendering_in, rendering}
 use Rattle.ng_watch.specs.Keys.{is_key}
 use Rattle.ng_watch.specs.Laws.{is_two_way}
 use Rattle.ng_watch.specs.Now.{value_now, snapshot_of, now}
@@ -75,19 +75,23 @@ module _ (c : act.State) (t : Table) (r : Resting) (settled : (k : Key) (w : Wat
       by_watcher None e = refl
       by_watcher (Some w) e = clean_shows c.objects x (object_at c.scopes scope) w (found_watches k (watching_site (object_at c.scopes scope) x) t w h e) (settled k w e)
 
-  sites_show : (scope : ℕ) (path : List ℕ) (n : ℕ) (xs : List Site) (i : ℕ) → AreWatched t (object_at c.scopes scope) path n xs
-      → site_now c.objects c.scopes (slice_get xs i) (slice_get (site_states t r scope path n (length xs)) i) ≡ shown_as (state_kept (slice_get (site_states t r scope path n (length xs)) i))
-  sites_show scope path n [] i h = refl
-  sites_show scope path n (x ∷ xs) zero h = site_shows scope x (key_on path n) h.0
-  sites_show scope path n (x ∷ xs) (suc i) h = sites_show scope path (n + 1) xs i h.1
+  abbrev shown_at : ℕ → List ℕ → ℕ → SiteState
+  shown_at scope path n = site_state t r scope (key_on path n)
+
+  sites_show : (scope : ℕ) (path ns : List ℕ) (xs : List Site) (i : ℕ) → length ns ≡ length xs → AreWatched t (object_at c.scopes scope) path ns xs
+      → site_now c.objects c.scopes (slice_get xs i) (slice_get (map (shown_at scope path) ns) i) ≡ shown_as (state_kept (slice_get (map (shown_at scope path) ns) i))
+  sites_show scope path [] [] i e h = refl
+  sites_show scope path (n ∷ ns) [] i e h = absurd (omega (arith, e))
+  sites_show scope path [] (x ∷ xs) i e h = absurd h
+  sites_show scope path (n ∷ ns) (x ∷ xs) zero e h = site_shows scope x (key_on path n) h.0
+  sites_show scope path (n ∷ ns) (x ∷ xs) (suc i) e h = sites_show scope path ns xs i (omega (arith, e)) h.1
 
 settled_in : (c : act.State) (t : Table) (r : Resting) (o : Option Linked) → ((k : Key) (w : Watcher) → found k t ≡ Some w → verdict c.objects w ≡ Ok clean) → IsLinkedIn c t o → rendering_in c t r o ≡ shown_as (shown_in t r o)
 settled_in c t r None settled h = refl
 settled_in c t r (Some l) settled h =
     fresh_parts (λ n. state_kept (slice_get (instance_at t r l.page).sites n)) (λ n. site_now c.objects c.scopes (slice_get l.template.sites n) (slice_get (instance_at t r l.page).sites n))
-    (λ n. subst (λ k. site_now c.objects c.scopes (slice_get l.template.sites n) (slice_get (site_states t r l.page.scope l.page.path l.page.first k) n) ≡ shown_as (state_kept (slice_get (site_states t r l.page.scope l.page.path l.page.first k) n)))
-    (sym h.count) (sites_show c t r settled l.page.scope l.page.path l.page.first l.template.sites n
-    (subst (λ s. AreWatched t (object_at c.scopes s) l.page.path l.page.first l.template.sites) (sym h.scope) h.watched)))
+    (λ n. sites_show c t r settled l.page.scope l.page.path l.page.serials l.template.sites n h.count
+    (subst (λ s. AreWatched t (object_at c.scopes s) l.page.path l.page.serials l.template.sites) (sym h.scope) h.watched))
     l.template.parts
 
 pub settled_renders : (s : State) → IsSettled s → IsWatched s → rendering s ≡ shown_as (shown s)

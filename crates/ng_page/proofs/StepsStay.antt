@@ -14,7 +14,7 @@ use Rattle.ng_base.specs.declared.value.Value.{Value}
 use Rattle.ng_behaviour.specs.Scopes.{path_at}
 use Rattle.ng_fire.specs.Changes.{key_in, watching_in, listening_in, applied, applied_all, changed, without_changes}
 use Rattle.ng_fire.specs.Fires.{former_value, listener_locals, listener_run, run_with, fire_run, fired_by, fired as fires, listener_at, value_at}
-use Rattle.ng_fire.specs.Runs.{asked_first, followed, task_run, ran_of, ran, without_task}
+use Rattle.ng_fire.specs.Runs.{asked_first, followed, task_run, ran_of, ran, without_task, program_run, back}
 use Rattle.ng_fire.specs.Settling.{unset_all, without_probes, settled}
 use Rattle.ng_language.specs.Trees.{Trees}
 use Rattle.ng_link.specs.Calls.{with_core, keeping_at, ended_at, unset_at}
@@ -24,7 +24,7 @@ use Rattle.ng_store.specs.declared.json.JsonFault.{JsonFault}
 use Rattle.ng_watch.specs.Table.{kept_at}
 use Rattle.ng_write.specs.Making.{value_in}
 use Rattle.ng_page.specs.Commands as commands
-use Rattle.ng_page.specs.Commands.{program_run, destroyed, json_read, json_run, items_in, emit_run, broadcast_run, asked_run, applies, queues, probes, digests, destroys_scope, emits, broadcasts}
+use Rattle.ng_page.specs.Commands.{destroyed, json_read, json_run, items_in, emit_run, broadcast_run, asked_run, applies, queues, probes, digests, destroys_scope, emits, broadcasts}
 use Rattle.ng_page.proofs.EventsStay.{part, Stays, stays_refl, stays_trans, objects_stay, fault_stays, destroys_stay, some_first}
 use Rattle.ng_page.proofs.ProgramsStay.{bind_stay, stores_stay, statements_stay, does_stay}
 use Rattle.ng_page.proofs.Sites.{SitesStay, sites_refl, sites_trans, core_sites, keeping_sites, unset_sites, declared_sites, undeclared_sites, left_sites, ended_sites}
@@ -124,7 +124,7 @@ settled_sites ks s =
     (sites_trans t (ended_at t) (without_probes (ended_at t)) (ended_sites t) (core_sites (ended_at t) (record (ended_at t).core { probes = [] }) (stays_refl (part t.core))))
 
 -- what commands do
-back_stays : {A : Type 0} (c : act.State) (r : Run A) → Stays (part c) (part r.0) → Stays (part c) (part (commands.back c r).0)
+back_stays : {A : Type 0} (c : act.State) (r : Run A) → Stays (part c) (part r.0) → Stays (part c) (part (back c r).0)
 back_stays c r h = h
 
 pub program_stays : (scope : ℕ) (p : Trees) (c : act.State) → Stays (part c) (part (program_run scope p c).0)

@@ -1,8 +1,11 @@
 -- The sites of what is linked stay watched.
-use Rattle.std.proofs.Common.{◌≡◌, ◌≤◌, ◌<◌, ℕ, ◌+◌, true, List, [], ◌∷◌, length, Option, Some, None, refl, sym, subst, arith}
-use Rattle.std.specs.Prelude.{nat_le, nat_lt}
+use Rattle.std.proofs.Common.{◌≡◌, ℕ, suc, true, List, [], ◌∷◌, Option, Some, None, refl, sym, subst, slice_get, arith}
+use Rattle.std.specs.BTreeMap.{is_at}
+use Rattle.std.specs.List.{list_any}
+use Rattle.std.specs.Ordering.{nat_cmp}
 use Rattle.std.specs.Str.{bytes_eq}
 use Rattle.std.proofs.lemmas.Bool.Decides.{nat_tests}
+use Rattle.std.proofs.lemmas.Map.Keys.{any_passes_from_place}
 use Rattle.std.proofs.lemmas.Slice.Eq.{bytes_eq-Decides}
 use Rattle.ng_act.specs.State as act
 use Rattle.ng_base.specs.declared.path.Key.{Key}
@@ -18,20 +21,18 @@ use Rattle.ng_page.specs.Settled.{WatchesAt, AreWatched, IsLinkedIn, IsWatched}
 use Rattle.ng_page.proofs.Sites.{SitesStay}
 
 -- a key of a page's sites
-site_in : (path : List ℕ) (first count n : ℕ) → first ≤ n → n < first + count → is_in path first count (key_on path n) ≡ true
-site_in path first count n l u =
+site_in : (path serials : List ℕ) (j n : ℕ) → slice_get serials j ≡ Some n → is_in path serials (key_on path n) ≡ true
+site_in path serials j n at =
     let p : bytes_eq path path ≡ true = (bytes_eq-Decides path path).1 refl in
-    let a : nat_le first n ≡ true = grind (arith, nat_tests) in
-    let b : nat_lt n (first + count) ≡ true = grind (arith, nat_tests) in
-    rw (p, a, b) refl
+    let same : is_at (nat_cmp n) n ≡ true = grind (arith, nat_tests) in
+    let there : list_any (is_at (nat_cmp n)) serials ≡ true = any_passes_from_place (is_at (nat_cmp n)) serials j n at same in
+    rw p there
 
-all_stay : (l : Linked) (t u : Table) (o : ℕ) → ((k : Key) (v : Watching) → is_site (Some l) k ≡ true → WatchesAt k v t → WatchesAt k v u)
-    → (n : ℕ) (xs : List Site) → l.page.first ≤ n → n + length xs ≤ l.page.first + l.page.count → AreWatched t o l.page.path n xs → AreWatched u o l.page.path n xs
-all_stay l t u o each n [] a b h = tt
-all_stay l t u o each n (x ∷ xs) a b h = (
-  each (key_on l.page.path n) (watching_site o x) (site_in l.page.path l.page.first l.page.count n a (omega (arith, b))) h.0,
-  all_stay l t u o each (n + 1) xs (omega (arith, a)) (omega (arith, b)) h.1,
-)
+all_stay : (path : List ℕ) (t u : Table) (o : ℕ) (ns : List ℕ) (xs : List Site) → ((j n : ℕ) (v : Watching) → slice_get ns j ≡ Some n → WatchesAt (key_on path n) v t → WatchesAt (key_on path n) v u)
+    → AreWatched t o path ns xs → AreWatched u o path ns xs
+all_stay path t u o ns [] each h = tt
+all_stay path t u o [] (x ∷ xs) each h = h
+all_stay path t u o (n ∷ ns) (x ∷ xs) each h = (each 0 n (watching_site o x) refl h.0, all_stay path t u o ns xs (λ j m v at. each (suc j) m v at) h.1)
 
 pub linked_stays : (s t : State) (o : Option Linked) → ((k : Key) (v : Watching) → is_site o k ≡ true → WatchesAt k v s.watchers → WatchesAt k v t.watchers)
     → object_at t.core.scopes 0 ≡ object_at s.core.scopes 0 → IsLinkedIn s.core s.watchers o → IsLinkedIn t.core t.watchers o
@@ -40,8 +41,8 @@ linked_stays s t (Some l) each e h = record {
   template = h.template;
   scope = h.scope;
   count = h.count;
-  watched = subst (λ o. AreWatched t.watchers o l.page.path l.page.first l.template.sites) (sym e)
-      (all_stay l s.watchers t.watchers (object_at s.core.scopes 0) each l.page.first l.template.sites (omega arith) (subst (λ k. l.page.first + length l.template.sites ≤ l.page.first + k) (sym h.count) (omega arith)) h.watched);
+  watched = subst (λ o. AreWatched t.watchers o l.page.path l.page.serials l.template.sites) (sym e)
+      (all_stay l.page.path s.watchers t.watchers (object_at s.core.scopes 0) l.page.serials l.template.sites (λ j n v at. each (key_on l.page.path n) v (site_in l.page.path l.page.serials j n at)) h.watched);
 }
 
 pub watched_stays : (s t : State) → SitesStay s t → IsWatched s → IsWatched t

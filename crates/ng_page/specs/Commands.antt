@@ -2,9 +2,9 @@
 use Rattle.std.specs.Prelude.{ℕ, ◌||◌, not, Bool, List, [], ◌∷◌, ◌++◌, map, None, Result, Ok, Err}
 use Rattle.serde_json.specs.Data.{Data}
 use Rattle.ng_act.specs.Actions.{does, an_emit, a_broadcast, destroys}
-use Rattle.ng_act.specs.Running.{act_run, as_value_run}
+use Rattle.ng_act.specs.Running.{as_value_run}
 use Rattle.ng_act.specs.State as act
-use Rattle.ng_act.specs.State.{Run, ◌>>=◌, with_locals, with_task, with_objects}
+use Rattle.ng_act.specs.State.{Run, ◌>>=◌, with_task, with_objects}
 use Rattle.ng_base.specs.Objects.{Object}
 use Rattle.ng_base.specs.Views.{prim}
 use Rattle.ng_base.specs.declared.fault.Fault.{Fault}
@@ -13,7 +13,7 @@ use Rattle.ng_base.specs.declared.value.Value.{Value}
 use Rattle.ng_base.specs.declared.value.Value.TheVariants as value
 use Rattle.ng_behaviour.specs.Scopes.{live_at}
 use Rattle.ng_fire.specs.Changes.{changed}
-use Rattle.ng_fire.specs.Runs.{asked_first, followed}
+use Rattle.ng_fire.specs.Runs.{asked_first, followed, program_run}
 use Rattle.ng_language.specs.Objects.{items_at}
 use Rattle.ng_language.specs.Trees.{Trees}
 use Rattle.ng_link.specs.Calls.{with_core}
@@ -52,14 +52,6 @@ begun_core c = record c { entered = 0; handed = record { count = 0; first = None
 
 abbrev pub begun : link.State → link.State
 begun s = with_core (begun_core s.core) s
-
--- locals are given back as they were
-abbrev pub back : {A : Type 0} → act.State → Run A → Run A
-back c r = (with_locals c.locals r.0, r.1)
-
--- a program runs on a scope while no body and no event is open
-unfoldable pub program_run : ℕ → Trees → act.State → Run Value
-program_run scope p c = back c (act_run 64 scope [] p c)
 
 -- a scope is destroyed then
 unfoldable pub destroyed : ℕ → act.State → act.State

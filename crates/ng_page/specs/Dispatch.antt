@@ -16,13 +16,13 @@ use Rattle.ng_digest.specs.Early.{plain_answer}
 use Rattle.ng_digest.specs.declared.log.Report.{Report}
 use Rattle.ng_digest.specs.declared.rounds.DigestFault.{DigestFault}
 use Rattle.ng_dom.specs.Ancestors.{line}
-use Rattle.ng_fire.specs.Runs.{followed}
+use Rattle.ng_fire.specs.Runs.{followed, back}
 use Rattle.ng_language.specs.Trees.{Trees}
 use Rattle.ng_link.specs.Calls.{with_core, left_at}
 use Rattle.ng_link.specs.Events.{named, handlers_at, is_handling, scope_of}
 use Rattle.ng_link.specs.State.{State}
 use Rattle.ng_link.specs.Untroubled.{untroubled}
-use Rattle.ng_page.specs.Commands.{begun, back}
+use Rattle.ng_page.specs.Commands.{begun}
 use Rattle.ng_page.specs.EventObject.{event_run, is_cancelled}
 use Rattle.ng_page.specs.Steps.{Outcome, Ends, EndsShort}
 

@@ -1,5 +1,5 @@
 -- When no watcher of a page is dirty; and how the sites of what is linked are watched.
-use Rattle.std.specs.Prelude.{ℕ, ◌≡◌, ◌+◌, List, [], ◌∷◌, length, Option, Some, None, Ok}
+use Rattle.std.specs.Prelude.{ℕ, ◌≡◌, List, [], ◌∷◌, length, Option, Some, None, Ok}
 use Rattle.std.specs.List.{AllByRecursion}
 use Rattle.ng_act.specs.State as act
 use Rattle.ng_base.specs.declared.path.Key.{Key}
@@ -20,17 +20,18 @@ IsSettled s = (k : Key) (w : Watcher) → found k s.watchers ≡ Some w → verd
 abbrev pub WatchesAt : Key → Watching → Table → Type 0
 WatchesAt k v t = AllByRecursion (λ (e : Key × Watcher). e.0 ≡ k → e.1.watch ≡ v) t
 
--- the sites that have watchers are watched over an object, under keys on a path that rise from a number on
-abbrev pub AreWatched : Table → ℕ → List ℕ → ℕ → List template.Site → Type 0
-AreWatched t o path n [] = Unit {0}
-AreWatched t o path n (x ∷ xs) = WatchesAt (key_on path n) (watching_site o x) t × AreWatched t o path (n + 1) xs
+-- the sites that have watchers are watched over an object, under keys on a path, each with its number of registration
+abbrev pub AreWatched : Table → ℕ → List ℕ → List ℕ → List template.Site → Type 0
+AreWatched t o path ns [] = Unit {0}
+AreWatched t o path [] (x ∷ xs) = ⊥
+AreWatched t o path (n ∷ ns) (x ∷ xs) = WatchesAt (key_on path n) (watching_site o x) t × AreWatched t o path ns xs
 
 -- what is linked is the first template, on the root
 pub record IsLinked (c : act.State) (t : Table) (l : Linked) : Type 0 where
   pub template : l.page.template ≡ 0
   pub scope : l.page.scope ≡ 0
-  pub count : l.page.count ≡ length l.template.sites
-  pub watched : AreWatched t (object_at c.scopes 0) l.page.path l.page.first l.template.sites
+  pub count : length l.page.serials ≡ length l.template.sites
+  pub watched : AreWatched t (object_at c.scopes 0) l.page.path l.page.serials l.template.sites
 
 abbrev pub IsLinkedIn : act.State → Table → Option Linked → Type 0
 IsLinkedIn c t None = Unit {0}

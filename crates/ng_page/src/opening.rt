@@ -1,9 +1,7 @@
 //! How a page is opened, up to its first digest.
-ghost use Rattle.std.specs.Prelude.{◌≡◌, ◌<◌, length, IfOk, OnOk, Some, None, if◌then◌else◌};
+ghost use Rattle.std.specs.Prelude.{◌≡◌, ◌<◌, length, IfOk, OnOk, Some, None};
 ghost use Rattle.ng_app.specs.AppOf.{facts};
-ghost use Rattle.ng_behaviour.specs.Scopes.{path_at, live_at};
 ghost use Rattle.ng_drawing.specs.Template.{Template};
-ghost use Rattle.ng_link.specs.Calls.{left_at};
 ghost use Rattle.ng_link.specs.State.{state_of, templates_of, template_at};
 ghost use Rattle.ng_template.specs.Kept.{templates_of as kept_templates};
 ghost use Rattle.ng_template.specs.TemplateOf.{template_of};
@@ -11,11 +9,12 @@ ghost use Rattle.ng_page.specs.Opening.{prepared, linked_on, opening};
 ghost use Rattle.ng_page.specs.PlaceOf.{WorksAre, PageIs};
 ghost use Rattle.ng_page.specs.Settled.{IsWatched};
 
-use crate::running::run_program;
 use ng_app::App;
 use ng_base::fault::{Fault, Memory};
 use ng_base::name::{ScopeId, TplId};
 use ng_fire::following::follow;
+use ng_fire::linking::link;
+use ng_fire::programs::run_program;
 use ng_link::works::Works;
 use ng_template::{Templates, Tpl};
 use std::alloc::Global;
@@ -35,22 +34,8 @@ fn prepare(alloc: Global, app: App, templates: Templates) -> Result<Works, Memor
     Ok(works)
 }
 
-/// The sites of a page whose root does not live rest.
-fn rest_on_dead_root(works: &mut Works) -> Result<(), Memory>
-    requires { WorksAre works.old }
-    ensures state { OnOk result (state_of works.new ≡ (if live_at (state_of works.old).core.scopes 0 then state_of works.old else left_at (path_at (state_of works.old).core.scopes 0) (state_of works.old))) }
-    ensures works { OnOk result (WorksAre works.new) }
-{
-    let root = ScopeId(0);
-    if works.core.scopes.is_live(root) {
-        return Ok(());
-    }
-    let path = works.core.scopes.path(root).copied()?;
-    works.leave(&path)
-}
-
 /// Links a page's template on the root scope, and hands the fault over that it meets.
-fn link_page(works: &mut Works, t: TplId) -> Result<(), Memory>
+fn link_page(works: &mut Works, alloc: Global, t: TplId) -> Result<(), Memory>
     requires works { WorksAre works.old }
     requires first { t.0 ≡ 0 }
     requires bare { (state_of works.old).linked ≡ None }
@@ -58,11 +43,9 @@ fn link_page(works: &mut Works, t: TplId) -> Result<(), Memory>
     ensures works { OnOk result (WorksAre works.new) }
     ensures watched { OnOk result (IsWatched (state_of works.new)) }
 {
-    match works.link(t, ScopeId(0), None, 0) {
-        Ok(_) => {
-            let _in_order = works.watchers().count();
-            rest_on_dead_root(works)
-        }
+    let _in_order = works.watchers().count();
+    match link(works, alloc, t, ScopeId(0), None, 0) {
+        Ok(_) => Ok(()),
         Err(Fault::Memory(memory)) => Err(memory),
         Err(fault) => {
             works.hand_over(fault);
@@ -79,6 +62,6 @@ pub(crate) fn open(alloc: Global, t: Tpl, app: App) -> Result<Works, Memory>
     let mut templates = Templates::new(alloc);
     let t = templates.add(None, t)?;
     let mut works = prepare(alloc, app, templates)?;
-    link_page(&mut works, t)?;
+    link_page(&mut works, alloc, t)?;
     Ok(works)
 }

@@ -10,21 +10,21 @@ ghost use Rattle.ng_language.specs.Objects.{items_at};
 ghost use Rattle.ng_link.specs.State.{state_of};
 ghost use Rattle.ng_parse.specs.ProgramOf.{program};
 ghost use Rattle.ng_view.specs.Purity.{are_pure, all_filters_known};
-ghost use Rattle.ng_page.specs.Commands.{begun, program_run, destroyed, json_fault as json_fault_of, items_in, json_run, emit_run, broadcast_run, asked_run, applies, queues, probes, destroys_scope, emits, broadcasts};
+ghost use Rattle.ng_page.specs.Commands.{begun, destroyed, json_fault as json_fault_of, items_in, json_run, emit_run, broadcast_run, asked_run, applies, queues, probes, destroys_scope, emits, broadcasts};
 ghost use Rattle.ng_page.specs.PlaceOf.{PageIs};
 
 use ng_act::core_state::{Core, Handed};
 use ng_act::pending::Task;
-use ng_act::running::{act, broadcast, destroy, emit};
+use ng_act::running::{broadcast, destroy, emit};
 use ng_base::fault::{Fault, Memory};
 use ng_base::heap::Heap;
 use ng_base::lists::Values;
-use ng_base::locals::Locals;
 use ng_base::name::{Oid, ScopeId};
 use ng_base::txt::Txt;
 use ng_base::value::Value;
 use ng_fire::changing::apply_changes;
 use ng_fire::following::follow;
+use ng_fire::programs::run_program;
 use ng_link::works::Works;
 use ng_parse::Program;
 use ng_store::json::JsonFault;
@@ -42,26 +42,6 @@ pub(crate) fn begin(works: &mut Works)
         count: 0,
         first: None,
     };
-}
-
-/// A program runs on a scope, with no locals.
-pub(crate) fn run_program(
-    core: &mut Core,
-    alloc: Global,
-    scope: ScopeId,
-    p: &Program,
-) -> Result<Value, Fault>
-    requires sound { IsSound core.old }
-    requires idle { core.old.depth ≡ 0 }
-    requires scope { scope.0 < length core.old.scopes }
-    ensures run { Acts same result (cores.state_of core.new) (program_run scope.0 (program p.now) (cores.state_of core.old)) }
-    ensures sound { IsSound core.new }
-    ensures idle { core.new.depth ≡ 0 }
-    ensures count { length core.new.scopes ≡ length core.old.scopes }
-    ensures grown { length core.old.store ≤ length core.new.store }
-{
-    let mut locals = Locals::new(alloc);
-    act(core, alloc, scope, &mut locals, p)
 }
 
 /// A scope dies, and all below it, while no body and no event is open.

@@ -19,9 +19,10 @@ use Rattle.ng_interp.specs.declared.pieces.InterpFault.{InterpFault}
 use Rattle.ng_language.specs.OneTime.{one_time_of}
 use Rattle.ng_language.specs.Trees.{Trees}
 use Rattle.ng_markup.specs.Forest.{Attributes}
-use Rattle.ng_template.specs.Compiles.{plain_values, class_with, bare}
+use Rattle.ng_template.specs.Compiles.{class_with, bare}
 use Rattle.ng_template.specs.Directives.{Head, name_on, text_on, whole, parts_for, kind_for, set_by, class_by, bound_by, with_parts, is_classed, class_setting, attributes_of}
 use Rattle.ng_template.specs.Manners.{target_of}
+use Rattle.ng_template.specs.Plain.{plain_values}
 use Rattle.ng_template.specs.Numbering.{is_within, is_apart, is_piece_drawn, is_hiding_drawn, is_class_drawn, is_value_drawn, are_drawn}
 use Rattle.ng_template.specs.Texts.{numbered, sites_in}
 use Rattle.ng_template.specs.declared.manners.Setting.{Setting}
@@ -214,7 +215,7 @@ module _ (p : Pick) (s : Setting) (ps : List Piece) (e : parts_for s (text_on p.
   }
 
 -- no directive yet
-plain_drawn : (test : ℕ → Bool) (ats : Attributes) → are_drawn test (plain_values ats) ≡ true
+pub plain_drawn : (test : ℕ → Bool) (ats : Attributes) → are_drawn test (plain_values ats) ≡ true
 plain_drawn test [] = refl
 plain_drawn test (a ∷ ats) = plain_drawn test ats
 

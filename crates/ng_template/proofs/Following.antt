@@ -1,7 +1,7 @@
 -- Nodes in document order: their places, their sites, their numbers, and the first of them that is refused.
 use Rattle.std.proofs.Common.{◌≡◌, ◌+◌, ◌⊎◌, inl, inr, ℕ, Bool, true, false, cond, List, [], ◌∷◌, ◌++◌, length, Option, None, Some, Result, Ok, Err, refl, ap, sym, subst, ◌∙◌, append_assoc, append-nil, length-append}
 use Rattle.std.proofs.lemmas.Bool.{and_from}
-use Rattle.std.specs.Prelude.{nat_lt, is_some, option_and_then}
+use Rattle.std.specs.Prelude.{nat_lt, is_some, option_and_then, ◌||◌}
 use Rattle.std.specs.List.{flat_map, list_any}
 use Rattle.std.proofs.lemmas.Grind.{flat_map-append}
 use Rattle.ng_base.specs.Meets.{◌>>=◌}
@@ -14,18 +14,19 @@ use Rattle.ng_drawing.specs.Template.{Site, Part, Contents, Parts, part_then}
 use Rattle.ng_drawing.specs.declared.kind.SiteKind.TheVariants as kinds
 use Rattle.ng_interp.specs.Parts as interp
 use Rattle.ng_markup.specs.Forest.{Attributes, Node, Forest, element, text, comment, no_nodes, node}
-use Rattle.ng_template.specs.Compiles.{Made, first_place, other_places, with_text, text_made, bare, head_with, with_head, element_with, after_node, after_forest, contents_made, compiled_node, compiled_forest}
+use Rattle.ng_template.specs.Compiles.{Made, first_place, other_places, with_text, text_made, bare, picks_at, head_with, with_head, with_plain, element_with, after_node, after_forest, contents_made, compiled_node, compiled_forest}
 use Rattle.ng_template.specs.Directives.{Head, with_picks, attributes_of}
 use Rattle.ng_template.specs.Limits.{site_limit, worn}
-use Rattle.ng_template.specs.Manners.{are_built}
+use Rattle.ng_template.specs.Manners.{are_built, any_makes_plain}
 use Rattle.ng_template.specs.Numbering.{is_within, are_drawn, after_own, after_part, after_contents, after_parts}
-use Rattle.ng_template.specs.Order.{are_binding, is_bind, picks_refusal, first_pick_refusal, text_refusal, FirstRefusal, refused_here, refused_after, NoneRefused, text_sites, pick_sites, picked_sites, node_sites, sites_at, part_holes, content_holes, holes}
+use Rattle.ng_template.specs.Order.{are_passed_over, is_passed_over, is_bind, picks_refusal, first_pick_refusal, text_refusal, FirstRefusal, refused_here, refused_after, NoneRefused, text_sites, pick_sites, picked_sites, node_sites, sites_at, part_holes, content_holes, holes}
 use Rattle.ng_template.specs.Texts.{refused, judged, counted, sites_in}
 use Rattle.ng_template.specs.declared.fault.TplFault.{TplFault}
 use Rattle.ng_template.specs.declared.fault.TplKind.TheVariants.{Later}
 use Rattle.ng_template.proofs.Drawn.{apart_from, is_bound_within, Drawn, bare_drawn, all_drawn}
 use Rattle.ng_template.proofs.Judging.{Judged, fine, faulty, judged_is}
 use Rattle.ng_template.proofs.Numbers.{counted-append, after_own-counted, numbered-holes, after-numbered}
+use Rattle.ng_template.proofs.PlainNodes.{plain-holes, plain-after}
 use Rattle.ng_template.proofs.Picking.{Picked, Answers, picks_answer}
 use Rattle.ng_template.proofs.Walks.{node_walk, walk}
 
@@ -118,18 +119,22 @@ module _ (defs : List DirectiveDef) where
     walked_in b = cond b [] (walk defs kids others)
 
     -- with its contents
-    module _ (ps : List Pick) (e : picked_for defs None name ats ≡ Ok ps) (none : picks_refusal (Ok ps) ≡ None) (h : Head) (own : Picked (flat_map pick_sites ps) (list_any is_bind ps) (bare ats m.sites) h) where
+    module _ (ps : List Pick) (e : picked_for defs None name ats ≡ Ok ps) (read : any_makes_plain ps ≡ false) (none : picks_refusal (Ok ps) ≡ None) (h : Head) (own : Picked (flat_map pick_sites ps) (list_any is_bind ps) (bare ats m.sites) h) where
       abbrev inner : Made
       inner = record { places = others; sites = h.sites }
 
-      kept : walked_in (are_binding (picked_for defs None name ats)) ≡ walked_in (is_some h.bound)
-      kept = ap (λ r. walked_in (are_binding r)) e ∙ ap walked_in (sym own.bound)
+      kept : walked_in (are_passed_over (picked_for defs None name ats)) ≡ walked_in (is_some h.bound)
+      kept = ap (λ r. walked_in (are_passed_over r)) e ∙ (ap (λ b. walked_in (b || list_any is_bind ps)) read ∙ ap walked_in (sym own.bound))
 
       abbrev there : List Site
       there = sites_at defs (walked_in (is_some h.bound))
 
       all_sites : sites_at defs (node_walk defs (element name ats kids) m.places) ≡ flat_map pick_sites ps ++ there
-      all_sites = ap (λ r. picked_sites r ++ sites_at defs (walked_in (are_binding (picked_for defs None name ats)))) e ∙ ap (λ (ns : List (Node × ℕ)). flat_map pick_sites ps ++ sites_at defs ns) kept
+      all_sites =
+          let inside : List (Node × ℕ) = walked_in (are_passed_over (picked_for defs None name ats)) in
+          ap (λ r. picked_sites r ++ sites_at defs inside) e
+          ∙ (ap (λ b. cond b [] (flat_map pick_sites ps) ++ sites_at defs inside) read
+          ∙ ap (λ (ns : List (Node × ℕ)). flat_map pick_sites ps ++ sites_at defs ns) kept)
 
       size : length h.sites ≡ length m.sites + length (flat_map pick_sites ps)
       size = ap length own.sites ∙ length-append m.sites (flat_map pick_sites ps)
@@ -163,25 +168,57 @@ module _ (defs : List DirectiveDef) where
     abbrev KidsGood : Type 0
     KidsGood = (k : Made) → Good holes after_parts defs (walk defs kids k.places) (after_forest kids k.places) k (compiled_forest defs kids k)
 
-    picked_good : KidsGood → (ps : List Pick) → picked_for defs None name ats ≡ Ok ps → are_built ps ≡ true → (r : Result Head TplFault)
+    refused_as : (ps : List Pick) (b : Bool) → any_makes_plain ps ≡ b → picks_refusal (Ok ps) ≡ cond b None (cond (are_built ps) (first_pick_refusal ps) (Some Later))
+    refused_as ps b e = ap (λ c. cond c None (cond (are_built ps) (first_pick_refusal ps) (Some Later))) e
+
+    picked_good : KidsGood → (ps : List Pick) → picked_for defs None name ats ≡ Ok ps → any_makes_plain ps ≡ false → are_built ps ≡ true → (r : Result Head TplFault)
         → Answers (first_place m.places) (flat_map pick_sites ps) (list_any is_bind ps) (first_pick_refusal ps) (bare ats m.sites) r → ThisElement (finished r)
-    picked_good go ps e built (Ok h) g = element_made ps e (ap (λ b. cond b (first_pick_refusal ps) (Some Later)) built ∙ g.1) h g.0 (go (with_head h m))
-    picked_good go ps e built (Err f) (inl g) =
-        let here : picks_refusal (picked_for defs None name ats) ≡ Some f.kind = ap picks_refusal e ∙ (ap (λ b. cond b (first_pick_refusal ps) (Some Later)) built ∙ g.1) in
+    picked_good go ps e read built (Ok h) g = element_made ps e read (refused_as ps false read ∙ (ap (λ b. cond b (first_pick_refusal ps) (Some Later)) built ∙ g.1)) h g.0 (go (with_head h m))
+    picked_good go ps e read built (Err f) (inl g) =
+        let why : picks_refusal (Ok ps) ≡ Some f.kind = refused_as ps false read ∙ (ap (λ b. cond b (first_pick_refusal ps) (Some Later)) built ∙ g.1) in
+        let here : picks_refusal (picked_for defs None name ats) ≡ Some f.kind = ap picks_refusal e ∙ why in
         let at : refused f.kind (first_place m.places) ≡ f = ap (refused f.kind) (sym g.0) in
         inl (subst (λ x. FirstRefusal defs (node_walk defs (element name ats kids) m.places) x) at (refused_here here))
-    picked_good go ps e built (Err f) (inr g) = inr g
+    picked_good go ps e read built (Err f) (inr g) = inr g
 
-    built_good : KidsGood → (ps : List Pick) → picked_for defs None name ats ≡ Ok ps → (b : Bool) → are_built ps ≡ b
+    built_good : KidsGood → (ps : List Pick) → picked_for defs None name ats ≡ Ok ps → any_makes_plain ps ≡ false → (b : Bool) → are_built ps ≡ b
         → ThisElement (finished (cond b (with_picks (first_place m.places) ps (bare ats m.sites)) (Err (refused Later (first_place m.places)))))
-    built_good go ps e true built = picked_good go ps e built (with_picks (first_place m.places) ps (bare ats m.sites)) (picks_answer (first_place m.places) ps (bare ats m.sites))
-    built_good go ps e false built = inl (refused_here (ap picks_refusal e ∙ ap (λ b. cond b (first_pick_refusal ps) (Some Later)) built))
+    built_good go ps e read true built = picked_good go ps e read built (with_picks (first_place m.places) ps (bare ats m.sites)) (picks_answer (first_place m.places) ps (bare ats m.sites))
+    built_good go ps e read false built = inl (refused_here (ap picks_refusal e ∙ (refused_as ps false read ∙ ap (λ b. cond b (first_pick_refusal ps) (Some Later)) built)))
 
-    element_good : KidsGood → (r : Result (List Pick) CollectFault) → picked_for defs None name ats ≡ r → ThisElement (finished (head_with r ats m))
+    -- a plain element
+    module _ (ps : List Pick) (e : picked_for defs None name ats ≡ Ok ps) (plain : any_makes_plain ps ≡ true) where
+      inside : walked_in (are_passed_over (picked_for defs None name ats)) ≡ []
+      inside = ap (λ r. walked_in (are_passed_over r)) e ∙ ap (λ b. walked_in (b || list_any is_bind ps)) plain
+
+      no_sites : sites_at defs (node_walk defs (element name ats kids) m.places) ≡ []
+      no_sites =
+          ap (λ r. picked_sites r ++ sites_at defs (walked_in (are_passed_over (picked_for defs None name ats)))) e
+          ∙ (ap (λ b. cond b [] (flat_map pick_sites ps) ++ sites_at defs (walked_in (are_passed_over (picked_for defs None name ats)))) plain
+          ∙ ap (sites_at defs) inside)
+
+      plain_good : ThisElement (Ok (with_plain (element name ats kids) m))
+      plain_good = record {
+        left = refl;
+        sites = sym (append-nil m.sites) ∙ ap (λ (ss : List Site). m.sites ++ ss) (sym no_sites);
+        numbers = plain-holes (element name ats kids) ∙ ap (counted (length m.sites)) (sym no_sites);
+        regular = plain-after (length m.sites) (element name ats kids);
+        none = (ap picks_refusal e ∙ refused_as ps true plain, subst (NoneRefused defs) (sym inside) tt);
+      }
+
+    read_good : KidsGood → (ps : List Pick) → picked_for defs None name ats ≡ Ok ps → (b : Bool) → any_makes_plain ps ≡ b
+        → ThisElement (cond b (Ok (with_plain (element name ats kids) m)) (finished (head_with ps ats m)))
+    read_good go ps e true plain = plain_good ps e plain
+    read_good go ps e false read = built_good go ps e read (are_built ps) refl
+
+    abbrev made_with : Result (List Pick) TplFault → Result (Part × Made) TplFault
+    made_with r = r >>= λ ps. cond (any_makes_plain ps) (Ok (with_plain (element name ats kids) m)) (finished (head_with ps ats m))
+
+    element_good : KidsGood → (r : Result (List Pick) CollectFault) → picked_for defs None name ats ≡ r → ThisElement (made_with (picks_at (first_place m.places) r))
     element_good go (Err collect.MultiDir) e = inl (refused_here (ap picks_refusal e))
     element_good go (Err collect.LeftOut) e = inl (refused_here (ap picks_refusal e))
     element_good go (Err (collect.Memory k)) e = inl (refused_here (ap picks_refusal e))
-    element_good go (Ok ps) e = built_good go ps e (are_built ps) refl
+    element_good go (Ok ps) e = read_good go ps e (any_makes_plain ps) refl
 
   -- one after another
   module _ (xs ys : List (Node × ℕ)) (m : Made) where

@@ -5,6 +5,7 @@ pub mod Walks
 pub mod Judging
 pub mod Numbers
 pub mod Drawn
+pub mod PlainNodes
 pub mod Picking
 pub mod Following
 pub mod Compiled

@@ -4,7 +4,7 @@ use Rattle.ng_collect.specs.Collected.{picked_for}
 use Rattle.ng_collect.specs.declared.definition.DirectiveDef.{DirectiveDef}
 use Rattle.ng_markup.specs.Forest.{Node, Forest, element, text, comment, no_nodes, node}
 use Rattle.ng_template.specs.Compiles.{first_place, other_places, after_node, after_forest}
-use Rattle.ng_template.specs.Order.{node_order, in_order, placed, are_binding, without_replaced, nodes_compiled}
+use Rattle.ng_template.specs.Order.{node_order, in_order, placed, are_passed_over, without_replaced, nodes_compiled}
 
 -- the places that are left after as many nodes
 abbrev left : List Node → List ℕ → List ℕ
@@ -38,7 +38,7 @@ module _ (defs : List DirectiveDef) where
   abbrev mutual
     pub node_walk : Node → List ℕ → List (Node × ℕ)
     node_walk (element name ats kids) places =
-        (element name ats kids, first_place places) ∷ cond (are_binding (picked_for defs None name ats)) [] (walk kids (other_places places))
+        (element name ats kids, first_place places) ∷ cond (are_passed_over (picked_for defs None name ats)) [] (walk kids (other_places places))
     node_walk (text t) places = (text t, first_place places) ∷ []
     node_walk (comment t) places = (comment t, first_place places) ∷ []
 
@@ -63,7 +63,7 @@ module _ (defs : List DirectiveDef) where
     node_walked : (n : Node) (places : List ℕ) (rest : List (Node × ℕ)) → kept (placed (node_order n) places ++ rest) ≡ node_walk n places ++ kept rest
     node_walked (element name ats kids) places rest =
         ap (λ (zs : List (Node × ℕ)). (element name ats kids, first_place places) ∷ zs)
-        (inner kids (other_places places) rest (forest_walked kids (other_places places) rest) (are_binding (picked_for defs None name ats)))
+        (inner kids (other_places places) rest (forest_walked kids (other_places places) rest) (are_passed_over (picked_for defs None name ats)))
     node_walked (text t) places rest = refl
     node_walked (comment t) places rest = refl
 

@@ -1,5 +1,5 @@
 -- What a document compiles to, or its first refusal.
-use Rattle.std.specs.Prelude.{ℕ, ◌+◌, Bool, true, false, List, [], ◌∷◌, ◌++◌, map, length, nat_lt, Option, Some, None, Result, Ok, Err, codes, if◌then◌else◌}
+use Rattle.std.specs.Prelude.{ℕ, ◌+◌, Bool, true, false, List, [], ◌∷◌, ◌++◌, length, nat_lt, Option, Some, None, Result, Ok, Err, codes, if◌then◌else◌}
 use Rattle.std.specs.Map.{lookup}
 use Rattle.std.specs.Str.{bytes_eq}
 use Rattle.ng_base.specs.Meets.{◌>>=◌}
@@ -9,13 +9,14 @@ use Rattle.ng_collect.specs.declared.definition.DirectiveDef.{DirectiveDef}
 use Rattle.ng_collect.specs.declared.fault.CollectFault.{CollectFault}
 use Rattle.ng_collect.specs.declared.fault.CollectFault.TheVariants as collect
 use Rattle.ng_collect.specs.declared.pick.Pick.{Pick}
-use Rattle.ng_drawing.specs.Template.{Site, Template, PartClass, PartValue, PartAttributes, Part, Contents, Parts, word, always, text_part, comment_part, element_part, children, bound, no_parts, part_then}
+use Rattle.ng_drawing.specs.Template.{Site, Template, PartClass, Part, Contents, Parts, word, text_part, comment_part, element_part, children, bound, no_parts, part_then}
 use Rattle.ng_drawing.specs.declared.kind.SiteKind.TheVariants as kinds
 use Rattle.ng_interp.specs.Parts as interp
 use Rattle.ng_markup.specs.Forest.{Attributes, Node, Forest, element, text, comment, no_nodes, node}
 use Rattle.ng_template.specs.Directives.{Head, with_picks, attributes_of}
 use Rattle.ng_template.specs.Limits.{site_limit, worn}
-use Rattle.ng_template.specs.Manners.{are_built}
+use Rattle.ng_template.specs.Manners.{are_built, any_makes_plain}
+use Rattle.ng_template.specs.Plain.{plain_values, plain_part}
 use Rattle.ng_template.specs.Texts.{refused, judged, numbered, sites_in}
 use Rattle.ng_template.specs.declared.fault.TplFault.{TplFault}
 use Rattle.ng_template.specs.declared.fault.TplKind.TheVariants.{LeftOut, MultiDir, Later, Memory}
@@ -44,17 +45,15 @@ abbrev pub text_made : Made → Result (List interp.Piece) TplFault → Result (
 text_made m (Err e) = Err e
 text_made m (Ok ps) = if nat_lt site_limit (length m.sites + length (sites_in kinds.Text ps)) then Err worn else Ok (with_text m ps)
 
-abbrev pub plain_value : List ℕ × List ℕ → List ℕ × PartValue
-plain_value a = (a.0, always (word a.1 ∷ []))
-
--- values that are plain words
-abbrev pub plain_values : Attributes → PartAttributes
-plain_values attributes = map plain_value attributes
-
 abbrev pub unpicked : CollectFault → ℕ → TplFault
 unpicked collect.MultiDir place = refused MultiDir place
 unpicked collect.LeftOut place = refused LeftOut place
 unpicked (collect.Memory m) place = refused (Memory m) place
+
+-- the directives of an element at a place, or why they are refused
+abbrev pub picks_at : ℕ → Result (List Pick) CollectFault → Result (List Pick) TplFault
+picks_at place (Err f) = Err (unpicked f place)
+picks_at place (Ok ps) = Ok ps
 
 -- what the class of an element is made of before its directives: the text that is written
 abbrev pub class_with : Option (List ℕ) → PartClass
@@ -76,9 +75,8 @@ bare attributes sites = record {
 }
 
 -- an element with these directives, all but its contents; a directive that is not built yet comes before what is wrong with others
-abbrev pub head_with : Result (List Pick) CollectFault → Attributes → Made → Result Head TplFault
-head_with (Err f) attributes m = Err (unpicked f (first_place m.places))
-head_with (Ok ps) attributes m = if are_built ps then with_picks (first_place m.places) ps (bare attributes m.sites) else Err (refused Later (first_place m.places))
+abbrev pub head_with : List Pick → Attributes → Made → Result Head TplFault
+head_with ps attributes m = if are_built ps then with_picks (first_place m.places) ps (bare attributes m.sites) else Err (refused Later (first_place m.places))
 
 -- its sites come before those of its children
 abbrev pub with_head : Head → Made → Made
@@ -98,6 +96,10 @@ abbrev mutual
   after_forest no_nodes places = places
   after_forest (node n f) places = after_forest f (after_node n places)
 
+-- a node of which nothing is read
+abbrev pub with_plain : Node → Made → Part × Made
+with_plain n m = (plain_part n, record m { places = after_node n m.places })
+
 -- children in whose place a text stands are not compiled
 abbrev pub passed_over : Forest → Made → Made
 passed_over kids m = record m { places = after_forest kids m.places }
@@ -107,11 +109,13 @@ abbrev pub contents_made : Option ℕ → Forest → Made → Result (Parts × M
 contents_made None kids m r = r >>= λ s. Ok (children s.0, s.1)
 contents_made (Some n) kids m r = Ok (bound n, passed_over kids m)
 
--- the part of a node, or the refusal at its place, in document order
+-- the part of a node, or the refusal at its place, in document order; a plain element is refused for nothing but what `picked_for` says
 abbrev mutual
   pub compiled_node : List DirectiveDef → Node → Made → Result (Part × Made) TplFault
   compiled_node defs (element name attributes kids) m =
-      head_with (picked_for defs None name attributes) attributes m >>= λ h. contents_made h.bound kids (with_head h m) (compiled_forest defs kids (with_head h m)) >>= λ r. Ok (element_with name h r.0, r.1)
+      picks_at (first_place m.places) (picked_for defs None name attributes) >>= λ ps.
+      if any_makes_plain ps then Ok (with_plain (element name attributes kids) m)
+      else head_with ps attributes m >>= λ h. contents_made h.bound kids (with_head h m) (compiled_forest defs kids (with_head h m)) >>= λ r. Ok (element_with name h r.0, r.1)
   compiled_node defs (text t) m = text_made m (judged (first_place m.places) (interp.pieces_in t))
   compiled_node defs (comment t) m = Ok (comment_part t, past m)
 

@@ -9,6 +9,7 @@ pub mod Manners
 pub mod Programs
 pub mod Directives
 pub mod Shared
+pub mod Plain
 pub mod Compiles
 pub mod Numbering
 pub mod TemplateOf

@@ -1,7 +1,7 @@
 -- What each directive does with its text, and which attribute it sets beside its own (API: ngHref, ngSrc, ngChecked, ngDisabled, ngOpen,
--- ngReadonly, ngSelected, ngBind, ngClass, ngShow, ngHide, ngInit, ngClick).
-use Rattle.std.specs.Prelude.{ℕ, Bool, List, [], Option, None, Some, is_some, codes}
-use Rattle.std.specs.List.{list_all}
+-- ngReadonly, ngSelected, ngBind, ngClass, ngShow, ngHide, ngInit, ngClick, ngNonBindable).
+use Rattle.std.specs.Prelude.{ℕ, Bool, true, false, List, [], Option, None, Some, is_some, codes}
+use Rattle.std.specs.List.{list_all, list_any}
 use Rattle.ng_collect.specs.declared.pick.Directive.{Directive}
 use Rattle.ng_collect.specs.declared.pick.Directive.TheVariants.{Core, Interpolated, User}
 use Rattle.ng_collect.specs.declared.pick.Pick.{Pick}
@@ -15,7 +15,7 @@ use Rattle.ng_template.specs.declared.manners.Setting.TheVariants.{Interpolates,
 
 -- what a directive of the core does with its text; some are not built yet
 abbrev pub core_manner : CoreDirective → Option Manner
-core_manner dirs.Init = None
+core_manner dirs.Init = Some manners.Starts
 core_manner dirs.Checked = Some (manners.Sets Switches)
 core_manner dirs.Disabled = Some (manners.Sets Switches)
 core_manner dirs.Open = Some (manners.Sets Switches)
@@ -40,6 +40,19 @@ is_built p = is_some (manner_of p.directive)
 
 abbrev pub are_built : List Pick → Bool
 are_built ps = list_all is_built ps
+
+-- whether a directive makes its element plain (API: ngNonBindable)
+abbrev pub core_makes_plain : CoreDirective → Bool
+core_makes_plain dirs.NonBindable = true
+core_makes_plain _ = false
+
+abbrev pub makes_plain : Directive → Bool
+makes_plain (Core d) = core_makes_plain d
+makes_plain Interpolated = false
+makes_plain (User n) = false
+
+abbrev pub any_makes_plain : List Pick → Bool
+any_makes_plain ps = list_any (λ (p : Pick). makes_plain p.directive) ps
 
 -- the attribute that a directive sets beside its own
 abbrev pub core_target : CoreDirective → List ℕ

@@ -1,5 +1,5 @@
 -- Document order, in the words of documents: what a node is refused for by itself, and which holes and sites it has.
-use Rattle.std.specs.Prelude.{◌≡◌, ℕ, zero, suc, Bool, true, false, List, [], ◌∷◌, ◌++◌, length, Option, None, Some, Result, Ok, Err, if◌then◌else◌}
+use Rattle.std.specs.Prelude.{◌≡◌, ℕ, zero, suc, Bool, true, false, ◌||◌, List, [], ◌∷◌, ◌++◌, length, Option, None, Some, Result, Ok, Err, if◌then◌else◌}
 use Rattle.std.specs.List.{flat_map, list_any}
 use Rattle.ng_collect.specs.Collected.{picked_for}
 use Rattle.ng_collect.specs.declared.definition.DirectiveDef.{DirectiveDef}
@@ -15,7 +15,7 @@ use Rattle.ng_drawing.specs.declared.kind.SiteKind.{SiteKind}
 use Rattle.ng_drawing.specs.declared.kind.SiteKind.TheVariants as kinds
 use Rattle.ng_tags.specs.declared.attrs.Attr.{Attr}
 use Rattle.ng_template.specs.Directives.{text_on, parts_for, kind_for}
-use Rattle.ng_template.specs.Manners.{manner_of, are_built}
+use Rattle.ng_template.specs.Manners.{manner_of, are_built, any_makes_plain}
 use Rattle.ng_template.specs.Programs.{program_in, program_refusal}
 use Rattle.ng_template.specs.Texts.{refused, wrong, sites_in}
 use Rattle.ng_template.specs.declared.manners.Manner.{Manner}
@@ -49,17 +49,21 @@ is_binding _ = false
 abbrev pub is_bind : Pick → Bool
 is_bind p = is_binding (manner_of p.directive)
 
-abbrev pub are_binding : Result (List Pick) CollectFault → Bool
-are_binding (Ok ps) = list_any is_bind ps
-are_binding (Err f) = false
+-- whether the nodes in an element with these directives are not compiled: it is plain, or a text stands in their place
+abbrev pub is_passed_over : List Pick → Bool
+is_passed_over ps = any_makes_plain ps || list_any is_bind ps
+
+abbrev pub are_passed_over : Result (List Pick) CollectFault → Bool
+are_passed_over (Ok ps) = is_passed_over ps
+are_passed_over (Err f) = false
 
 -- how many nodes after a node are in it and not compiled
 abbrev pub left_out_in : List DirectiveDef → Node → ℕ
-left_out_in defs (element name attributes kids) = if are_binding (picked_for defs None name attributes) then length (in_order kids) else 0
+left_out_in defs (element name attributes kids) = if are_passed_over (picked_for defs None name attributes) then length (in_order kids) else 0
 left_out_in defs (text t) = 0
 left_out_in defs (comment t) = 0
 
--- the first k nodes are left out, and after an element that has `ng-bind` those in it
+-- the first k nodes are left out, and after an element that has `ng-bind` or is plain those in it
 abbrev pub without_replaced : List DirectiveDef → ℕ → List (Node × ℕ) → List (Node × ℕ)
 without_replaced defs k [] = []
 without_replaced defs zero (n ∷ ns) = n ∷ without_replaced defs (left_out_in defs n.0) ns
@@ -94,12 +98,12 @@ first_pick_refusal [] = None
 first_pick_refusal (p ∷ ps) = first_of (pick_refusal p) (first_pick_refusal ps)
 
 -- why an element with these directives is refused: what is left out, what cannot stand together, one that is not built yet, or what
--- is wrong with the first of them
+-- is wrong with the first of them; a plain element is not
 abbrev pub picks_refusal : Result (List Pick) CollectFault → Option TplKind
 picks_refusal (Err collect.MultiDir) = Some MultiDir
 picks_refusal (Err collect.LeftOut) = Some LeftOut
 picks_refusal (Err (collect.Memory m)) = Some (Memory m)
-picks_refusal (Ok ps) = if are_built ps then first_pick_refusal ps else Some Later
+picks_refusal (Ok ps) = if any_makes_plain ps then None else if are_built ps then first_pick_refusal ps else Some Later
 
 -- why a node is refused by itself, whatever stands around it
 abbrev pub refusal : List DirectiveDef → Node → Option TplKind
@@ -122,7 +126,7 @@ abbrev pub text_sites : SiteKind → Result (List interp.Piece) InterpFault → 
 text_sites kind (Err f) = []
 text_sites kind (Ok ps) = sites_in kind ps
 
--- the sites of a directive, and of an element: those of its directives in their order
+-- the sites of a directive, and of an element: those of its directives in their order, and none of a plain one
 abbrev pub manner_sites : Option Manner → Option Attr → List Site
 manner_sites None a = []
 manner_sites (Some (Sets s)) a = text_sites (kind_for s) (parts_for s (text_on a))
@@ -134,7 +138,7 @@ pick_sites p = manner_sites (manner_of p.directive) p.attribute
 
 abbrev pub picked_sites : Result (List Pick) CollectFault → List Site
 picked_sites (Err f) = []
-picked_sites (Ok ps) = flat_map pick_sites ps
+picked_sites (Ok ps) = if any_makes_plain ps then [] else flat_map pick_sites ps
 
 -- the sites of a node by itself
 abbrev pub node_sites : List DirectiveDef → Node → List Site

@@ -11,10 +11,12 @@ ghost use Rattle.ng_template.specs.Seen.{part_of, contents_of, parts_of};
 ghost use Rattle.ng_template.specs.TemplateOf.{template_of, made_of};
 ghost use Rattle.ng_template.specs.Texts.{judged};
 
-use crate::elements::{Element, element_of};
+use crate::elements::{Element, element_of, picks_at};
 use crate::fault::TplFault;
 use crate::known::Known;
+use crate::manners::any_makes_plain;
 use crate::parts::{Contents, Part, Parts, bound as bound_to, children, comment, element, text};
+use crate::plain::plain_part;
 use crate::settings::with_class;
 use crate::texts::{SITE_LIMIT, count_holes, first_of, place_parts, read_text, worn};
 use crate::tpl::{Making, Tpl};
@@ -85,6 +87,16 @@ fn after_forest<'a>(forest: &Forest, places: &'a [u64]) -> &'a [u64]
     left
 }
 
+/// What is being made, after the places of a node and of all nodes in it.
+fn past_all<'a>(node: &Node, made: Making<'a>) -> Making<'a>
+    ensures { made_of result ≡ record { places = after_node_of (node_of node.now) (made_of made.entry).places; sites = (made_of made.entry).sites } }
+{
+    Making {
+        places: after_node(node, made.places),
+        sites: made.sites,
+    }
+}
+
 /// The part of a node.
 #[cycle(build)]
 fn part_at<'a>(
@@ -100,6 +112,10 @@ fn part_at<'a>(
         Node::Text(whole) => text_at(alloc, known, whole, made),
         Node::Comment(whole) => Ok((comment(whole.copied()?), past(made))),
         Node::Element { name, attrs, kids } => {
+            let picked = picks_at(alloc, node, r, made.places)?;
+            if any_makes_plain(picked.as_slice()) {
+                return Ok((plain_part(alloc, node)?, past_all(node, made)));
+            }
             let name = name.copied()?;
             let Making { places, sites } = made;
             let Element {
@@ -109,7 +125,7 @@ fn part_at<'a>(
                 own,
                 acts,
                 sites,
-            } = element_of(alloc, known, node, attrs, r, places, sites)?;
+            } = element_of(alloc, known, picked.as_slice(), attrs, places, sites)?;
             let attributes = with_class(alloc, attributes, class)?;
             let (_, others) = first_of(places);
             let inner = Making {
@@ -173,7 +189,8 @@ fn parts_at<'a>(
 /// Compiles a document (guide: HTML Compiler). The first refusal in document order stands, at the `<` of its element or at the first
 /// byte of its text: in an element LeftOut, MultiDir, Later where a directive is not built yet, and then directive by directive, in
 /// their order, Expression, UnknownFilter and, unless it is a program that runs, Impure; in a text Expression of all its holes,
-/// UnknownFilter of all, then Impure of all. The children in whose place a bound text stands are neither compiled nor refused.
+/// UnknownFilter of all, then Impure of all. The children in whose place a bound text stands are neither compiled nor refused. Of a plain
+/// element and of what is in it nothing is read.
 pub fn compile(alloc: Global, s: &Source, r: &Registry, slots: bool) -> Result<Tpl, TplFault>
     ensures template { Gives is_tpl_want template_of (compiled (source_of s.now) r.now slots) result }
     ensures regular { IfOk result (λ t. is_regular (template_of t) ≡ true) }

@@ -13,7 +13,7 @@
 //!
 //! In reading order: `fault` has the refusals; `pieces`, `classes`, `acts`, `parts`, `site` and `tpl` are what a template is; `known`
 //! and `texts` read texts; `manners` lists what each directive does, `directives` reads its text and `settings` sets what it sets;
-//! `elements` asks for the directives of an element, `compiling` walks the document; `templates`; `laws`.
+//! `elements` asks for the directives of an element, `plain` copies one that is plain, `compiling` walks the document; `templates`; `laws`.
 //!
 //! Not here: which directives an element has (`ng_collect`), how a text is cut and a hole is read (`ng_interp`), and what
 //! a template shows (`ng_drawing`).
@@ -30,6 +30,7 @@ pub mod laws;
 pub mod manners;
 pub mod parts;
 pub mod pieces;
+mod plain;
 mod settings;
 pub mod site;
 pub mod templates;

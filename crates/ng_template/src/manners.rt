@@ -1,8 +1,8 @@
 //! What each directive does with its text, and which attribute it sets beside its own (API: ngHref, ngSrc, ngChecked, ngDisabled,
-//! ngOpen, ngReadonly, ngSelected, ngBind, ngClass, ngShow, ngHide, ngInit, ngClick; guide: Interpolation, "How text and attribute
+//! ngOpen, ngReadonly, ngSelected, ngBind, ngClass, ngShow, ngHide, ngInit, ngClick, ngNonBindable; guide: Interpolation, "How text and attribute
 //! bindings work").
 ghost use Rattle.std.specs.Prelude.{◌≡◌, IfOk};
-ghost use Rattle.ng_template.specs.Manners.{core_manner as core_manner_of, manner_of, are_built as are_built_all, core_target as core_target_of, target_of, event_name as event_name_of};
+ghost use Rattle.ng_template.specs.Manners.{core_manner as core_manner_of, manner_of, are_built as are_built_all, core_makes_plain as core_makes_plain_of, makes_plain as makes_plain_of, any_makes_plain as any_makes_plain_of, core_target as core_target_of, target_of, event_name as event_name_of};
 
 use ng_base::txt::Txt;
 use ng_collect::{CoreDirective, Directive, DomEvent, Pick};
@@ -36,7 +36,7 @@ fn core_manner(d: CoreDirective) -> Option<Manner>
     ensures { result ≡ core_manner_of d }
 {
     match d {
-        CoreDirective::Init => None,
+        CoreDirective::Init => Some(Manner::Starts),
         CoreDirective::Checked => Some(Manner::Sets(Setting::Switches)),
         CoreDirective::Disabled => Some(Manner::Sets(Setting::Switches)),
         CoreDirective::Open => Some(Manner::Sets(Setting::Switches)),
@@ -74,6 +74,39 @@ pub(crate) fn are_built(picks: &[Pick]) -> bool
         }
     }
     true
+}
+
+/// Whether one of the core's directives makes its element plain.
+fn core_makes_plain(d: CoreDirective) -> bool
+    ensures { result ≡ core_makes_plain_of d }
+{
+    match d {
+        CoreDirective::NonBindable => true,
+        _ => false,
+    }
+}
+
+/// Whether a directive makes its element plain.
+fn makes_plain(d: Directive) -> bool
+    ensures { result ≡ makes_plain_of d }
+{
+    match d {
+        Directive::Core(core) => core_makes_plain(core),
+        Directive::Interpolated => false,
+        Directive::User(_) => false,
+    }
+}
+
+/// Whether one of these directives makes its element plain.
+pub(crate) fn any_makes_plain(picks: &[Pick]) -> bool
+    ensures { result ≡ any_makes_plain_of picks.now }
+{
+    for pick in picks {
+        if makes_plain(pick.directive) {
+            return true;
+        }
+    }
+    false
 }
 
 /// The attribute that one of the core's directives sets beside its own.

@@ -10,6 +10,7 @@ abbrev pub invariant-loop-change : goal.invariant-loop-change
 invariant-loop-change l = record {
   state : applied_all (map change_of l.change-iterator.rest.items) (state_of l.works) ≡ applied_all (map change_of l.initial.change-iterator.rest.items) (state_of l.initial.works);
   whole : IsWhole l.works;
+  core : l.works.core ≡ l.initial.works.core;
   stand : AllByRecursion (ChangeStands (length l.works.core.scopes)) (map change_of l.change-iterator.rest.items);
   linked : (state_of l.works).linked ≡ (state_of l.initial.works).linked;
   templates : templates_of l.works ≡ templates_of l.initial.works;

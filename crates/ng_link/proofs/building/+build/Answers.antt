@@ -7,7 +7,7 @@ use Rattle.ng_drawing.specs.Nodes.{nodes}
 use Rattle.ng_drawing.specs.Template.{Part, Contents, parts_from}
 use Rattle.ng_template.specs.Seen.{part_of, contents_of}
 use Rattle.ng_link.specs.Building.{unset, parent_name, Builds}
-use Rattle.ng_link.specs.Shape.{keys_from, linked_values, content_shape, shape, part_holes, holes}
+use Rattle.ng_link.specs.Shape.{keys_in, linked_values, content_shape, shape, part_holes, holes}
 use Rattle.ng_link.proofs.Built.{element_whole, builds_then, names_then}
 use Rattle.ng_link.proofs.Loops.{split_at, there_still, room_for, part_within}
 use Rattle.ng_link.proofs.Shapes.{holes-push}
@@ -17,7 +17,7 @@ pub build_whole-returns-clause-builds : goal.build_whole-returns-clause-builds
 build_whole-returns-clause-builds t c =
     let d = c.args.dom.now in
     let e = c.build_element.new.dom in
-    let keys = keys_from c.args.path.now c.args.first in
+    let keys = keys_in c.args.path.now c.args.serials.now in
     let q : Contents = contents_of c.args.contents.now in
     let kids = c.in_ok-kids.ensures.builds in
     let becomes = c.fill.ensures.reads (shows unset (content_shape keys (next_name e) q)) (sym c.in_ok-kids.ensures.names) kids.reads in
@@ -44,7 +44,7 @@ build_parts-loop-part-preserved t c =
     let i = c.loop-part.part-index in
     let x = c.part-item.result in
     let q = part_of x in
-    let keys = keys_from c.args.path.now c.args.first in
+    let keys = keys_in c.args.path.now c.args.serials.now in
     let m = next_name c.args.dom.now in
     let k = next_name c.loop-part.dom in
     let ps : List Part = map part_of (take i xs) in

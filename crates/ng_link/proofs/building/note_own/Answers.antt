@@ -1,9 +1,6 @@
-use Rattle.std.proofs.Common.{◌≡◌, ◌<◌, ◌+◌, ◌++◌, ◌∷◌, [], List, ℕ, refl, ap, sym, ◌∙◌, arith, map, drop, length, append_assoc, add-one, drop-cons}
+use Rattle.std.proofs.Common.{◌+◌, ◌++◌, ◌∷◌, [], List, ℕ, ap, sym, ◌∙◌, arith, map, drop, append_assoc}
+use Rattle.ng_link.proofs.Loops.{next_same}
 use Rattle.ng_link.proofs.building.note_own.Goals as goal
-
--- one more of the same
-next_same : (n : ℕ) (xs : List ℕ) (i : ℕ) → i < length xs → map (λ (_ : ℕ). n) (drop i xs) ≡ n ∷ map (λ (_ : ℕ). n) (drop (i + 1) xs)
-next_same n xs i lt = rw (add-one, drop-cons xs i 0) refl
 
 pub loop-preserved : goal.loop-preserved
 loop-preserved c =

@@ -1,9 +1,10 @@
 use Rattle.ng_act.specs.Frames as cores
 use Rattle.ng_parse.specs.ProgramOf.{program}
-use Rattle.ng_page.specs.Commands.{applies, program_run}
+use Rattle.ng_page.specs.Commands.{applies}
 use Rattle.ng_page.proofs.Ran.{whole_ran, page_asked}
 use Rattle.ng_page.proofs.StepsStay.{program_stays}
 use Rattle.ng_page.proofs.running.apply.Goals as goal
+use Rattle.ng_fire.specs.Runs.{program_run}
 
 pub follow-requires : goal.follow-requires
 follow-requires c =

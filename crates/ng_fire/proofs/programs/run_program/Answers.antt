@@ -4,8 +4,8 @@ use Rattle.ng_act.specs.Frames.{Acts}
 use Rattle.ng_act.specs.Running.{act_run, same}
 use Rattle.ng_act.specs.State.{with_locals}
 use Rattle.ng_parse.specs.ProgramOf.{program}
-use Rattle.ng_page.proofs.Programs.{program_acts}
-use Rattle.ng_page.proofs.running.run_program.Goals as goal
+use Rattle.ng_fire.proofs.ProgramRuns.{program_acts}
+use Rattle.ng_fire.proofs.programs.run_program.Goals as goal
 
 pub returns-clause-run : goal.returns-clause-run
 returns-clause-run c =

@@ -1,0 +1,48 @@
+-- Plain nodes: they have no hole and no number, and those of a list are made one after another.
+use Rattle.std.proofs.Common.{◌≡◌, ◌<◌, ◌≤◌, ℕ, ◌+◌, cond, List, [], ◌++◌, map, drop, get_or, length, None, Some, refl, ap, sym, ◌∙◌}
+use Rattle.std.proofs.lemmas.List.{at_drop_more, drop_all}
+use Rattle.std.specs.Prelude.{option_and_then}
+use Rattle.ng_html.specs.Seen.{node_of}
+use Rattle.ng_html.specs.declared.forest.Node as code_node
+use Rattle.ng_markup.specs.Forest.{Node, Forest, element, text, comment, no_nodes, node, forest_from}
+use Rattle.ng_drawing.specs.Template.{Part, Parts, part_then, with_part}
+use Rattle.ng_template.specs.Numbering.{is_within, after_part, after_parts}
+use Rattle.ng_template.specs.Order.{part_holes, holes}
+use Rattle.ng_template.specs.Plain.{plain_part, plain_parts}
+use Rattle.ng_template.proofs.Drawn.{plain_drawn}
+use Rattle.ng_template.proofs.NodeLists.{joined, joined-none, joined-one}
+
+mutual
+  pub plain-holes : (n : Node) → part_holes (plain_part n) ≡ []
+  plain-holes (element name ats kids) = plain-all-holes kids
+  plain-holes (text t) = refl
+  plain-holes (comment t) = refl
+
+  plain-all-holes : (f : Forest) → holes (plain_parts f) ≡ []
+  plain-all-holes no_nodes = refl
+  plain-all-holes (node n f) = ap (λ (ks : List ℕ). ks ++ holes (plain_parts f)) (plain-holes n) ∙ plain-all-holes f
+
+mutual
+  pub plain-after : (k : ℕ) (n : Node) → after_part k (plain_part n) ≡ Some k
+  plain-after k (element name ats kids) = ap (λ b. cond b (after_parts k (plain_parts kids)) None) (plain_drawn (is_within k k) ats) ∙ plain-all-after k kids
+  plain-after k (text t) = refl
+  plain-after k (comment t) = refl
+
+  plain-all-after : (k : ℕ) (f : Forest) → after_parts k (plain_parts f) ≡ Some k
+  plain-all-after k no_nodes = refl
+  plain-all-after k (node n f) = ap (option_and_then (λ j. after_parts j (plain_parts f))) (plain-after k n) ∙ plain-all-after k f
+
+abbrev pub plain_list : List Node → Parts
+plain_list ns = plain_parts (forest_from ns)
+
+-- a node more
+pub plain-turn : (xs : List code_node.Node) (i : ℕ) (x : code_node.Node) (ps : Parts) (p : Part) → i < length xs → x ≡ get_or xs i x → p ≡ plain_part (node_of x)
+    → joined (with_part ps p) (plain_list (map node_of (drop (i + 1) xs))) ≡ joined ps (plain_list (map node_of (drop i xs)))
+plain-turn xs i x ps p l is made =
+    let there : Parts = plain_list (map node_of (drop (i + 1) xs)) in
+    joined-one ps p there
+    ∙ (ap (λ q. joined ps (part_then q there)) (made ∙ ap (λ y. plain_part (node_of y)) is)
+    ∙ sym (at_drop_more (λ zs. joined ps (plain_list (map node_of zs))) xs i x l))
+
+pub plain-end : (xs : List code_node.Node) (i : ℕ) (ps : Parts) → length xs ≤ i → joined ps (plain_list (map node_of (drop i xs))) ≡ ps
+plain-end xs i ps l = ap (λ zs. joined ps (plain_list (map node_of zs))) (drop_all i xs l) ∙ joined-none ps
