@@ -555,6 +555,13 @@ impl Dom {
         Ok(line_up(&self.nodes, self.alloc, self.next, n.made.0)?)
     }
 
+    /// How many nodes are live.
+    pub fn count(&self) -> usize
+        ensures { result ≡ live_count self.now }
+    {
+        self.nodes.len()
+    }
+
     /// The name that the next node gets.
     pub fn next_name(&self) -> u64
         ensures { result ≡ next_name self.now }

@@ -43,6 +43,9 @@ impl Forest {
         ensures ok { OnOk result (forest_of self.new ≡ with_node (forest_of self.old) (node_of n)) }
         ensures err { OnErr result (forest_of self.new ≡ forest_of self.old) }
     {
+        if self.items.is_empty() {
+            self.items.reserve_exact(1)?;
+        }
         self.items.push(n)?;
         Ok(())
     }

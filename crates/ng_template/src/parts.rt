@@ -55,6 +55,9 @@ impl Parts {
         ensures ok { OnOk result (parts_of self.new ≡ with_part (parts_of self.old) (part_of part)) }
         ensures err { OnErr result (parts_of self.new ≡ parts_of self.old) }
     {
+        if self.items.is_empty() {
+            self.items.reserve_exact(1)?;
+        }
         self.items.push(part)?;
         Ok(())
     }
