@@ -1,6 +1,6 @@
 //! A clean digest behind one in which each watcher fired.
-use ng_digest::board::{Act, Board, Body, Watch};
-use ng_digest::sheet::Sheet;
+use ng_sheets::board::{Act, Board, Body, Watch};
+use ng_sheets::sheet::Sheet;
 use std::alloc::Global;
 
 /// A body that does nothing.

@@ -7,6 +7,5 @@ pub mod Why
 pub mod Carried
 pub mod Stop
 pub mod Fresh
-pub mod BoardKeys
 pub mod Few
 pub mod One

@@ -8,6 +8,3 @@ pub mod Ends
 pub mod Causes
 pub mod Plain
 pub mod Early
-pub mod Board
-pub mod Sheet
-pub mod BoardLaws

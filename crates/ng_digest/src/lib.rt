@@ -12,16 +12,12 @@
 //! the world ends where the plain digest ends, which walks every round to its end, with the same answer, rounds and
 //! fires. So a page speaks of the plain digest alone.
 //!
-//! `sheet` is a world in memory: numbers, and watchers over them whose bodies are small lists of acts. It serves as
-//! the plain program that other worlds are compared with.
+//! Worlds that are made for tests stand in `ng_sheets`, and the world of a page in `ng_page`.
 //!
 //! It is not for the order of watchers, for snapshots, or for what a listener does: these are the world's.
 #![tactic(auto)]
 
-pub mod board;
 pub mod log;
 pub mod progress;
 pub mod rounds;
-pub mod sheet;
-pub mod watches;
 pub mod world;

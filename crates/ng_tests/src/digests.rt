@@ -1,8 +1,8 @@
 //! Rounds, fires and tests of a digest over a sheet of numbers, and each of its limits and faults.
 use ng_base::fault::Fault;
-use ng_digest::board::{Act, Board, Body, Watch};
 use ng_digest::rounds::DigestFault;
-use ng_digest::sheet::Sheet;
+use ng_sheets::board::{Act, Board, Body, Watch};
+use ng_sheets::sheet::Sheet;
 use std::test::Fail;
 
 const QUIET: Body = Body {

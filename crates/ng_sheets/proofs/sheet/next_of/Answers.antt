@@ -1,9 +1,9 @@
 use Rattle.std.proofs.Common.{◌∙◌, sym, ap}
-use Rattle.ng_digest.specs.Board.{view}
+use Rattle.ng_sheets.specs.Board.{view}
 use Rattle.ng_digest.specs.Machine.{next_key}
-use Rattle.ng_digest.specs.Sheet.{board_machine}
-use Rattle.ng_digest.proofs.BoardKeys.{sorted_live, next_from_first, next_from_key}
-use Rattle.ng_digest.proofs.sheet.next_of.Goals as goal
+use Rattle.ng_sheets.specs.Sheet.{board_machine}
+use Rattle.ng_sheets.proofs.BoardKeys.{sorted_live, next_from_first, next_from_key}
+use Rattle.ng_sheets.proofs.sheet.next_of.Goals as goal
 
 pub returns-in-None : goal.returns-in-None
 returns-in-None c = record {

@@ -1,25 +1,25 @@
 //! A world in memory: a board, and where a digest over it stands.
-ghost use Rattle.std.specs.Prelude.{◌≡◌, Option, None};
+ghost use Rattle.std.specs.Prelude.{◌≡◌, IfOk, Option};
 ghost use Rattle.std.specs.Ordering.{nat_cmp};
 ghost use Rattle.std.specs.List.Sorted.{IsStrictlySortedBy};
-ghost use Rattle.ng_digest.specs.declared.world.Stage.TheVariants.{Between};
-ghost use Rattle.ng_digest.specs.Log.{zero_log};
-ghost use Rattle.ng_digest.specs.Machine.{Verdict, verdict_at, next_key};
-ghost use Rattle.ng_digest.specs.Place.{Answers, OnTested, Moves, Place, state_tested, stage_tested};
-ghost use Rattle.ng_digest.specs.Board.{State, view, live_from};
-ghost use Rattle.ng_digest.specs.Sheet.{sheet_moves, place_of, board_machine, readied};
-ghost use Rattle.ng_digest.specs.Causes.{Unless};
+ghost use Rattle.ng_digest.specs.Causes.{Unless, IsReport};
+ghost use Rattle.ng_digest.specs.Early.{plain_of, plain_answer, IsFresh, OnSettled};
+ghost use Rattle.ng_digest.specs.Machine.{verdict_at, next_key};
+ghost use Rattle.ng_digest.specs.Place.{Answers, OnTested, state_tested};
 ghost use Rattle.ng_digest.specs.Plain.{PlainDigests};
-ghost use Rattle.ng_digest.specs.Early.{plain_of, plain_answer};
-ghost use Rattle.ng_digest.specs.BoardLaws.{board_laws};
+ghost use Rattle.ng_digest.specs.Short.{Digests};
+ghost use Rattle.ng_sheets.specs.Board.{view, live_from};
+ghost use Rattle.ng_sheets.specs.BoardLaws.{board_laws};
+ghost use Rattle.ng_sheets.specs.Sheet.{sheet_moves, place_of, board_machine, readied, ready_place, starting};
 
 use crate::board::Board;
-use crate::log::{Log, Report};
-use crate::progress::Progress;
-use crate::rounds::{DigestFault, digest};
 use crate::watches;
-use crate::world::{Tested, World};
 use ng_base::fault::{Fault, Memory};
+use ng_digest::log::{Log, Report};
+use ng_digest::progress::Progress;
+use ng_digest::rounds::{DigestFault, digest};
+use ng_digest::world::{Tested, World};
+
 /// A board, and where a digest over it stands.
 #[derive(Debug, Drop)]
 pub struct Sheet {
@@ -52,7 +52,7 @@ fn test_at(board: &mut Board, cursor: Option<usize>) -> Tested
 impl Sheet {
     /// A sheet over a board, ready for a digest.
     pub fn new(board: Board) -> Sheet
-        ensures { place_of result ≡ record { state = view board; cursor = None; remembered = None; log = zero_log; stage = Between } }
+        ensures { place_of result ≡ starting (view board) }
     {
         Sheet {
             board,
@@ -62,7 +62,7 @@ impl Sheet {
 
     /// Makes it ready for a digest, in which nothing was counted, remembered or handed over yet.
     pub fn ready(&mut self)
-        ensures { place_of self.new ≡ record { state = readied (view self.old.board); cursor = None; remembered = None; log = zero_log; stage = Between } }
+        ensures { place_of self.new ≡ ready_place (view self.old.board) }
     {
         self.board.told.clear();
         self.board.failed.clear();
@@ -72,7 +72,10 @@ impl Sheet {
 
     /// A digest over it.
     pub fn run(&mut self) -> Result<Report, DigestFault>
-        ensures { Unless result (PlainDigests board_machine (readied (view self.old.board)) (plain_answer result) (plain_of (place_of self.new))) }
+        ensures short { Digests board_machine (ready_place (view self.old.board)) result (place_of self.new) }
+        ensures plain { Unless result (PlainDigests board_machine (readied (view self.old.board)) (plain_answer result) (plain_of (place_of self.new))) }
+        ensures fresh { OnSettled result (λ tests. IsFresh board_machine tests (view self.new.board)) }
+        ensures report { IfOk result (λ report. IsReport report (place_of self.new).log) }
     {
         self.ready();
         digest(self)

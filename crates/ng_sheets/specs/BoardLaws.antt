@@ -6,8 +6,8 @@ use Rattle.std.proofs.lemmas.Cmp.{nat_cmp_total}
 use Rattle.ng_base.specs.declared.fault.Fault.TheVariants.{Range}
 use Rattle.ng_digest.specs.Machine.{Verdict, found_clean, found_dirty, found_faulted}
 use Rattle.ng_digest.specs.Laws.{HasLaws}
-use Rattle.ng_digest.specs.Board.{State, verdict, tested, is_told, is_quiet, hand_over}
-use Rattle.ng_digest.specs.Sheet.{board_machine}
+use Rattle.ng_sheets.specs.Board.{State, verdict, tested, is_told, is_quiet, hand_over}
+use Rattle.ng_sheets.specs.Sheet.{board_machine}
 
 -- the state after a fault that is handed over
 abbrev pub telling : State → ℕ → State

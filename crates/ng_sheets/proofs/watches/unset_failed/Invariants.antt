@@ -1,6 +1,6 @@
 use Rattle.std.proofs.Common.{◌≡◌, drop}
-use Rattle.ng_digest.specs.Board.{view, unset_each}
-use Rattle.ng_digest.proofs.watches.unset_failed.Given as goal
+use Rattle.ng_sheets.specs.Board.{view, unset_each}
+use Rattle.ng_sheets.proofs.watches.unset_failed.Given as goal
 
 abbrev pub invariant-loop-i : goal.invariant-loop-i
 invariant-loop-i l = record {

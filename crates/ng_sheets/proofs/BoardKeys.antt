@@ -5,10 +5,10 @@ use Rattle.std.specs.Cmp.{nat_cmp_is}
 use Rattle.std.specs.declared.cmp.Ordering.TheVariants.{Less}
 use Rattle.std.specs.List.{AllByRecursion}
 use Rattle.std.specs.List.Sorted.{IsStrictlySortedBy}
-use Rattle.ng_digest.specs.declared.board.Watch.{Watch}
+use Rattle.ng_sheets.specs.declared.board.Watch.{Watch}
 use Rattle.ng_digest.specs.Machine.{above}
-use Rattle.ng_digest.specs.Board.{first_live, live_from}
-use Rattle.ng_digest.specs.Sheet.{board_machine}
+use Rattle.ng_sheets.specs.Board.{first_live, live_from}
+use Rattle.ng_sheets.specs.Sheet.{board_machine}
 
 less : (a b : ℕ) → a < b → nat_cmp a b ≡ Less
 less a b h = sym (nat_cmp_is a b Less h)

@@ -1,11 +1,11 @@
 -- A board as a world.
 use Rattle.std.specs.Prelude.{ℕ, None, []}
 use Rattle.std.specs.Ordering.{nat_cmp}
-use Rattle.ng_digest.specs.declared.sheet.Sheet.{Sheet}
+use Rattle.ng_sheets.specs.declared.sheet.Sheet.{Sheet}
 use Rattle.ng_digest.specs.Machine.{Machine}
 use Rattle.ng_digest.specs.Place.{Place, Moves}
-use Rattle.ng_digest.specs.Progress.{place}
-use Rattle.ng_digest.specs.Board.{State, view, verdict, tested, fired, waits, ran, unset, live_from}
+use Rattle.ng_digest.specs.Progress.{place, at_start}
+use Rattle.ng_sheets.specs.Board.{State, view, verdict, tested, fired, waits, ran, unset, live_from}
 
 abbrev pub board_machine : Machine State ℕ
 board_machine = record {
@@ -31,3 +31,10 @@ sheet_moves = record { State = State; Key = ℕ; machine = board_machine; at = p
 -- a state before a digest: nothing was handed over
 abbrev pub readied : State → State
 readied s = record s { told = []; failed = []; handed = None }
+
+-- where a digest begins: nothing was counted or remembered yet
+abbrev pub starting : State → Place State ℕ
+starting s = place s at_start
+
+abbrev pub ready_place : State → Place State ℕ
+ready_place s = starting (readied s)

@@ -3,11 +3,11 @@ use Rattle.std.specs.Prelude.{ℕ, suc, ◌+◌, Bool, true, false, nat_lt, nat_
 use Rattle.std.specs.List.{list_any}
 use Rattle.ng_base.specs.declared.fault.Fault.{Fault}
 use Rattle.ng_base.specs.declared.fault.Fault.TheVariants.{Range}
-use Rattle.ng_digest.specs.declared.board.Act.{Act}
-use Rattle.ng_digest.specs.declared.board.Act.TheVariants as acts
-use Rattle.ng_digest.specs.declared.board.Body.{Body}
-use Rattle.ng_digest.specs.declared.board.Watch.{Watch}
-use Rattle.ng_digest.specs.declared.board.Board.{Board}
+use Rattle.ng_sheets.specs.declared.board.Act.{Act}
+use Rattle.ng_sheets.specs.declared.board.Act.TheVariants as acts
+use Rattle.ng_sheets.specs.declared.board.Body.{Body}
+use Rattle.ng_sheets.specs.declared.board.Watch.{Watch}
+use Rattle.ng_sheets.specs.declared.board.Board.{Board}
 use Rattle.ng_digest.specs.Log.{more32}
 use Rattle.ng_digest.specs.Machine.{Verdict, found_clean, found_dirty, found_faulted}
 
