@@ -41,9 +41,15 @@ fn a_sure_shelf_has_the_empty_file_under_other_names(rt: HostRuntime) {
 #[test]
 fn sinks_take_whole_pieces(rt: HostRuntime) {
     let alloc = rt.alloc();
-    let mut sink = StdoutSink::new(Vec::new(alloc));
-    assert!(rt; put_all(&mut sink, b"piece").is_ok());
+    let file = fs::create(&rt, "taken.txt").expect(&rt, "a file is made");
+    let mut sink = StdoutSink::new(file);
+    assert!(rt; put_all(&mut sink, b"one piece, ").is_ok());
     assert!(rt; matches!(sink.put(b""), Ok(0)));
+    assert!(rt; put_all(&mut sink, b"and another").is_ok());
+    let mut shelf = FileShelf::new(alloc, &rt);
+    let mut bytes = Vec::new(alloc);
+    assert!(rt; shelf.fetch("taken.txt", &mut bytes).is_ok());
+    assert_eq!(rt; bytes.as_slice(), "one piece, and another".as_bytes());
     let mut sure = SureSink::new();
     assert!(rt; put_all(&mut sure, b"piece").is_ok());
     assert_eq!(rt; sure.pieces(), 1);
