@@ -3,7 +3,7 @@ ghost use Rattle.std.specs.Prelude.{◌≡◌, ◌<◌, ◌^◌, length, false, 
 ghost use Rattle.ng_blocks.specs.Plans.{has_double};
 
 use ng_base::value::Value;
-use ng_blocks::{Entries, Plan, Rows, TrackKey, plan};
+use ng_blocks::{Plan, TrackKey, TrackKeys, plan};
 use std::alloc::Global;
 
 /// Which of so many numbers are the keys, and in which order.
@@ -23,8 +23,8 @@ fn key_at(order: Order, size: u64, i: u64) -> Option<u64> {
     }
 }
 
-fn entries_in(alloc: Global, order: Order, size: u64) -> Option<Entries> {
-    let mut entries = Entries::new(alloc);
+fn entries_in(alloc: Global, order: Order, size: u64) -> Option<TrackKeys> {
+    let mut entries = TrackKeys::new(alloc);
     for i in 0..size {
         if let Some(key) = key_at(order, size, i) {
             let number = i64::try_from(key).ok()?;
@@ -35,16 +35,16 @@ fn entries_in(alloc: Global, order: Order, size: u64) -> Option<Entries> {
 }
 
 /// So many rows with rising keys.
-fn rows(alloc: Global, size: u64) -> Option<Rows>
+fn rows(alloc: Global, size: u64) -> Option<TrackKeys>
     ensures { IfSome result (λ r. (has_double r ≡ false) × (length r < 2 ^ 32)) }
 {
     let entries = entries_in(alloc, Order::Rising, size)?;
     if entries.as_slice().len() > 10_000_000 {
         return None;
     }
-    let nothing = Rows::new(alloc);
+    let nothing = TrackKeys::new(alloc);
     match plan(alloc, &nothing, &entries) {
-        Ok(_) => Some(entries.into_rows()),
+        Ok(_) => Some(entries),
         Err(_) => None,
     }
 }

@@ -1,5 +1,5 @@
 //! Where a repeat's text is cut: at the first `in`, and at the first `track by`, between white space.
-ghost use Rattle.std.specs.Prelude.{◌≡◌, [], IfOk, IfSome, MatchOption, None, Some, false};
+ghost use Rattle.std.specs.Prelude.{◌≡◌, [], IfOk, None, Some, false};
 ghost use Rattle.std.specs.Str.{chars};
 ghost use Rattle.std.specs.List.{list_all};
 ghost use Rattle.ng_language.specs.Letters.{is_space};

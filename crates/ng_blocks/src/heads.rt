@@ -1,6 +1,5 @@
 //! The names before `in`.
 ghost use Rattle.std.specs.Prelude.{◌≡◌, IfOk, MatchOption, None, Some};
-ghost use Rattle.ng_base.specs.declared.fault.Memory.TheVariants.{Refused};
 ghost use Rattle.ng_blocks.specs.Heads.{one_name, two_names, head_in, head_of};
 
 use crate::repeats::Head;

@@ -1,5 +1,5 @@
 //! Track keys, by which a repeat tells its rows apart (API: `ngRepeat`, "Tracking and Duplicates").
-ghost use Rattle.std.specs.Prelude.{◌≡◌, ◌++◌, ◌∷◌, [], ◌↔◌, ◌<◌, ◌^◌, IfOk, OnOk, OnErr, IsTrue, encode_utf8_all};
+ghost use Rattle.std.specs.Prelude.{◌≡◌, ◌++◌, ◌∷◌, [], ◌↔◌, ◌<◌, IfOk, OnOk, OnErr, IsTrue, encode_utf8_all};
 ghost use Rattle.std.specs.Str.{chars, bytes_eq};
 ghost use Rattle.ng_blocks.specs.Keys.{kind_of, value_kind, number_of, value_number, text_of, value_text};
 ghost use Rattle.ng_blocks.specs.SameKeys.{same_key};
@@ -159,88 +159,38 @@ impl Hash for TrackKey {
     }
 }
 
-/// The track keys of the rows that stand, in order.
+/// The track keys of rows or of entries, in order.
 #[derive(Drop)]
-pub struct Rows {
+pub struct TrackKeys {
     items: Vec<TrackKey>,
 }
 
-impl Model for Rows {
+impl Model for TrackKeys {
     ghost use Rattle.std.specs.Prelude.{List};
     ghost use Rattle.ng_blocks.specs.declared.keys.TrackKey.{TrackKey};
 
     ghost Value = { List TrackKey };
 
-    ghost view = { λ r. r.items.items };
+    ghost view = { λ k. k.items.items };
 }
 
-impl Rows {
-    /// No row.
-    pub fn new(alloc: Global) -> Rows
+impl TrackKeys {
+    /// No key.
+    pub fn new(alloc: Global) -> TrackKeys
         ensures { result ≡ [] }
     {
-        Rows {
+        TrackKeys {
             items: Vec::new(alloc),
         }
     }
 
-    /// Adds a row at the end.
+    /// Adds a key at the end.
     pub fn push(&mut self, key: TrackKey) -> Result<(), AllocError>
         ensures ok { OnOk result (self.new ≡ self.old ++ key ∷ []) }
         ensures err { OnErr result (self.new ≡ self.old) }
     {
         self.items.push(key)?;
         Ok(())
-    }
-
-    /// All of them, in order.
-    pub fn as_slice(&self) -> &[TrackKey]
-        ensures { result.now ≡ self.now }
-    {
-        self.items.as_slice()
-    }
-}
-
-/// The track keys of the new entries, in order.
-#[derive(Drop)]
-pub struct Entries {
-    items: Vec<TrackKey>,
-}
-
-impl Model for Entries {
-    ghost use Rattle.std.specs.Prelude.{List};
-    ghost use Rattle.ng_blocks.specs.declared.keys.TrackKey.{TrackKey};
-
-    ghost Value = { List TrackKey };
-
-    ghost view = { λ e. e.items.items };
-}
-
-impl Entries {
-    /// No entry.
-    pub fn new(alloc: Global) -> Entries
-        ensures { result ≡ [] }
-    {
-        Entries {
-            items: Vec::new(alloc),
-        }
-    }
-
-    /// Adds an entry at the end.
-    pub fn push(&mut self, key: TrackKey) -> Result<(), AllocError>
-        ensures ok { OnOk result (self.new ≡ self.old ++ key ∷ []) }
-        ensures err { OnErr result (self.new ≡ self.old) }
-    {
-        self.items.push(key)?;
-        Ok(())
-    }
-
-    /// The rows that stand once a plan is done.
-    pub fn into_rows(self) -> Rows
-        ensures { result ≡ self }
-    {
-        let Entries { items } = self;
-        Rows { items }
     }
 
     /// All of them, in order.

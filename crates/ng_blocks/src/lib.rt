@@ -27,7 +27,7 @@ pub mod repeats;
 pub mod switch_cases;
 pub mod switching;
 
-pub use keys::{Entries, Rows, TrackKey};
+pub use keys::{TrackKey, TrackKeys};
 pub use planning::plan;
 pub use plans::{Plan, PlanFault};
 pub use repeating::parse_repeat;

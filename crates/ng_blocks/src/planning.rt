@@ -1,10 +1,10 @@
 //! Which rows a repeat keeps (API: `ngRepeat`).
-ghost use Rattle.std.specs.Prelude.{◌≡◌, ◌<◌, ◌^◌, [], length, map, not, true, false, IfOk, Ok, Err, if◌then◌else◌};
+ghost use Rattle.std.specs.Prelude.{◌≡◌, ◌<◌, ◌^◌, length, map, not, false, IfOk, Ok, Err, if◌then◌else◌};
 ghost use Rattle.ng_base.specs.Meets.{Meets, Gives};
-ghost use Rattle.ng_blocks.specs.Plans.{is_among, has_double, gone_places, row_of, planned, is_free};
+ghost use Rattle.ng_blocks.specs.Plans.{has_double, gone_places, row_of, planned, is_free};
 ghost use Rattle.ng_blocks.specs.declared.plans.PlanFault.TheVariants.{Dupes};
 
-use crate::keys::{Entries, Rows, TrackKey};
+use crate::keys::{TrackKey, TrackKeys};
 use crate::plans::{Plan, PlanFault};
 use indexmap::IndexSet;
 use ng_base::lists::{Numbers, Sources};
@@ -68,8 +68,8 @@ fn place_of(rows: &IndexSet<TrackKey>, key: &TrackKey) -> Option<u32>
     }
 }
 
-/// Which rows go, and which row each entry comes from.
-pub fn plan(alloc: Global, old: &Rows, new: &Entries) -> Result<Plan, PlanFault>
+/// Which rows go, and which row each entry comes from. Once that is done the entries are the rows.
+pub fn plan(alloc: Global, old: &TrackKeys, new: &TrackKeys) -> Result<Plan, PlanFault>
     requires few { length old.now < 2 ^ 32 }
     requires differ { has_double old.now ≡ false }
     ensures { Meets is_free (planned old.now new.now) result }

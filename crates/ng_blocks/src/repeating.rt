@@ -1,5 +1,5 @@
 //! What a repeat's text says (API: `ngRepeat`, "Arguments").
-ghost use Rattle.std.specs.Prelude.{◌≡◌, IfOk, Ok};
+ghost use Rattle.std.specs.Prelude.{IfOk, Ok};
 ghost use Rattle.std.specs.Str.{chars};
 ghost use Rattle.ng_base.specs.Meets.{Gives};
 ghost use Rattle.ng_language.specs.OneTime.{one_time_of};

@@ -1,5 +1,4 @@
 //! The kinds of controls, and what was typed into one.
-ghost use Rattle.std.specs.Prelude.{◌≡◌};
 
 use ng_base::txt::Txt;
 use ng_base::value::Value;

@@ -1,6 +1,5 @@
 //! What a typed text is read as (API: input[text], input[number]).
 ghost use Rattle.std.specs.Prelude.{◌≡◌, IfOk, IfErr};
-ghost use Rattle.std.specs.Str.{chars};
 ghost use Rattle.ng_base.specs.declared.fault.Memory.TheVariants.{Refused};
 ghost use Rattle.ng_control.specs.Typed.{if_trimmed as if_trimmed_of, number_or_undefined as number_or_undefined_of, number_typed as number_typed_of, number_of as number_in, parsed as parsed_of, TakesText};
 

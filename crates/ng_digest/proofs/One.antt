@@ -1,5 +1,5 @@
 -- The plain digest has one answer and ends in one state.
-use Rattle.std.proofs.Common.{◌≡◌, ◌≢◌, ℕ, Bool, true, false, refl, sym, ap, ◌∙◌, subst, arith, Option, Some, None, Result, Ok, Err, true≢false, unwrap_or}
+use Rattle.std.proofs.Common.{◌≡◌, ℕ, Bool, true, false, refl, sym, ap, ◌∙◌, subst, arith, Option, Some, None, Result, Ok, Err, true≢false, unwrap_or}
 use Rattle.ng_base.specs.declared.fault.Fault.{Fault}
 use Rattle.ng_digest.specs.declared.rounds.RoundEnd.{RoundEnd}
 use Rattle.ng_digest.specs.declared.rounds.End.{End}
@@ -70,9 +70,6 @@ module _ {S K : Type 0} (m : Machine S K) where
   round_one (plain_busy a v c) (plain_many_fires b w) = absurd (true≢false (walk_after b w a v).0)
   round_one (plain_busy a v c) (plain_quiet b w d) = absurd (both _ c (ap (was_dirty m) (walk_after a v b w).1 ∙ d))
   round_one (plain_busy a v c) (plain_busy b w d) = (refl, ap count_dirty (walk_after a v b w).1)
-
-  round_other : {p q r : Plain S} {e f : RoundEnd} → PlainRound m p e q → PlainRound m p f r → (e ≢ f) → ⊥
-  round_other a b n = n (round_one a b).0
 
   rounds_one : {p q r : Plain S} {e f : End} → PlainRounds m p e q → PlainRounds m p f r → (e ≡ f) × (q ≡ r)
   rounds_one (plain_last a) (plain_last b) = (refl, (round_one a b).1)

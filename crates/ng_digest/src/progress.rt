@@ -1,5 +1,5 @@
 //! Where a digest stands, but for its world's state. Each world holds one, and each of its calls is a step of it.
-ghost use Rattle.std.specs.Prelude.{◌≡◌, Option, Some, None, Bool, is_some, option_copied, ◌||◌, nat_lt};
+ghost use Rattle.std.specs.Prelude.{◌≡◌, Option, Some, None, is_some, option_copied, ◌||◌, nat_lt};
 ghost use Rattle.ng_digest.specs.Machine.{Verdict, same_key};
 ghost use Rattle.ng_digest.specs.Place.{Answers, OnTested, stage_tested};
 ghost use Rattle.ng_digest.specs.Progress.{last_key, at_start, round_begun, task_done, came_to, test_done, fire_done, round_closed, rounds_over};

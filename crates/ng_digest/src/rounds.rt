@@ -1,7 +1,7 @@
 //! Rounds, up to one that isn't dirty.
-ghost use Rattle.std.specs.Prelude.{◌≡◌, ◌<◌, ◌≤◌, ◌↔◌, ℕ, Bool, true, false, Option, Some, None, Result, Err, IfOk, OnOk, IsOk};
+ghost use Rattle.std.specs.Prelude.{◌≡◌, ◌<◌, ◌≤◌, ◌↔◌, ℕ, true, false, Some, None, Result, Err, IfOk, OnOk, IsOk};
 ghost use Rattle.ng_digest.specs.Log.{zero_log};
-ghost use Rattle.ng_digest.specs.Place.{Moves, MayAdvance};
+ghost use Rattle.ng_digest.specs.Place.{MayAdvance};
 ghost use Rattle.ng_digest.specs.declared.world.Stage.TheVariants.{Between, Draining, Calm};
 ghost use Rattle.ng_digest.specs.Short.{Drains, Skips, Walks, Round, Rounds, Digests};
 ghost use Rattle.ng_base.specs.declared.fault.Fault.{Fault};

@@ -1,5 +1,5 @@
 //! What a digest runs over.
-ghost use Rattle.std.specs.Prelude.{◌≡◌, ◌≢◌, ◌<◌, ◌+◌, ◌↔◌, Option, Some, None, Bool, IfOk, OnOk, is_some};
+ghost use Rattle.std.specs.Prelude.{◌≡◌, ◌≢◌, ◌<◌, ◌+◌, ◌↔◌, Option, Some, None, IfOk, OnOk, is_some};
 ghost use Rattle.ng_digest.specs.Laws.{HasLaws, InOrder};
 ghost use Rattle.ng_digest.specs.Machine.{next_key, ahead, found_dirty};
 ghost use Rattle.ng_digest.specs.Place.{Moves, MayAdvance, begun, after_task, advanced, found, after_test, after_fire, is_remembered, is_dirty, closed, posted, given_up, Answers, OnTested};

@@ -2,7 +2,7 @@
 use Rattle.std.proofs.Common.{◌≡◌, ◌⊎◌, inl, inr, ◌==◌, ◌&&◌, not, ℕ, Bool, true, false, List, [], ◌∷◌, ◌++◌, ap, sym, ◌∙◌, refl, if◌then◌else◌}
 use Rattle.std.proofs.lemmas.Bool.{and_parts}
 use Rattle.ng_base.specs.Codes.{line_feed, carriage_return}
-use Rattle.ng_base.proofs.Binds.{if_true, if_false}
+use Rattle.ng_base.proofs.Binds.{if_false}
 use Rattle.ng_language.proofs.LexSound.{both, code_is}
 use Rattle.ng_script.specs.Lines.{lines, longer, begins_line_feed}
 use Rattle.ng_script.specs.Whole.{has_no_feed, ends_return, AreLines}
@@ -76,9 +76,6 @@ lines_spelled [] = (refl, refl)
 lines_spelled (c ∷ cs) = spelled_by c cs (c == line_feed) (c == carriage_return && begins_line_feed cs) refl refl (lines_spelled cs)
 
 -- the lines of a text that begins so
-feed_lines : (c : ℕ) (cs : List ℕ) → (c == line_feed) ≡ true → lines (c ∷ cs) ≡ [] ∷ lines cs
-feed_lines c cs e = if_true (c == line_feed) ([] ∷ lines cs) (if c == carriage_return && begins_line_feed cs then lines cs else longer c (lines cs)) e
-
 longer_lines : (c : ℕ) (cs : List ℕ) → (c == line_feed) ≡ false → (c == carriage_return && begins_line_feed cs) ≡ false → lines (c ∷ cs) ≡ longer c (lines cs)
 longer_lines c cs e f =
     if_false (c == line_feed) ([] ∷ lines cs) (if c == carriage_return && begins_line_feed cs then lines cs else longer c (lines cs)) e

@@ -1,5 +1,5 @@
 //! What a line commands.
-ghost use Rattle.std.specs.Prelude.{◌≡◌, Some};
+ghost use Rattle.std.specs.Prelude.{Some};
 ghost use Rattle.std.specs.Str.{chars};
 ghost use Rattle.serde_json.specs.View.{view};
 ghost use Rattle.ng_base.specs.Meets.{Gives};

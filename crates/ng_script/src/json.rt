@@ -1,5 +1,4 @@
 //! The JSON words of a script.
-ghost use Rattle.std.specs.Prelude.{◌≡◌, [], true, false};
 ghost use Rattle.std.specs.Str.{chars};
 ghost use Rattle.serde_json.specs.View.{view};
 ghost use Rattle.ng_base.specs.Meets.{Gives};

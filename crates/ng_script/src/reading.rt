@@ -1,10 +1,10 @@
 //! Reads a script.
-ghost use Rattle.std.specs.Prelude.{◌≡◌, ◌<◌, ◌+◌, [], length, true, false, count_by, ◌==◌};
+ghost use Rattle.std.specs.Prelude.{◌≡◌, ◌<◌, ◌+◌, [], true, false, count_by, ◌==◌};
 ghost use Rattle.ng_base.specs.Codes.{line_feed};
 ghost use Rattle.std.specs.Prelude.{IfOk, IfErr, List, Ok, Err};
 ghost use Rattle.std.specs.Str.{chars};
 ghost use Rattle.ng_base.specs.Meets.{Gives};
-ghost use Rattle.ng_script.specs.Acts.{act_of, entries_of, Entry};
+ghost use Rattle.ng_script.specs.Acts.{entries_of, Entry};
 ghost use Rattle.ng_script.specs.Readings.{IsScript, Refuses};
 ghost use Rattle.ng_script.specs.declared.fault.ScriptFault.{ScriptFault as Fault};
 ghost use Rattle.ng_script.specs.Free.{is_want, is_free};

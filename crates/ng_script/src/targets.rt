@@ -1,5 +1,5 @@
 //! Targets of commands.
-ghost use Rattle.std.specs.Prelude.{◌≡◌, ◌<◌, ◌^◌, [], None};
+ghost use Rattle.std.specs.Prelude.{◌≡◌, ◌<◌, [], None};
 ghost use Rattle.ng_language.specs.Letters.{is_digit};
 ghost use Rattle.std.specs.Str.{chars};
 ghost use Rattle.ng_base.specs.Meets.{Gives};

@@ -1,7 +1,7 @@
 //! Numbers, watchers over them, and the acts that watchers and tasks do to both.
 ghost use Rattle.std.specs.Prelude.{◌≡◌, IfOk, IfErr};
 ghost use Rattle.ng_base.specs.declared.fault.Memory.TheVariants.{Refused};
-ghost use Rattle.ng_sheets.specs.Board.{Ran, view, act, set_up};
+ghost use Rattle.ng_sheets.specs.Board.{view, act, set_up};
 
 use ng_base::fault::{Fault, Memory};
 use std::alloc::Global;

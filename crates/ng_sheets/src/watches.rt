@@ -1,7 +1,7 @@
 //! What a test, a fire and a task do to a board.
 ghost use Rattle.std.specs.Prelude.{◌≡◌, ◌<◌, ◌+◌, IfOk, IfErr, OnOk, length, drop, slice_get};
 ghost use Rattle.ng_base.specs.declared.fault.Memory.TheVariants.{Refused};
-ghost use Rattle.ng_sheets.specs.Board.{Ran, view, run_body, run_at, verdict, tell, tested, hand_over, mark, marked, keep, fired, ran, waits, unset, unset_found, unset_each, first_live};
+ghost use Rattle.ng_sheets.specs.Board.{view, run_body, run_at, verdict, tell, tested, hand_over, mark, marked, keep, fired, ran, waits, unset, unset_found, first_live};
 ghost use Rattle.ng_digest.specs.Machine.{found_faulted};
 ghost use Rattle.ng_digest.specs.Place.{Answers, OnTested};
 

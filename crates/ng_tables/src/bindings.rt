@@ -1,7 +1,4 @@
 //! Which way a two-way binding goes, and which texts are bindings.
-ghost use Rattle.std.specs.Prelude.{length, IfSome};
-ghost use Rattle.ng_base.specs.ViewOf.{view_of};
-ghost use Rattle.ng_language.specs.Views.{ViewStands};
 
 use crate::values::{Of, view};
 use ng_bind::flow::{Flow, sync};

@@ -6,7 +6,7 @@ use ng_base::lists::{Numbers, Sources};
 use ng_base::name::{FunId, Oid};
 use ng_base::txt::Txt;
 use ng_base::value::Value;
-use ng_blocks::{Cases, Entries, Plan, PlanFault, Rows, TrackKey, cases, plan};
+use ng_blocks::{Cases, Plan, PlanFault, TrackKey, TrackKeys, cases, plan};
 use std::alloc::{AllocError, Global};
 
 /// The key that a character stands for: a digit for a number, `!` for a truth value, `@` for an object, `%` for a
@@ -35,8 +35,8 @@ fn key_of(alloc: Global, c: char) -> Option<TrackKey> {
     Some(key)
 }
 
-fn entries_of(alloc: Global, keys: &str) -> Option<Entries> {
-    let mut entries = Entries::new(alloc);
+fn entries_of(alloc: Global, keys: &str) -> Option<TrackKeys> {
+    let mut entries = TrackKeys::new(alloc);
     for c in keys.chars() {
         entries.push(key_of(alloc, c)?).ok()?;
     }
@@ -44,16 +44,16 @@ fn entries_of(alloc: Global, keys: &str) -> Option<Entries> {
 }
 
 /// Rows with these keys, where they differ.
-fn rows_of(alloc: Global, keys: &str) -> Option<Rows>
+fn rows_of(alloc: Global, keys: &str) -> Option<TrackKeys>
     ensures { IfSome result (λ r. (has_double r ≡ false) × (length r < 2 ^ 32)) }
 {
     let entries = entries_of(alloc, keys)?;
     if entries.as_slice().len() > 1_000 {
         return None;
     }
-    let nothing = Rows::new(alloc);
+    let nothing = TrackKeys::new(alloc);
     match plan(alloc, &nothing, &entries) {
-        Ok(_) => Some(entries.into_rows()),
+        Ok(_) => Some(entries),
         Err(_) => None,
     }
 }

@@ -1,5 +1,5 @@
 //! A small tree of scopes, walked before and after a scope dies.
-ghost use Rattle.std.specs.Prelude.{◌<◌, ◌≤◌, length};
+ghost use Rattle.std.specs.Prelude.{◌<◌, length};
 ghost use Rattle.ng_behaviour.specs.ScopeObjects.{AreAmong};
 
 use ng_base::heap::ObjKind;
