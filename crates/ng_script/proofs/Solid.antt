@@ -6,7 +6,7 @@ use Rattle.std.specs.List.{list_all}
 use Rattle.ng_script.specs.Parts.{is_over}
 use Rattle.ng_script.specs.Spelling.{IsGap, IsOneWord, begins_solid, IsLine, with_last}
 use Rattle.ng_script.specs.Targets.{has_no_blank}
-pub use Rattle.ng_script.specs.Whole.{ends_blank}
+use Rattle.ng_script.specs.Whole.{ends_blank}
 use Rattle.ng_script.specs.Words.{is_blank, ends, onward, past_blanks, word, next_part}
 use Rattle.ng_script.specs.declared.cut.Part.TheVariants as part
 use Rattle.ng_script.proofs.Cuts.{begins_end, cut_at}

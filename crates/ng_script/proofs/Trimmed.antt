@@ -4,12 +4,12 @@ use Rattle.std.specs.List.{list_all}
 use Rattle.std.proofs.lemmas.Bool.{and_parts}
 use Rattle.std.proofs.lemmas.List.Folds.{list_all-append}
 use Rattle.ng_language.proofs.LexSound.{both}
-use Rattle.ng_script.specs.Whole.{IsInner}
+use Rattle.ng_script.specs.Whole.{IsInner, ends_blank}
 use Rattle.ng_script.specs.Lines.{trimmed}
 use Rattle.ng_script.specs.Scripts.{is_skipped}
 use Rattle.ng_script.specs.Spelling.{begins_solid}
 use Rattle.ng_script.specs.Words.{is_blank, past_blanks}
-use Rattle.ng_script.proofs.Solid.{Solid, ends_blank, ends_later, past_gap}
+use Rattle.ng_script.proofs.Solid.{Solid, ends_later, past_gap}
 use Rattle.std.proofs.lemmas.List.{reverse-append, reverse-reverse}
 
 not_false : (b : Bool) → not b ≡ true → b ≡ false
