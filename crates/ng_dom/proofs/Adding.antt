@@ -1,10 +1,9 @@
 -- A new node.
 use Rattle.std.proofs.Common.{◌≡◌, ◌<◌, ◌≤◌, ℕ, zero, suc, Bool, true, false, List, ◌∷◌, Option, Some, None, refl, ap, ◌∙◌, sym, cond, arith}
 use Rattle.std.specs.Prelude.{◌==◌, IsSome, is_some, option_map}
-use Rattle.std.specs.BTreeMap.{BTreeMap, get}
-use Rattle.std.specs.Ordering.{nat_cmp}
 use Rattle.std.proofs.Math.Nat.{lt_of_not-le}
 use Rattle.std.proofs.lemmas.Bool.{eqb-true, eq-eqb, ne_eqb}
+use Rattle.ng_dom.specs.Records.{Runs, node_at}
 use Rattle.ng_dom.specs.Lists.{put_at}
 use Rattle.ng_dom.specs.Nodes.{NamedNode, NamedForest, NamedGroups, named_text, named_comment, named_element, named_anchor, nothing_named, named_then, no_groups, group_then, name_of, names_of}
 use Rattle.ng_dom.specs.Editing.{changed_in, node_inserted, with_kids}
@@ -97,19 +96,19 @@ top_reads r s i y free bare rooms f h =
     reads_inserted s None i y f (tt, there) (bare s) (remains r s (name_of y) (room_of None y) free rooms None f h)
 
 -- a name with a room is below the next one
-pub standing_below : (nodes : BTreeMap ℕ Record) (next p : ℕ) → ((q : ℕ) → next ≤ q → is_some (get nat_cmp nodes q) ≡ false) → IsSome (rooms_of nodes p) → p < next
-standing_below nodes next p fresh there = lt_of_not-le (λ le. among (get nat_cmp nodes p) (fresh p le) there)
+pub standing_below : (nodes : Runs) (next p : ℕ) → ((q : ℕ) → next ≤ q → is_some (node_at nodes q) ≡ false) → IsSome (rooms_of nodes p) → p < next
+standing_below nodes next p fresh there = lt_of_not-le (λ le. among (node_at nodes p) (fresh p le) there)
   where
     among : (o : Option Record) → is_some o ≡ false → IsSome (option_map room_kept o) → ⊥
     among None f h = cc
     among (Some x) f h = cc
 
 -- what has a room has a name that was given
-pub room_below : (nodes : BTreeMap ℕ Record) (next : ℕ) → ((q : ℕ) → next ≤ q → is_some (get nat_cmp nodes q) ≡ false) → (p : Option ℕ) (x : NamedNode) → HasRoom (rooms_of nodes) p x → name_of x < next
+pub room_below : (nodes : Runs) (next : ℕ) → ((q : ℕ) → next ≤ q → is_some (node_at nodes q) ≡ false) → (p : Option ℕ) (x : NamedNode) → HasRoom (rooms_of nodes) p x → name_of x < next
 room_below nodes next fresh p x has = standing_below nodes next (name_of x) fresh (rw has.1 refl)
 
-pub free_name : (nodes : BTreeMap ℕ Record) (next : ℕ) → ((q : ℕ) → next ≤ q → is_some (get nat_cmp nodes q) ≡ false) → get nat_cmp nodes next ≡ None
-free_name nodes next fresh = among (get nat_cmp nodes next) (fresh next (omega arith))
+pub free_name : (nodes : Runs) (next : ℕ) → ((q : ℕ) → next ≤ q → is_some (node_at nodes q) ≡ false) → node_at nodes next ≡ None
+free_name nodes next fresh = among (node_at nodes next) (fresh next (omega arith))
   where
     among : (o : Option Record) → is_some o ≡ false → o ≡ None
     among None f = refl
@@ -134,7 +133,7 @@ pub name_part : (n : ℕ) (x : Part) → name_of (new_part n x) ≡ n
 name_part n (Node x) = name_new n x
 name_part n Anchor = refl
 
-pub free_room : (nodes : BTreeMap ℕ Record) (next : ℕ) → ((q : ℕ) → next ≤ q → is_some (get nat_cmp nodes q) ≡ false) → rooms_of nodes next ≡ None
+pub free_room : (nodes : Runs) (next : ℕ) → ((q : ℕ) → next ≤ q → is_some (node_at nodes q) ≡ false) → rooms_of nodes next ≡ None
 free_room nodes next fresh = ap (option_map room_kept) (free_name nodes next fresh)
 
 -- a new part becomes a child of p
@@ -168,7 +167,7 @@ element_shape_room None e = absurd (cc)
 element_shape_room (Some x) e = refl
 
 -- an element is live
-pub element_lives : (nodes : BTreeMap ℕ Record) (n : ℕ) → is_element_room (rooms_of nodes n) ≡ true → IsSome (rooms_of nodes n)
+pub element_lives : (nodes : Runs) (n : ℕ) → is_element_room (rooms_of nodes n) ≡ true → IsSome (rooms_of nodes n)
 element_lives nodes n e = element_shape_room (rooms_of nodes n) e
 
 -- a node that was made and is taken again leaves the table as it was

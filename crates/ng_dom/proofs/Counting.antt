@@ -1,18 +1,11 @@
 -- The names of a document are counted.
 use Rattle.std.proofs.Common.{◌≡◌, ◌+◌, ℕ, Bool, true, false, List, [], ◌∷◌, ◌++◌, length, None, refl, ap, ◌∙◌, sym, subst, cond, is_some, arith, length-append, zero-add}
 use Rattle.std.specs.Prelude.{◌==◌, ◌||◌, nat_eq}
-use Rattle.std.specs.BTreeMap.{get, btree_map_len, IsOrdered, keys}
-use Rattle.std.specs.Cmp.{nat_cmp_total, eq_by_cmp_equiv, unsigned_ties}
-use Rattle.std.specs.List.{IsDistinct}
-use Rattle.std.specs.Ordering.{nat_cmp, eq_by_cmp}
-use Rattle.std.specs.Set.{is_member}
-use Rattle.std.proofs.Math.Path.{fun_ext}
-use Rattle.std.proofs.lemmas.Bool.{eqb-true, eqb-false, eq-eqb, ne_eqb}
-use Rattle.std.proofs.lemmas.Map.Entries.{length-keys_of}
-use Rattle.std.proofs.lemmas.Map.Keys.{IsDistinct-from_sorted}
-use Rattle.std.proofs.lemmas.Map.Made.{length-from_same_keys, is_some-lookup}
+use Rattle.std.specs.Cmp.{nat_eq_equiv}
+use Rattle.std.proofs.lemmas.Map.Made.{length-from_same_keys}
 use Rattle.ng_base.specs.declared.path.Key.{Key}
 use Rattle.ng_markup.specs.Forest.{Forest, element, text, comment, no_nodes, node}
+use Rattle.ng_dom.specs.Records.{IsKept, live_in, names_in, node_at}
 use Rattle.ng_dom.specs.Document.{rooms, Holds}
 use Rattle.ng_dom.specs.Drawing.{Look, Stand, Stands, Bodies, text_stands, comment_stands, element_stands, block_stands, none_stand, stand_then, no_bodies, body_then, show, shows, show_bodies, stand_names, names_standing, body_names}
 use Rattle.ng_dom.specs.Kept.{room_kept}
@@ -22,6 +15,7 @@ use Rattle.ng_dom.specs.Nodes.{NamedNode, NamedForest, NamedGroups, named_text, 
 use Rattle.ng_dom.specs.declared.dom.Dom.{Dom}
 use Rattle.ng_dom.proofs.Apart.{all_rooms}
 use Rattle.ng_dom.proofs.Homes.{some_mapped}
+use Rattle.ng_dom.proofs.LiveNames.{among-member, names_length, names_differ, named_lives, live_named}
 
 -- what stands has the same names whatever keys show
 module _ (v : Key → Look) where
@@ -73,39 +67,23 @@ module _ (count : Forest → ℕ) (counts : CountsNodes count) where
 pub names_are_counted : NamesAreCounted
 names_are_counted count f counts = all_counted count counts f
 
--- the keys of a map that is in order have the names of its nodes
-tests_same : eq_by_cmp nat_cmp ≡ nat_eq
-tests_same = fun_ext (λ m. fun_ext (λ n. sym (unsigned_ties m n)))
-
--- a name is among some, by either order of the test
-same_test : (n k : ℕ) → (k == n) ≡ eq_by_cmp nat_cmp n k
-same_test n k = by_test (k == n) refl ∙ unsigned_ties n k
-  where
-    by_test : (b : Bool) → (k == n) ≡ b → b ≡ nat_eq n k
-    by_test true e = sym (eq-eqb n k (sym (eqb-true k n e)))
-    by_test false e = sym (ne_eqb n k (λ h. eqb-false k n e (sym h)))
-
-first_or : (b : Bool) (n : ℕ) (ks : List ℕ) → among n ks ≡ is_member (eq_by_cmp nat_cmp) ks n → cond b true (among n ks) ≡ (b || is_member (eq_by_cmp nat_cmp) ks n)
-first_or true n ks e = refl
-first_or false n ks e = e
-
-among-member : (n : ℕ) (ks : List ℕ) → among n ks ≡ is_member (eq_by_cmp nat_cmp) ks n
-among-member n [] = refl
-among-member n (k ∷ ks) = ap (λ (b : Bool). cond b true (among n ks)) (same_test n k) ∙ first_or (eq_by_cmp nat_cmp n k) n ks (among-member n ks)
-
 same_answer : (b c : Bool) → (b ≡ true → c ≡ true) → (c ≡ true → b ≡ true) → b ≡ c
 same_answer true c h k = sym (h refl)
 same_answer false true h k = k refl
 same_answer false false h k = refl
 
 -- where nothing stands apart, a document has a name for each live node
-pub live_counted : (d : Dom) (f : NamedForest) → IsOrdered nat_cmp d.nodes → Holds d f → btree_map_len d.nodes ≡ length (all_names f)
-live_counted d f ordered holds =
-    sym (length-keys_of d.nodes.entries)
-    ∙ length-from_same_keys (eq_by_cmp_equiv nat_cmp_total) (keys d.nodes) (all_names f)
-    (IsDistinct-from_sorted nat_cmp (keys d.nodes) ordered)
-    (subst (λ (e : ℕ → ℕ → Bool). IsDistinct e (all_names f)) (sym tests_same) holds.once)
-    (λ n. sym (is_some-lookup (eq_by_cmp nat_cmp n) d.nodes.entries) ∙ (sym (some_mapped room_kept (get nat_cmp d.nodes n)) ∙ (both n ∙ among-member n (all_names f))))
+pub live_counted : (d : Dom) (f : NamedForest) (live : ℕ) → IsKept live d.nodes → Holds d f → live_in d.nodes ≡ length (all_names f)
+live_counted d f live kept holds =
+    sym (names_length d.nodes)
+    ∙ length-from_same_keys nat_eq_equiv (names_in d.nodes) (all_names f) (names_differ d.nodes kept.rises kept.runs) holds.once
+    (λ n. sym (among-member n (names_in d.nodes)) ∙ (same_answer (among n (names_in d.nodes)) (among n (all_names f)) (there n) (back n) ∙ among-member n (all_names f)))
   where
-    both : (n : ℕ) → is_some (rooms d n) ≡ among n (all_names f)
-    both n = same_answer (is_some (rooms d n)) (among n (all_names f)) (holds.all n) (all_rooms (rooms d) n None f holds.shows.1)
+    seen : (n : ℕ) → is_some (node_at d.nodes n) ≡ is_some (rooms d n)
+    seen n = sym (some_mapped room_kept (node_at d.nodes n))
+
+    there : (n : ℕ) → among n (names_in d.nodes) ≡ true → among n (all_names f) ≡ true
+    there n h = holds.all n (sym (seen n) ∙ named_lives d.nodes n kept.rises kept.runs h)
+
+    back : (n : ℕ) → among n (all_names f) ≡ true → among n (names_in d.nodes) ≡ true
+    back n h = live_named d.nodes n (seen n ∙ all_rooms (rooms d) n None f holds.shows.1 h)

@@ -1,10 +1,9 @@
 -- What is live, and what it is drawn from, once nodes are gone.
 use Rattle.std.proofs.Common.{◌≡◌, ◌≤◌, ◌<◌, ◌⊎◌, ℕ, Bool, true, false, Option, Some, None, refl, ap, ◌∙◌, sym, inl, inr, is_some}
 use Rattle.std.specs.Prelude.{◌==◌, option_map, if◌then◌else◌}
-use Rattle.std.specs.BTreeMap.{get}
-use Rattle.std.specs.Ordering.{nat_cmp}
 use Rattle.std.proofs.lemmas.Bool.{cases_lt}
 use Rattle.ng_base.specs.declared.path.Key.{Key}
+use Rattle.ng_dom.specs.Records.{node_at}
 use Rattle.ng_dom.specs.Document.{rooms, homes, IsLive}
 use Rattle.ng_dom.specs.Drawing.{Look, Stand, Stands, Bodies, Source, text_stands, comment_stands, element_stands, block_stands, none_stand, stand_then, no_bodies, body_then, show, shows, show_bodies, Homed, HomedAll, HomedBodies, at_block, at_block_all, at_block_bodies}
 use Rattle.ng_dom.specs.Kept.{room_kept}
@@ -18,14 +17,14 @@ some_mapped f None = refl
 some_mapped f (Some x) = refl
 
 pub live_nodes_have_homes : LiveNodesHaveHomes
-live_nodes_have_homes d n = some_mapped (λ (x : Record). x.home) (get nat_cmp d.nodes n) ∙ sym (some_mapped room_kept (get nat_cmp d.nodes n))
+live_nodes_have_homes d n = some_mapped (λ (x : Record). x.home) (node_at d.nodes n) ∙ sym (some_mapped room_kept (node_at d.nodes n))
 
 pub live_names_are_given : LiveNamesAreGiven
 live_names_are_given d n live = by_order (cases_lt n d.next)
   where
     by_order : (n < d.next) ⊎ (d.next ≤ n) → n < d.next
     by_order (inl lt) = lt
-    by_order (inr le) = absurd (let two : true ≡ false = sym live ∙ (some_mapped room_kept (get nat_cmp d.nodes n) ∙ d.fresh n le) in cc)
+    by_order (inr le) = absurd (let two : true ≡ false = sym live ∙ (some_mapped room_kept (node_at d.nodes n) ∙ d.fresh n le) in cc)
 
 pub fewer_are_live : FewerAreLive
 fewer_are_live d e n fewer live = by_home (fewer.homes n)

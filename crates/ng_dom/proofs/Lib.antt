@@ -23,3 +23,7 @@ pub mod Homes
 pub mod Apart
 pub mod Counting
 pub mod Keeping
+pub mod Rising
+pub mod Runs
+pub mod Touching
+pub mod LiveNames

@@ -1,9 +1,8 @@
 -- The node at a path is the one that the table has there.
 use Rattle.std.proofs.Common.{◌≡◌, ◌<◌, ◌≤◌, ◌+◌, ℕ, zero, suc, false, List, [], ◌∷◌, ◌++◌, length, map, Option, Some, None, refl, ap, ◌∙◌, sym, subst, arith}
 use Rattle.std.specs.Prelude.{option_map, option_and_then, is_some}
-use Rattle.std.specs.BTreeMap.{BTreeMap, get}
-use Rattle.std.specs.Ordering.{nat_cmp}
 use Rattle.ng_markup.specs.Forest.{Forest, Node, comment, no_nodes, node}
+use Rattle.ng_dom.specs.Records.{Runs, node_at}
 use Rattle.ng_dom.specs.Nodes.{NamedNode, NamedForest, NamedGroups, named_text, named_comment, named_element, named_anchor, nothing_named, named_then, no_groups, group_then, name_of, names_of, followed_by, plain_node, plain, plain_groups}
 use Rattle.ng_dom.specs.Rooms.{Rooms, shape_of, HasRoom, ReadsInside, ReadsIn, ReadsGroups}
 use Rattle.ng_dom.specs.Asked.{shape_kids, kids_in}
@@ -79,7 +78,7 @@ went_none [] = refl
 went_none (i ∷ p) = went_none p
 
 -- a document whose names are below the next one
-module _ (nodes : BTreeMap ℕ Record) (next : ℕ) (fresh : (q : ℕ) → next ≤ q → is_some (get nat_cmp nodes q) ≡ false) where
+module _ (nodes : Runs) (next : ℕ) (fresh : (q : ℕ) → next ≤ q → is_some (node_at nodes q) ≡ false) where
   abbrev r : Rooms
   r = rooms_of nodes
 

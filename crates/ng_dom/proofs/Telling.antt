@@ -1,11 +1,10 @@
 -- The plain forest of a name is that of the node that is read there.
 use Rattle.std.proofs.Common.{◌≡◌, ◌<◌, ◌≤◌, ◌+◌, ℕ, zero, suc, List, [], Option, Some, None, refl, ap, ◌∙◌, arith}
 use Rattle.ng_markup.specs.Forest.{Forest, element, comment, no_nodes, node, with_node, Node}
+use Rattle.ng_dom.specs.Records.{Runs, node_at}
 use Rattle.ng_dom.specs.Nodes.{NamedNode, NamedForest, NamedGroups, named_text, named_comment, named_element, named_anchor, nothing_named, named_then, no_groups, group_then, name_of, names_of, group_names, followed_by, plain_node, plain, plain_groups}
 use Rattle.ng_dom.specs.Rooms.{Rooms, shape_of, HasRoom, ReadsInside, ReadsIn, ReadsGroups}
 use Rattle.std.specs.Prelude.{is_some, false}
-use Rattle.std.specs.BTreeMap.{BTreeMap, get}
-use Rattle.std.specs.Ordering.{nat_cmp}
 use Rattle.ng_dom.specs.Kept.{rooms_of}
 use Rattle.ng_dom.specs.declared.record.Record.{Record}
 use Rattle.ng_dom.proofs.Adding.{room_below}
@@ -57,7 +56,7 @@ module _ (r : Rooms) (top : ℕ) (below : (p : Option ℕ) (x : NamedNode) → H
       ∙ ap (followed_by (plain_node x)) (told_top k f le h.2)
 
 -- the document's plain forest
-pub told_document : (nodes : BTreeMap ℕ Record) (next : ℕ) (names : List ℕ) (old new : Forest) (f : NamedForest) → ((q : ℕ) → next ≤ q → is_some (get nat_cmp nodes q) ≡ false)
+pub told_document : (nodes : Runs) (next : ℕ) (names : List ℕ) (old new : Forest) (f : NamedForest) → ((q : ℕ) → next ≤ q → is_some (node_at nodes q) ≡ false)
     → old ≡ no_nodes → names ≡ names_of f → ReadsIn (rooms_of nodes) None f
     → new ≡ followed_by old (told_all (told next (rooms_of nodes)) names) → new ≡ plain f
 told_document nodes next names old new f fresh e was reads is =

@@ -1,10 +1,9 @@
 -- The way down to a node.
 use Rattle.std.proofs.Common.{◌≡◌, ◌+◌, ℕ, zero, suc, Bool, true, false, List, [], ◌∷◌, ◌++◌, length, reverse, length-append, Option, Some, None, refl, ap, ◌∙◌, sym, cond, arith}
 use Rattle.std.specs.Prelude.{◌==◌, option_map}
-use Rattle.std.specs.BTreeMap.{BTreeMap, get}
-use Rattle.std.specs.Ordering.{nat_cmp}
 use Rattle.std.proofs.lemmas.Bool.{eqb-true}
 use Rattle.std.proofs.lemmas.List.{reverse-append}
+use Rattle.ng_dom.specs.Records.{Runs, node_at}
 use Rattle.ng_dom.specs.Nodes.{NamedNode, NamedForest, NamedGroups, named_text, named_comment, named_element, named_anchor, nothing_named, named_then, no_groups, group_then, name_of}
 use Rattle.ng_dom.specs.Walks.{named_followed, read, read_shape, read_room}
 use Rattle.ng_dom.specs.Kept.{rooms_of, room_kept, shape_kept}
@@ -189,5 +188,5 @@ pub none_stands : (n : ℕ) (f : NamedForest) (j : ℕ) → way n 0 f ≡ Passed
 none_stands n f j e h = let none = ap downwards e in cc
 
 -- the node of a name, one level further down
-pub read_kept : (nodes : BTreeMap ℕ Record) (k m : ℕ) (x : Record) → Some x ≡ get nat_cmp nodes m → read (suc k) (rooms_of nodes) m ≡ read_shape (read k (rooms_of nodes)) m (shape_kept x.content)
+pub read_kept : (nodes : Runs) (k m : ℕ) (x : Record) → Some x ≡ node_at nodes m → read (suc k) (rooms_of nodes) m ≡ read_shape (read k (rooms_of nodes)) m (shape_kept x.content)
 read_kept nodes k m x e = ap (λ (o : Option Record). read_room (read k (rooms_of nodes)) m (option_map room_kept o)) (sym e)

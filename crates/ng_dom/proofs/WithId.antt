@@ -1,8 +1,7 @@
 -- The node that is read under a name is the one that the table has.
 use Rattle.std.proofs.Common.{◌≡◌, ◌<◌, ◌≤◌, ◌+◌, ℕ, zero, suc, List, Option, Some, None, refl, ap, ◌∙◌, sym, arith}
 use Rattle.std.specs.Prelude.{is_some, false}
-use Rattle.std.specs.BTreeMap.{BTreeMap, get}
-use Rattle.std.specs.Ordering.{nat_cmp}
+use Rattle.ng_dom.specs.Records.{Runs, node_at}
 use Rattle.ng_dom.specs.Nodes.{NamedNode, NamedForest, NamedGroups, named_text, named_comment, named_element, named_anchor, nothing_named, named_then, no_groups, group_then, name_of, names_of, group_names}
 use Rattle.ng_dom.specs.Rooms.{Rooms, shape_of, HasRoom, ReadsInside, ReadsIn, ReadsGroups}
 use Rattle.ng_dom.specs.Asked.{node_with_id, first_with_id, first_of_two}
@@ -63,6 +62,6 @@ module _ (r : Rooms) (top : ℕ) (below : (p : Option ℕ) (x : NamedNode) → H
       ∙ ap (named_then x) (read_top k f le h.2)
 
 -- the whole document is read
-pub read_document : (nodes : BTreeMap ℕ Record) (next : ℕ) (names : List ℕ) (f : NamedForest) → ((q : ℕ) → next ≤ q → is_some (get nat_cmp nodes q) ≡ false)
+pub read_document : (nodes : Runs) (next : ℕ) (names : List ℕ) (f : NamedForest) → ((q : ℕ) → next ≤ q → is_some (node_at nodes q) ≡ false)
     → names ≡ names_of f → ReadsIn (rooms_of nodes) None f → read_all (read next (rooms_of nodes)) names ≡ f
 read_document nodes next names f fresh was reads = ap (read_all (read next (rooms_of nodes))) was ∙ read_top (rooms_of nodes) next (room_below nodes next fresh) next f (omega arith) reads

@@ -1,8 +1,8 @@
 -- The document that a `Dom` keeps.
 use Rattle.std.specs.Prelude.{ℕ, ◌≡◌, ◌⊎◌, ◌+◌, ◌==◌, nat_eq, List, Option, Some, None, true, IsSome, if◌then◌else◌}
-use Rattle.std.specs.BTreeMap.{btree_map_len}
 use Rattle.std.specs.List.{IsDistinct}
 use Rattle.ng_base.specs.declared.name.NodeId.{NodeId}
+use Rattle.ng_dom.specs.Records.{live_in}
 use Rattle.ng_dom.specs.Lists.{among}
 use Rattle.ng_dom.specs.Nodes.{NamedNode, NamedForest, name_of, names_of, all_names, nothing_named, named_then}
 use Rattle.ng_dom.specs.Walks.{read, read_all}
@@ -34,7 +34,7 @@ next_name d = d.next
 
 -- how many nodes are live
 abbrev pub live_count : Dom → ℕ
-live_count d = btree_map_len d.nodes
+live_count d = live_in d.nodes
 
 -- a node of this name is live, or an element
 abbrev pub IsLive : Dom → ℕ → Type 0

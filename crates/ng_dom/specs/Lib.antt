@@ -3,6 +3,8 @@ pub mod Nodes
 pub mod Editing
 pub mod Rooms
 pub mod Removal
+pub mod Records
+pub mod Lending
 pub mod Kept
 pub mod Making
 pub mod Asked

@@ -5,24 +5,24 @@ ghost use Rattle.ng_dom.specs.Kept.{rooms_of};
 
 use crate::edits::is_element;
 use crate::record::Record;
+use crate::records::Records;
 use std::alloc::{AllocError, Global};
-use std::collections::BTreeMap;
 
 /// The parent of a name that is live.
-fn parent_at(nodes: &BTreeMap<u64, Record>, n: u64) -> Option<u64>
+fn parent_at(nodes: &Records, n: u64) -> Option<u64>
     ensures { result ≡ parent_in (rooms_of nodes.now) n }
 {
-    match nodes.get(&n) {
+    match nodes.get(n) {
         None => None,
         Some(node) => node.parent,
     }
 }
 
 /// A name comes to a line where it is an element's.
-fn add_element(line: &mut Vec<u64>, nodes: &BTreeMap<u64, Record>, m: u64) -> Result<(), AllocError>
+fn add_element(line: &mut Vec<u64>, nodes: &Records, m: u64) -> Result<(), AllocError>
     ensures { OnOk result (line.new.items ≡ line.old.items ++ if_element (rooms_of nodes.now m) m) }
 {
-    match nodes.get(&m) {
+    match nodes.get(m) {
         None => Ok(()),
         Some(node) => {
             if is_element(node) {
@@ -35,7 +35,7 @@ fn add_element(line: &mut Vec<u64>, nodes: &BTreeMap<u64, Record>, m: u64) -> Re
 
 /// A name, and then the elements above it, so many steps up at the most.
 pub fn line_up(
-    nodes: &BTreeMap<u64, Record>,
+    nodes: &Records,
     alloc: Global,
     steps: u64,
     n: u64,

@@ -1,7 +1,6 @@
 //! The document: its calls.
 ghost use Rattle.std.specs.Prelude.{◌≡◌, ◌≤◌, ◌<◌, ◌+◌, ◌==◌, ◌&&◌, ◌++◌, encode_utf8_all, ℕ, List, length, Option, Some, None, false, is_some, OnOk, OnErr, IfOk, IfErr, IfSome, [], ◌∷◌, IsOk, nat_lt, option_map, if◌then◌else◌};
-ghost use Rattle.std.specs.BTreeMap.{get, btree_map_len};
-ghost use Rattle.std.specs.Ordering.{nat_cmp};
+ghost use Rattle.ng_dom.specs.Records.{node_at, live_in};
 ghost use Rattle.ng_base.specs.Meets.{Meets};
 ghost use Rattle.ng_dom.specs.Lists.{put_at, without_at, list_at, lists_at, filled_with};
 ghost use Rattle.ng_dom.specs.Removal.{without, room_without, top_without, groups_in, group_emptied, Takes, Spares, AreGone, IsThere, IsApartFromOthers};
@@ -28,6 +27,7 @@ use crate::nodes::{
 use crate::paths::{Way, reversed, way_all};
 use crate::printing::add_all;
 use crate::record::{Content, Group, Home, NewNode, Part, Record};
+use crate::records::Records;
 use crate::removal::take_away;
 use crate::seeking::{found, passed, seek_all, seek_kids};
 use ng_base::fault::Memory;
@@ -47,12 +47,12 @@ pub const NODE_LIMIT: usize = 200_000;
 #[derive(Drop)]
 pub struct Dom {
     alloc: Global,
-    nodes: BTreeMap<u64, Record>,
+    nodes: Records,
     /// The nodes at the top.
     top: Vec<u64>,
     /// The name of the next node.
     next: u64,
-    ghost fresh: { (q : ℕ) → next ≤ q → is_some (get nat_cmp nodes q) ≡ false },
+    ghost fresh: { (q : ℕ) → next ≤ q → is_some (node_at nodes q) ≡ false },
 }
 
 impl Dom {
@@ -67,7 +67,7 @@ impl Dom {
     {
         Dom {
             alloc,
-            nodes: BTreeMap::new(alloc),
+            nodes: Records::new(alloc),
             top: Vec::new(alloc),
             next: 0,
         }
@@ -427,7 +427,7 @@ impl Dom {
     pub fn has(&self, n: NodeId) -> bool
         ensures { result ≡ (n.slot == 0 && is_some (rooms self.now n.made.0)) }
     {
-        n.slot == 0 && self.nodes.contains_key(&n.made.0)
+        n.slot == 0 && self.nodes.has(n.made.0)
     }
 
     /// How many nodes are live. Where nothing stands apart, that is how many names the document has.
@@ -442,7 +442,7 @@ impl Dom {
     pub fn home(&self, n: NodeId) -> Option<&Home>
         ensures { option_map (λ h. h.now) result ≡ homes self.now n.made.0 }
     {
-        match self.nodes.get(&n.made.0) {
+        match self.nodes.get(n.made.0) {
             None => None,
             Some(node) => Some(&node.home),
         }
@@ -452,7 +452,7 @@ impl Dom {
     pub fn is_element(&self, n: NodeId) -> bool
         ensures { result ≡ is_element_room (rooms self.now n.made.0) }
     {
-        match self.nodes.get(&n.made.0) {
+        match self.nodes.get(n.made.0) {
             None => false,
             Some(node) => is_element(node),
         }
@@ -462,7 +462,7 @@ impl Dom {
     pub fn attr(&self, n: NodeId, name: &Txt) -> Option<&Txt>
         ensures { option_map (λ t. t.now) result ≡ attribute_in name.now (rooms self.now n.made.0) }
     {
-        match self.nodes.get(&n.made.0) {
+        match self.nodes.get(n.made.0) {
             None => None,
             Some(node) => attribute(node, name),
         }

@@ -5,6 +5,7 @@ ghost use Rattle.ng_dom.specs.Walks.{read, read_all, read_groups, read_shape};
 ghost use Rattle.ng_dom.specs.Kept.{rooms_of, shape_kept};
 
 use crate::record::{Content, Record};
+use crate::records::Records;
 use ng_base::txt::Txt;
 use std::collections::BTreeMap;
 
@@ -23,13 +24,13 @@ fn has_id(attributes: &BTreeMap<Txt, Txt>, id: &Txt) -> bool
 /// The first element with an id below a name, so many levels deep.
 #[tactic(auto, using(crate::proofs::WithId::find_steps))]
 #[cycle(found)]
-fn find_node(nodes: &BTreeMap<u64, Record>, deep: u64, n: u64, id: &Txt) -> Option<u64>
+fn find_node(nodes: &Records, deep: u64, n: u64, id: &Txt) -> Option<u64>
     ensures { result ≡ first_with_id id.now (read deep (rooms_of nodes.now) n) }
 {
     if deep == 0 {
         return None;
     }
-    match nodes.get(&n) {
+    match nodes.get(n) {
         None => None,
         Some(node) => find_content(nodes, deep - 1, n, &node.content, id),
     }
@@ -38,7 +39,7 @@ fn find_node(nodes: &BTreeMap<u64, Record>, deep: u64, n: u64, id: &Txt) -> Opti
 #[tactic(auto, using(crate::proofs::WithId::find_steps))]
 #[cycle(found)]
 fn find_content(
-    nodes: &BTreeMap<u64, Record>,
+    nodes: &Records,
     deep: u64,
     n: u64,
     content: &Content,
@@ -67,7 +68,7 @@ fn find_content(
 /// The first element with an id below some names.
 #[tactic(auto, using(crate::proofs::WithId::find_steps))]
 #[cycle(found)]
-pub fn find_all(nodes: &BTreeMap<u64, Record>, deep: u64, names: &[u64], id: &Txt) -> Option<u64>
+pub fn find_all(nodes: &Records, deep: u64, names: &[u64], id: &Txt) -> Option<u64>
     ensures { result ≡ first_with_id id.now (read_all (read deep (rooms_of nodes.now)) names.now) }
 {
     for n in names {
@@ -81,7 +82,7 @@ pub fn find_all(nodes: &BTreeMap<u64, Record>, deep: u64, names: &[u64], id: &Tx
 #[tactic(auto, using(crate::proofs::WithId::find_steps))]
 #[cycle(found)]
 fn find_groups(
-    nodes: &BTreeMap<u64, Record>,
+    nodes: &Records,
     deep: u64,
     groups: &[Vec<u64>],
     id: &Txt,

@@ -52,5 +52,6 @@ pub mod nodes;
 pub mod paths;
 pub mod printing;
 pub mod record;
+pub mod records;
 pub mod removal;
 pub mod seeking;

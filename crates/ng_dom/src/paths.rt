@@ -6,9 +6,9 @@ ghost use Rattle.ng_dom.specs.Paths.{under, way, way_groups};
 ghost use Rattle.ng_dom.specs.declared.paths.Way.TheVariants.{Reached};
 
 use crate::record::{Content, Record};
+use crate::records::Records;
 use ng_base::path::Path;
 use std::alloc::{AllocError, Global};
-use std::collections::BTreeMap;
 
 /// The numbers on the way up from a node that was found; or the place after all nodes that were passed.
 #[derive(Drop)]
@@ -53,7 +53,7 @@ fn under(i: u32, inside: Way) -> Result<Way, AllocError>
 #[tactic(auto, using(crate::proofs::Ways::way_steps))]
 #[cycle(way)]
 fn way_node(
-    nodes: &BTreeMap<u64, Record>,
+    nodes: &Records,
     alloc: Global,
     deep: u64,
     n: u64,
@@ -65,7 +65,7 @@ fn way_node(
     if deep == 0 {
         return Ok(Way::Passed(i));
     }
-    match nodes.get(&m) {
+    match nodes.get(m) {
         None => Ok(Way::Passed(i)),
         Some(node) => way_content(nodes, alloc, deep - 1, n, i, m, &node.content),
     }
@@ -74,7 +74,7 @@ fn way_node(
 #[tactic(auto, using(crate::proofs::Ways::way_steps))]
 #[cycle(way)]
 fn way_content(
-    nodes: &BTreeMap<u64, Record>,
+    nodes: &Records,
     alloc: Global,
     deep: u64,
     n: u64,
@@ -105,7 +105,7 @@ fn way_content(
 #[tactic(auto, using(crate::proofs::Ways::way_steps))]
 #[cycle(way)]
 pub fn way_all(
-    nodes: &BTreeMap<u64, Record>,
+    nodes: &Records,
     alloc: Global,
     deep: u64,
     n: u64,
@@ -127,7 +127,7 @@ pub fn way_all(
 #[tactic(auto, using(crate::proofs::Ways::way_steps))]
 #[cycle(way)]
 fn way_groups(
-    nodes: &BTreeMap<u64, Record>,
+    nodes: &Records,
     alloc: Global,
     deep: u64,
     n: u64,

@@ -7,6 +7,7 @@ ghost use Rattle.ng_dom.specs.Walks.{told, told_all, told_groups, told_shape};
 ghost use Rattle.ng_dom.specs.Kept.{rooms_of, shape_kept};
 
 use crate::record::{Content, Record};
+use crate::records::Records;
 use ng_base::txt::Txt;
 use ng_html::attrs::Attrs;
 use ng_html::forest::{Forest, Node, comment_node, element_node, text_node};
@@ -37,7 +38,7 @@ fn push(into: &mut Forest, n: Node) -> Result<(), AllocError>
 #[tactic(auto, using(crate::proofs::Telling::tell_steps))]
 #[cycle(told)]
 pub fn add_node(
-    nodes: &BTreeMap<u64, Record>,
+    nodes: &Records,
     alloc: Global,
     deep: u64,
     n: u64,
@@ -48,7 +49,7 @@ pub fn add_node(
     if deep == 0 {
         return Ok(());
     }
-    match nodes.get(&n) {
+    match nodes.get(n) {
         None => Ok(()),
         Some(node) => add_content(nodes, alloc, deep - 1, &node.content, into),
     }
@@ -57,7 +58,7 @@ pub fn add_node(
 #[tactic(auto, using(crate::proofs::Telling::tell_steps))]
 #[cycle(told)]
 fn add_content(
-    nodes: &BTreeMap<u64, Record>,
+    nodes: &Records,
     alloc: Global,
     deep: u64,
     content: &Content,
@@ -91,7 +92,7 @@ fn add_content(
 #[tactic(auto, using(crate::proofs::Telling::tell_steps))]
 #[cycle(told)]
 pub fn add_all(
-    nodes: &BTreeMap<u64, Record>,
+    nodes: &Records,
     alloc: Global,
     deep: u64,
     names: &[u64],
@@ -108,7 +109,7 @@ pub fn add_all(
 #[tactic(auto, using(crate::proofs::Telling::tell_steps))]
 #[cycle(told)]
 fn add_groups(
-    nodes: &BTreeMap<u64, Record>,
+    nodes: &Records,
     alloc: Global,
     deep: u64,
     groups: &[Vec<u64>],

@@ -1,20 +1,20 @@
 //! Takes nodes away for good, with all that they hold.
 ghost use Rattle.std.specs.Prelude.{◌≡◌, ◌++◌, ◌∷◌, [], ◌+◌, ◌*◌, ◌^◌, ◌≤◌, ℕ, List, map, vec_len, OnOk};
-ghost use Rattle.std.specs.BTreeMap.{btree_map_len};
+ghost use Rattle.ng_dom.specs.Records.{live_in};
 ghost use Rattle.ng_dom.specs.Rooms.{Rooms};
 ghost use Rattle.ng_dom.specs.Removal.{Takes, Taking, one_if, chosen, chosen_groups, chosen_held, is_under};
 ghost use Rattle.ng_dom.specs.Kept.{rooms_of, shape_kept, Loses};
 
 use crate::nodes::take;
 use crate::record::{Content, Record};
+use crate::records::Records;
 use std::alloc::AllocError;
-use std::collections::BTreeMap;
 
 /// Whether a node is live and has this parent.
-fn is_under(nodes: &BTreeMap<u64, Record>, parent: u64, n: u64) -> bool
+fn is_under(nodes: &Records, parent: u64, n: u64) -> bool
     ensures { result ≡ is_under (rooms_of nodes.now) parent n }
 {
-    match nodes.get(&n) {
+    match nodes.get(n) {
         None => false,
         Some(node) => match node.parent {
             None => false,
@@ -25,7 +25,7 @@ fn is_under(nodes: &BTreeMap<u64, Record>, parent: u64, n: u64) -> bool
 
 /// A name that is under a parent is to be taken too.
 fn push_one(
-    nodes: &BTreeMap<u64, Record>,
+    nodes: &Records,
     left: &mut Vec<u64>,
     parent: u64,
     n: u64,
@@ -40,7 +40,7 @@ fn push_one(
 
 /// Those of some names that are under a parent are to be taken too.
 fn push_under(
-    nodes: &BTreeMap<u64, Record>,
+    nodes: &Records,
     left: &mut Vec<u64>,
     parent: u64,
     names: &[u64],
@@ -54,7 +54,7 @@ fn push_under(
 }
 
 fn push_groups(
-    nodes: &BTreeMap<u64, Record>,
+    nodes: &Records,
     left: &mut Vec<u64>,
     parent: u64,
     groups: &[Vec<u64>],
@@ -69,7 +69,7 @@ fn push_groups(
 
 /// What a node that is gone held is to be taken too.
 fn push_held(
-    nodes: &BTreeMap<u64, Record>,
+    nodes: &Records,
     left: &mut Vec<u64>,
     parent: u64,
     content: &Content,
@@ -86,13 +86,13 @@ fn push_held(
 
 /// Takes one node away, if it is there.
 fn take_one(
-    nodes: &mut BTreeMap<u64, Record>,
+    nodes: &mut Records,
     left: &mut Vec<u64>,
     n: u64,
 ) -> Result<(), AllocError>
     ensures taken { OnOk result ((names : List ℕ) (r : Rooms) → Taking names r (rooms_of nodes.old) (left.old.items ++ n ∷ []) → Taking names r (rooms_of nodes.new) left.new.items) }
     ensures loses { Loses nodes.old nodes.new }
-    ensures less { OnOk result (2 ^ 64 * btree_map_len nodes.new + vec_len left.new ≤ 2 ^ 64 * btree_map_len nodes.old + vec_len left.old) }
+    ensures less { OnOk result (2 ^ 64 * live_in nodes.new + vec_len left.new ≤ 2 ^ 64 * live_in nodes.old + vec_len left.old) }
 {
     match take(nodes, n) {
         None => Ok(()),
@@ -101,7 +101,7 @@ fn take_one(
 }
 
 /// Takes these nodes away, each with all that it holds. It costs what it takes.
-pub fn take_away(nodes: &mut BTreeMap<u64, Record>, names: Vec<u64>) -> Result<(), AllocError>
+pub fn take_away(nodes: &mut Records, names: Vec<u64>) -> Result<(), AllocError>
     ensures takes { OnOk result (Takes names.items (rooms_of nodes.old) (rooms_of nodes.new)) }
     ensures loses { Loses nodes.old nodes.new }
 {

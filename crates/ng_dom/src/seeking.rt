@@ -7,7 +7,7 @@ ghost use Rattle.ng_dom.specs.Nodes.{NamedNode, named_anchor, name_of};
 ghost use Rattle.ng_dom.specs.Kept.{rooms_of, shape_kept};
 
 use crate::record::{Content, Record};
-use std::collections::BTreeMap;
+use crate::records::Records;
 
 /// A node that was found, with the places that were left; or the places that are left once all were passed.
 #[derive(Clone, Copy, Drop)]
@@ -43,7 +43,7 @@ fn seek_one(until: Option<u64>, left: u32, n: u64) -> Sought
 #[tactic(auto, using(crate::proofs::Levels::seek_steps))]
 #[cycle(sought)]
 fn seek_node(
-    nodes: &BTreeMap<u64, Record>,
+    nodes: &Records,
     deep: u64,
     until: Option<u64>,
     left: u32,
@@ -54,7 +54,7 @@ fn seek_node(
     if deep == 0 {
         return Sought::Left(left);
     }
-    match nodes.get(&n) {
+    match nodes.get(n) {
         None => Sought::Left(left),
         Some(node) => seek_content(nodes, deep - 1, until, left, n, &node.content),
     }
@@ -63,7 +63,7 @@ fn seek_node(
 #[tactic(auto, using(crate::proofs::Levels::seek_steps))]
 #[cycle(sought)]
 fn seek_content(
-    nodes: &BTreeMap<u64, Record>,
+    nodes: &Records,
     deep: u64,
     until: Option<u64>,
     left: u32,
@@ -83,7 +83,7 @@ fn seek_content(
 /// An anchor is met, and then what its groups hold.
 #[cycle(sought)]
 fn seek_anchor(
-    nodes: &BTreeMap<u64, Record>,
+    nodes: &Records,
     deep: u64,
     until: Option<u64>,
     left: u32,
@@ -102,7 +102,7 @@ fn seek_anchor(
 #[tactic(auto, using(crate::proofs::Levels::seek_steps))]
 #[cycle(sought)]
 pub fn seek_all(
-    nodes: &BTreeMap<u64, Record>,
+    nodes: &Records,
     deep: u64,
     until: Option<u64>,
     left: u32,
@@ -123,7 +123,7 @@ pub fn seek_all(
 #[tactic(auto, using(crate::proofs::Levels::seek_steps))]
 #[cycle(sought)]
 fn seek_groups(
-    nodes: &BTreeMap<u64, Record>,
+    nodes: &Records,
     deep: u64,
     until: Option<u64>,
     left: u32,
@@ -143,7 +143,7 @@ fn seek_groups(
 
 /// Looks among what is printed inside a node.
 pub fn seek_kids(
-    nodes: &BTreeMap<u64, Record>,
+    nodes: &Records,
     deep: u64,
     until: Option<u64>,
     left: u32,
@@ -151,14 +151,14 @@ pub fn seek_kids(
 ) -> Sought
     ensures { result ≡ seek until left (level (read_all (read deep (rooms_of nodes.now)) (kids_in (rooms_of nodes.now n)))) }
 {
-    match nodes.get(&n) {
+    match nodes.get(n) {
         None => Sought::Left(left),
         Some(node) => seek_inside(nodes, deep, until, left, &node.content),
     }
 }
 
 fn seek_inside(
-    nodes: &BTreeMap<u64, Record>,
+    nodes: &Records,
     deep: u64,
     until: Option<u64>,
     left: u32,

@@ -18,5 +18,5 @@ way_node-returns-in-Some t c =
     let nodes = c.args.nodes.now in
     let x = c.in-Some.node.now in
     let deep : suc (c.args.deep - 1) ≡ c.args.deep = omega (arith, c.if-deep-eq0.false) in
-    let below = ap (λ (k : ℕ). read k (rooms_of nodes) c.args.m) (sym deep) ∙ read_kept nodes (c.args.deep - 1) c.args.m x c.in-Some.ensures.value in
+    let below = ap (λ (k : ℕ). read k (rooms_of nodes) c.args.m) (sym deep) ∙ read_kept nodes (c.args.deep - 1) c.args.m x c.in-Some.ensures in
     subst (λ (g : NamedForest). IfOk c.way_content.result (λ w. w ≡ way c.args.n c.args.i g)) (sym below) c.way_content.ensures

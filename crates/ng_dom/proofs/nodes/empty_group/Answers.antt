@@ -1,0 +1,5 @@
+use Rattle.ng_dom.proofs.Touching.{same_set}
+use Rattle.ng_dom.proofs.nodes.empty_group.Goals as goal
+
+pub returns-in-Some-clause-same : goal.returns-in-Some-clause-same
+returns-in-Some-clause-same c = same_set c.args.nodes.now c.args.anchor c.in-Some.node.now c.empty_group.new.node c.in-Some.ensures.value c.empty_group.ensures.home
