@@ -2,7 +2,7 @@
 //!
 //! A compiled template is linked to a document that lives on: a watch that fires changes one text of it or the attributes of one
 //! element, a block brings and takes nodes (guide: HTML Compiler, "How directives are compiled"). [`dom::Dom`] keeps the nodes in
-//! one map by name, and a name is never given twice. A text or comment has its text, an element its attributes in order of their
+//! one table by name ([`records::Records`]), and a name is never given twice. A text or comment has its text, an element its attributes in order of their
 //! names and its children by name, and an anchor, which stands for a block, the groups of nodes that the block brought, one for
 //! each body or row. With each node stands what it is drawn from: plain words, and for what is watched the key of its watcher.
 //!
@@ -43,6 +43,7 @@
 #![tactic(auto)]
 
 pub mod ancestors;
+pub mod asking;
 pub mod dom;
 pub mod edits;
 pub mod fault;

@@ -1,4 +1,4 @@
-//! The nodes by name.
+//! Changes of one node of the table.
 ghost use Rattle.std.specs.Prelude.{◌≡◌, ◌≤◌, ◌+◌, [], option_map, ℕ, ◌==◌, is_some, Some, None, OnOk, OnErr, IfOk, if◌then◌else◌};
 ghost use Rattle.ng_dom.specs.Records.{node_at, live_in};
 ghost use Rattle.ng_dom.specs.Lists.{put_at, without_at, list_at, lists_at, moved_to, filled_with, emptied_at};

@@ -77,6 +77,7 @@ impl Run {
     }
 
     /// The quotient of its names.
+    #[inline(always)]
     fn number(&self) -> u64
         ensures { result ≡ self.now.0 }
     {
@@ -84,6 +85,7 @@ impl Run {
     }
 
     /// Its rows.
+    #[inline(always)]
     fn rows(&self) -> &[(u64, Record)]
         ensures { result.now ≡ self.now.1 }
     {
@@ -91,6 +93,7 @@ impl Run {
     }
 
     /// A node is put after the others.
+    #[inline(always)]
     fn push(&mut self, n: u64, node: Record) -> Result<(), AllocError>
         ensures ok { OnOk result (self.new ≡ (self.old.0, self.old.1 ++ (n, node) ∷ [])) }
         ensures err { OnErr result (self.new ≡ self.old) }
@@ -114,6 +117,7 @@ impl Run {
     }
 
     /// The node of a row, to be changed.
+    #[inline(always)]
     fn node_mut(&mut self, row: usize) -> &mut Record
         requires { row < length self.old.1 }
         ensures* writes_back { sem 𝓛 (LendsRow self.entry row result) }
@@ -124,12 +128,14 @@ impl Run {
 }
 
 /// Where a name stands if nothing was taken out, of so many rows or runs.
+#[inline(always)]
 fn guess(n: u64, len: usize) -> usize {
     let last = len.saturating_sub(1);
     if n < last as u64 { n as usize } else { last }
 }
 
 /// The run of a number.
+#[inline(always)]
 fn run_of(runs: &[Run], number: u64) -> Option<usize>
     requires { Rises runs.now }
     ensures there { IfSome result (λ i. name_in (slice_get runs.now i) ≡ Some number) }
@@ -157,6 +163,7 @@ fn search_runs(runs: &[Run], number: u64) -> Option<usize>
 }
 
 /// The row of a name.
+#[inline(always)]
 fn row_of(rows: &[(u64, Record)], n: u64) -> Option<usize>
     requires { Rises rows.now }
     ensures there { IfSome result (λ i. name_in (slice_get rows.now i) ≡ Some n) }
@@ -184,6 +191,7 @@ fn search_rows(rows: &[(u64, Record)], n: u64) -> Option<usize>
 }
 
 /// Where the node of a name stands.
+#[inline]
 fn find(runs: &[Run], n: u64) -> Option<Place>
     requires rises { Rises runs.now }
     requires runs { AreRuns runs.now }
@@ -196,6 +204,7 @@ fn find(runs: &[Run], n: u64) -> Option<Place>
 }
 
 /// The node of a place.
+#[inline(always)]
 fn node_of(runs: &[Run], at: Place) -> &Record
     requires { IsSome (row_at runs.now at.run at.row) }
     ensures { option_map (λ e. e.1) (row_at runs.now at.run at.row) ≡ Some result.now }
@@ -204,6 +213,7 @@ fn node_of(runs: &[Run], at: Place) -> &Record
 }
 
 /// A node is put after all others.
+#[inline(always)]
 fn put_last(runs: &mut Vec<Run>, alloc: Global, n: u64, node: Record) -> Result<(), AllocError>
     ensures ok { OnOk result (runs.new.items ≡ row_pushed n node runs.old.items) }
     ensures err { OnErr result (runs.new.items ≡ runs.old.items) }
@@ -270,6 +280,7 @@ impl Records {
     }
 
     /// The node of a place, to be changed.
+    #[inline(always)]
     fn node_mut(&mut self, at: Place) -> &mut Record
         requires { IsSome (row_at self.old at.run at.row) }
         ensures* writes_back { sem 𝓛 (LendsAt self.entry at.run at.row result) }
