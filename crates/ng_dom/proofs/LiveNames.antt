@@ -1,6 +1,6 @@
 -- The names of the nodes of a table: they differ, and are as many as the nodes.
-use Rattle.std.proofs.Common.{◌≡◌, ◌<◌, ◌+◌, ℕ, Bool, true, false, List, [], ◌∷◌, ◌++◌, Option, Some, None, refl, ap, sym, subst, ◌∙◌, length, cond, arith, is_some, length-append}
-use Rattle.std.specs.Prelude.{◌==◌, ◌||◌, ◌⊎◌, nat_eq}
+use Rattle.std.proofs.Common.{◌≡◌, ◌<◌, ℕ, Bool, true, false, List, [], ◌∷◌, ◌++◌, Some, refl, ap, sym, subst, ◌∙◌, length, cond, arith, is_some, length-append}
+use Rattle.std.specs.Prelude.{◌==◌, ◌||◌, nat_eq}
 use Rattle.std.specs.List.{AllByRecursion, IsDistinct}
 use Rattle.std.specs.Map.{keys_of}
 use Rattle.std.specs.Set.{is_member}

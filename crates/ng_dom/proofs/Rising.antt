@@ -1,5 +1,5 @@
 -- Lists in order of their numbers, and what stands under a number.
-use Rattle.std.proofs.Common.{◌≡◌, ◌<◌, ◌≤◌, ◌+◌, ℕ, suc, zero, Bool, true, false, List, [], ◌∷◌, ◌++◌, Option, Some, None, refl, ap, sym, subst, ◌∙◌, length, get_or, cond, arith}
+use Rattle.std.proofs.Common.{◌≡◌, ◌<◌, ◌≤◌, ◌+◌, ℕ, suc, zero, Bool, true, false, List, [], ◌∷◌, ◌++◌, Some, None, refl, ap, sym, subst, ◌∙◌, length, get_or, cond, arith}
 use Rattle.std.specs.Prelude.{◌==◌, nat_lt, is_some, slice_get, slice_set}
 use Rattle.std.specs.List.{AllByRecursion, AllWithin, remove}
 use Rattle.std.specs.List.Sorted.{IsNonDecreasingBy}
@@ -50,10 +50,13 @@ under_here (d ∷ es) (suc i) n e r g s =
 
 -- ---- a change at a place
 
-pub row_set_is : {X : Type 0} (es : List (ℕ × X)) (i : ℕ) (d : ℕ × X) (x : X) → row_set es i x ≡ slice_set es i ((get_or es i d).0, x)
+row_set_is : {X : Type 0} (es : List (ℕ × X)) (i : ℕ) (d : ℕ × X) (x : X) → row_set es i x ≡ slice_set es i ((get_or es i d).0, x)
 row_set_is [] i d x = refl
 row_set_is (e ∷ es) zero d x = refl
 row_set_is (e ∷ es) (suc i) d x = ap (λ ys. e ∷ ys) (row_set_is es i d x)
+
+pub row_written : {X : Type 0} (es : List (ℕ × X)) (i : ℕ) (e : ℕ × X) (x : X) → e ≡ get_or es i e → slice_set es i (e.0, x) ≡ row_set es i x
+row_written {X} es i e x is = ap (λ (d : ℕ × X). slice_set es i (d.0, x)) is ∙ sym (row_set_is es i e x)
 
 pub value_set_is : {X : Type 0} (es : List (ℕ × X)) (i n : ℕ) (e : ℕ × X) (x : X) → Rises es → slice_get es i ≡ Some e → e.0 ≡ n → set_value (λ k. n == k) es x ≡ row_set es i x
 value_set_is [] i n e x r g s = absurd (cc)

@@ -1,5 +1,5 @@
 -- The nodes by name, in runs.
-use Rattle.std.proofs.Common.{◌≡◌, ◌<◌, ◌≤◌, ◌+◌, ◌*◌, ◌/◌, ◌%◌, ◌-◌, ℕ, suc, zero, Bool, true, false, List, [], ◌∷◌, ◌++◌, Option, Some, None, Result, Ok, Err, refl, ap, sym, subst, ◌∙◌, length, get_or, cond, arith, is_some, option_map}
+use Rattle.std.proofs.Common.{◌≡◌, ◌<◌, ◌≤◌, ◌+◌, ◌/◌, ◌-◌, ℕ, suc, zero, Bool, true, false, List, [], ◌∷◌, ◌++◌, Option, Some, None, Result, Ok, Err, refl, ap, sym, subst, ◌∙◌, length, get_or, cond, arith, is_some, option_map}
 use Rattle.std.specs.Prelude.{◌==◌, slice_get, slice_set, if◌then◌else◌, IsSome, OnOk}
 use Rattle.std.specs.List.{AllByRecursion, remove}
 use Rattle.std.specs.Map.{set_value}
@@ -8,7 +8,7 @@ use Rattle.std.proofs.lemmas.Bool.{eqb-true, eq-eqb, ne_eqb}
 use Rattle.std.proofs.lemmas.Nat.{div-add-mod', le-div}
 use Rattle.ng_dom.specs.Records.{Rows, Runs, number_of, under, or_none, rows_of, node_at, node_set, live_in, AllAbove, AllBelow, Rises, IsRun, AreRuns, IsKept, name_in, row_in, row_at, row_set, run_set, run_left, row_gone, row_pushed}
 use Rattle.ng_dom.specs.declared.record.Record.{Record}
-use Rattle.ng_dom.proofs.Rising.{all_get, get_is, above_none, above_more, below_none, under_here, row_set_is, value_set_is, all_set, rises_set, length_set, under_set, all_removed, rises_removed, length_removed, under_removed, all_pushed, rises_pushed, length_pushed, under_pushed, below_all}
+use Rattle.ng_dom.proofs.Rising.{all_get, get_is, above_none, under_here, value_set_is, all_set, rises_set, length_set, under_set, all_removed, rises_removed, length_removed, under_removed, all_pushed, rises_pushed, length_pushed, under_pushed, below_all}
 
 -- ---- numbers of runs
 

@@ -11,7 +11,6 @@ use Rattle.ng_dom.specs.Kept.{rooms_of}
 use Rattle.ng_dom.specs.Printed.{level_node, level, level_groups, inner, nth_of, went, at_place, followed, IsRead, seek, found, plain_node_of, nodes_of, inside_plain, plain_went}
 use Rattle.ng_dom.specs.Laws.{PlacesArePrinted}
 use Rattle.ng_dom.specs.declared.seeking.Sought.TheVariants.{Found, Left}
-use Rattle.ng_dom.specs.declared.record.Record.{Record}
 use Rattle.ng_dom.proofs.Adding.{room_below}
 use Rattle.ng_dom.proofs.WithId.{read_forest, read_top}
 

@@ -6,7 +6,6 @@ use Rattle.ng_dom.specs.Nodes.{NamedNode, NamedForest, NamedGroups, named_text, 
 use Rattle.ng_dom.specs.Rooms.{Rooms, shape_of, HasRoom, ReadsInside, ReadsIn, ReadsGroups}
 use Rattle.std.specs.Prelude.{is_some, false}
 use Rattle.ng_dom.specs.Kept.{rooms_of}
-use Rattle.ng_dom.specs.declared.record.Record.{Record}
 use Rattle.ng_dom.proofs.Adding.{room_below}
 use Rattle.ng_dom.specs.Walks.{told, told_all, told_groups, told_shape, told_room}
 

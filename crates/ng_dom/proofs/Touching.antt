@@ -1,13 +1,12 @@
 -- Another node under a name, as the table of rooms has it.
-use Rattle.std.proofs.Common.{◌≡◌, ◌≤◌, ◌+◌, ℕ, Bool, true, false, Option, Some, None, Result, Ok, Err, refl, ap, sym, ◌∙◌, cond, is_some, option_map}
+use Rattle.std.proofs.Common.{◌≡◌, ◌≤◌, ℕ, Bool, true, false, Option, Some, None, Result, Ok, Err, refl, ap, sym, ◌∙◌, cond, is_some, option_map}
 use Rattle.std.specs.Prelude.{◌==◌, OnErr}
 use Rattle.std.proofs.lemmas.Bool.{eqb-true}
 use Rattle.ng_dom.specs.Rooms.{Shape, reshaped, room_changed, room_added}
 use Rattle.ng_dom.specs.Removal.{room_gone}
-use Rattle.ng_dom.specs.Records.{Runs, node_at, node_set, live_in}
+use Rattle.ng_dom.specs.Records.{Runs, node_at, node_set}
 use Rattle.ng_dom.specs.Kept.{room_kept, rooms_of, homes_of, SameNodes}
 use Rattle.ng_dom.specs.declared.record.Record.{Record}
-use Rattle.ng_dom.specs.declared.record.Home.{Home}
 use Rattle.ng_dom.proofs.Runs.{node_at-set, live-set}
 
 -- what is seen of each node

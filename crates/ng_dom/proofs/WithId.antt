@@ -7,7 +7,6 @@ use Rattle.ng_dom.specs.Rooms.{Rooms, shape_of, HasRoom, ReadsInside, ReadsIn, R
 use Rattle.ng_dom.specs.Asked.{node_with_id, first_with_id, first_of_two}
 use Rattle.ng_dom.specs.Walks.{named_followed, read, read_all, read_groups, read_shape, read_room}
 use Rattle.ng_dom.specs.Kept.{rooms_of}
-use Rattle.ng_dom.specs.declared.record.Record.{Record}
 use Rattle.ng_dom.proofs.Adding.{room_below}
 
 first-assoc : (a b c : Option ℕ) → first_of_two (first_of_two a b) c ≡ first_of_two a (first_of_two b c)

@@ -4,7 +4,6 @@ ghost use Rattle.ng_dom.specs.Ancestors.{parent_in, if_element, outer_line};
 ghost use Rattle.ng_dom.specs.Kept.{rooms_of};
 
 use crate::edits::is_element;
-use crate::record::Record;
 use crate::records::Records;
 use std::alloc::{AllocError, Global};
 
@@ -34,12 +33,7 @@ fn add_element(line: &mut Vec<u64>, nodes: &Records, m: u64) -> Result<(), Alloc
 }
 
 /// A name, and then the elements above it, so many steps up at the most.
-pub fn line_up(
-    nodes: &Records,
-    alloc: Global,
-    steps: u64,
-    n: u64,
-) -> Result<Vec<u64>, AllocError>
+pub fn line_up(nodes: &Records, alloc: Global, steps: u64, n: u64) -> Result<Vec<u64>, AllocError>
     ensures { IfOk result (λ l. l.items ≡ n ∷ outer_line steps (rooms_of nodes.now) (parent_in (rooms_of nodes.now) n)) }
 {
     let mut line = Vec::new(alloc);

@@ -4,7 +4,7 @@ ghost use Rattle.ng_dom.specs.Asked.{has_id, first_with_id, group_with_id};
 ghost use Rattle.ng_dom.specs.Walks.{read, read_all, read_groups, read_shape};
 ghost use Rattle.ng_dom.specs.Kept.{rooms_of, shape_kept};
 
-use crate::record::{Content, Record};
+use crate::record::Content;
 use crate::records::Records;
 use ng_base::txt::Txt;
 use std::collections::BTreeMap;
@@ -38,13 +38,7 @@ fn find_node(nodes: &Records, deep: u64, n: u64, id: &Txt) -> Option<u64>
 
 #[tactic(auto, using(crate::proofs::WithId::find_steps))]
 #[cycle(found)]
-fn find_content(
-    nodes: &Records,
-    deep: u64,
-    n: u64,
-    content: &Content,
-    id: &Txt,
-) -> Option<u64>
+fn find_content(nodes: &Records, deep: u64, n: u64, content: &Content, id: &Txt) -> Option<u64>
     ensures { result ≡ first_with_id id.now (read_shape (read deep (rooms_of nodes.now)) n (shape_kept content.now)) }
 {
     match content {
@@ -81,12 +75,7 @@ pub fn find_all(nodes: &Records, deep: u64, names: &[u64], id: &Txt) -> Option<u
 
 #[tactic(auto, using(crate::proofs::WithId::find_steps))]
 #[cycle(found)]
-fn find_groups(
-    nodes: &Records,
-    deep: u64,
-    groups: &[Vec<u64>],
-    id: &Txt,
-) -> Option<u64>
+fn find_groups(nodes: &Records, deep: u64, groups: &[Vec<u64>], id: &Txt) -> Option<u64>
     ensures { result ≡ group_with_id id.now (read_groups (read deep (rooms_of nodes.now)) (map (λ g. g.items) groups.now)) }
 {
     for group in groups {

@@ -51,12 +51,7 @@ pub fn tell(nodes: &mut Records, n: u64, t: Txt)
 
 /// An element has an attribute of this value.
 #[tactic(auto, using(crate::proofs::Touching::rooms_set, crate::proofs::Touching::rooms_missed, crate::proofs::Touching::same_nodes))]
-pub fn set_attribute(
-    nodes: &mut Records,
-    n: u64,
-    name: &Txt,
-    v: Txt,
-) -> Result<(), AllocError>
+pub fn set_attribute(nodes: &mut Records, n: u64, name: &Txt, v: Txt) -> Result<(), AllocError>
     ensures rooms { OnOk result ((q : ℕ) → rooms_of nodes.new q ≡ room_changed n (shape_with_attributes (attribute_set name.now v)) (rooms_of nodes.old) q) }
     ensures same { SameNodes nodes.old nodes.new }
 {
@@ -92,12 +87,7 @@ pub fn drop_attribute(nodes: &mut Records, n: u64, name: &Txt)
 
 /// An element has one child more.
 #[tactic(auto, using(crate::proofs::Touching::rooms_set, crate::proofs::Touching::rooms_missed, crate::proofs::Touching::same_nodes))]
-pub fn put_kid(
-    nodes: &mut Records,
-    parent: u64,
-    i: usize,
-    n: u64,
-) -> Result<(), AllocError>
+pub fn put_kid(nodes: &mut Records, parent: u64, i: usize, n: u64) -> Result<(), AllocError>
     ensures rooms { OnOk result ((q : ℕ) → rooms_of nodes.new q ≡ room_changed parent (shape_with_kids (put_at i n)) (rooms_of nodes.old) q) }
     ensures same { SameNodes nodes.old nodes.new }
     ensures err { OnErr result ((q : ℕ) → rooms_of nodes.new q ≡ rooms_of nodes.old q) }
@@ -156,12 +146,7 @@ pub fn pick_groups(
 
 /// A child is put before the i-th of the others.
 #[tactic(auto, using(crate::proofs::Touching::rooms_set, crate::proofs::Touching::rooms_missed, crate::proofs::Touching::same_nodes))]
-pub fn move_kid(
-    nodes: &mut Records,
-    parent: u64,
-    n: u64,
-    i: usize,
-) -> Result<(), AllocError>
+pub fn move_kid(nodes: &mut Records, parent: u64, n: u64, i: usize) -> Result<(), AllocError>
     ensures rooms { OnOk result ((q : ℕ) → rooms_of nodes.new q ≡ room_changed parent (shape_with_kids (moved_to i n)) (rooms_of nodes.old) q) }
     ensures same { SameNodes nodes.old nodes.new }
 {
@@ -183,12 +168,7 @@ pub fn parent_of(nodes: &Records, n: u64) -> Option<Option<u64>>
 
 /// A name is taken out of what its parent holds.
 #[tactic(auto, using(crate::proofs::Touching::rooms_set, crate::proofs::Touching::rooms_missed, crate::proofs::Touching::same_nodes))]
-pub fn cut_name(
-    nodes: &mut Records,
-    alloc: Global,
-    parent: u64,
-    n: u64,
-) -> Result<(), AllocError>
+pub fn cut_name(nodes: &mut Records, alloc: Global, parent: u64, n: u64) -> Result<(), AllocError>
     ensures rooms { OnOk result ((q : ℕ) → rooms_of nodes.new q ≡ room_changed parent (shape_without n) (rooms_of nodes.old) q) }
     ensures same { SameNodes nodes.old nodes.new }
 {
@@ -212,12 +192,7 @@ pub fn fill(nodes: &mut Records, n: u64, kids: Vec<u64>)
 
 /// The i-th group of an anchor is handed out, and stands empty.
 #[tactic(auto, using(crate::proofs::Touching::rooms_set, crate::proofs::Touching::rooms_missed, crate::proofs::Touching::same_nodes))]
-pub fn empty_group(
-    nodes: &mut Records,
-    alloc: Global,
-    anchor: u64,
-    i: usize,
-) -> Vec<u64>
+pub fn empty_group(nodes: &mut Records, alloc: Global, anchor: u64, i: usize) -> Vec<u64>
     ensures rooms { (q : ℕ) → rooms_of nodes.new q ≡ room_changed anchor (shape_with_groups (emptied_at i)) (rooms_of nodes.old) q }
     ensures group { result.items ≡ list_at i (groups_in (rooms_of nodes.old anchor)) }
     ensures same { SameNodes nodes.old nodes.new }

@@ -5,7 +5,7 @@ ghost use Rattle.ng_dom.specs.Kept.{rooms_of, shape_kept};
 ghost use Rattle.ng_dom.specs.Paths.{under, way, way_groups};
 ghost use Rattle.ng_dom.specs.declared.paths.Way.TheVariants.{Reached};
 
-use crate::record::{Content, Record};
+use crate::record::Content;
 use crate::records::Records;
 use ng_base::path::Path;
 use std::alloc::{AllocError, Global};

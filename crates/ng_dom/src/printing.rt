@@ -6,7 +6,7 @@ ghost use Rattle.ng_dom.specs.Nodes.{followed_by};
 ghost use Rattle.ng_dom.specs.Walks.{told, told_all, told_groups, told_shape};
 ghost use Rattle.ng_dom.specs.Kept.{rooms_of, shape_kept};
 
-use crate::record::{Content, Record};
+use crate::record::Content;
 use crate::records::Records;
 use ng_base::txt::Txt;
 use ng_html::attrs::Attrs;

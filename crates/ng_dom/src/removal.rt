@@ -6,7 +6,7 @@ ghost use Rattle.ng_dom.specs.Removal.{Takes, Taking, one_if, chosen, chosen_gro
 ghost use Rattle.ng_dom.specs.Kept.{rooms_of, shape_kept, Loses};
 
 use crate::nodes::take;
-use crate::record::{Content, Record};
+use crate::record::Content;
 use crate::records::Records;
 use std::alloc::AllocError;
 
@@ -24,12 +24,7 @@ fn is_under(nodes: &Records, parent: u64, n: u64) -> bool
 }
 
 /// A name that is under a parent is to be taken too.
-fn push_one(
-    nodes: &Records,
-    left: &mut Vec<u64>,
-    parent: u64,
-    n: u64,
-) -> Result<(), AllocError>
+fn push_one(nodes: &Records, left: &mut Vec<u64>, parent: u64, n: u64) -> Result<(), AllocError>
     ensures { OnOk result (left.new.items ≡ left.old.items ++ one_if (is_under (rooms_of nodes.now) parent n) n) }
 {
     if is_under(nodes, parent, n) {
@@ -85,11 +80,7 @@ fn push_held(
 }
 
 /// Takes one node away, if it is there.
-fn take_one(
-    nodes: &mut Records,
-    left: &mut Vec<u64>,
-    n: u64,
-) -> Result<(), AllocError>
+fn take_one(nodes: &mut Records, left: &mut Vec<u64>, n: u64) -> Result<(), AllocError>
     ensures taken { OnOk result ((names : List ℕ) (r : Rooms) → Taking names r (rooms_of nodes.old) (left.old.items ++ n ∷ []) → Taking names r (rooms_of nodes.new) left.new.items) }
     ensures loses { Loses nodes.old nodes.new }
     ensures less { OnOk result (2 ^ 64 * live_in nodes.new + vec_len left.new ≤ 2 ^ 64 * live_in nodes.old + vec_len left.old) }

@@ -6,7 +6,7 @@ ghost use Rattle.ng_dom.specs.Walks.{read, read_all, read_groups, read_shape};
 ghost use Rattle.ng_dom.specs.Nodes.{NamedNode, named_anchor, name_of};
 ghost use Rattle.ng_dom.specs.Kept.{rooms_of, shape_kept};
 
-use crate::record::{Content, Record};
+use crate::record::Content;
 use crate::records::Records;
 
 /// A node that was found, with the places that were left; or the places that are left once all were passed.
@@ -42,13 +42,7 @@ fn seek_one(until: Option<u64>, left: u32, n: u64) -> Sought
 /// Looks below a name, so many levels of groups deep.
 #[tactic(auto, using(crate::proofs::Levels::seek_steps))]
 #[cycle(sought)]
-fn seek_node(
-    nodes: &Records,
-    deep: u64,
-    until: Option<u64>,
-    left: u32,
-    n: u64,
-) -> Sought
+fn seek_node(nodes: &Records, deep: u64, until: Option<u64>, left: u32, n: u64) -> Sought
     ensures { result ≡ seek until left (level (read deep (rooms_of nodes.now) n)) }
 {
     if deep == 0 {
@@ -101,13 +95,7 @@ fn seek_anchor(
 /// Looks below some names.
 #[tactic(auto, using(crate::proofs::Levels::seek_steps))]
 #[cycle(sought)]
-pub fn seek_all(
-    nodes: &Records,
-    deep: u64,
-    until: Option<u64>,
-    left: u32,
-    names: &[u64],
-) -> Sought
+pub fn seek_all(nodes: &Records, deep: u64, until: Option<u64>, left: u32, names: &[u64]) -> Sought
     ensures { result ≡ seek until left (level (read_all (read deep (rooms_of nodes.now)) names.now)) }
 {
     let mut rest = left;
@@ -142,13 +130,7 @@ fn seek_groups(
 }
 
 /// Looks among what is printed inside a node.
-pub fn seek_kids(
-    nodes: &Records,
-    deep: u64,
-    until: Option<u64>,
-    left: u32,
-    n: u64,
-) -> Sought
+pub fn seek_kids(nodes: &Records, deep: u64, until: Option<u64>, left: u32, n: u64) -> Sought
     ensures { result ≡ seek until left (level (read_all (read deep (rooms_of nodes.now)) (kids_in (rooms_of nodes.now n)))) }
 {
     match nodes.get(n) {

@@ -1,6 +1,6 @@
-use Rattle.std.proofs.Common.{refl, ap, sym, ◌∙◌, ◌≡◌, ◌+◌, ◌-◌, ◌/◌, ◌++◌, ◌∷◌, [], ℕ, arith, length, get_or, Some, slice_get, slice_set}
+use Rattle.std.proofs.Common.{refl, ap, sym, ◌∙◌, ◌≡◌, ◌-◌, ◌/◌, ◌++◌, ◌∷◌, [], ℕ, arith, length, get_or, Some, slice_get, slice_set}
 use Rattle.std.proofs.lemmas.Option.{slice_get_read, get_or_from_slice_get}
-use Rattle.ng_dom.specs.Records.{Rows, Runs}
+use Rattle.ng_dom.specs.Records.{Rows}
 use Rattle.ng_dom.proofs.Runs.{pushed_in, pushed_new, on_ok}
 use Rattle.ng_dom.proofs.records.put_last.Goals as goal
 use Rattle.ng_dom.proofs.records.put_last.Goals.{else-len-gt0-via-then-len-gt0+else-number-n, else-len-gt0-via-else-len-gt0}

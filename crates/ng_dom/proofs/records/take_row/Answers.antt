@@ -1,4 +1,4 @@
-use Rattle.std.proofs.Common.{refl, ap, sym, ◌∙◌, ◌≡◌, ◌<◌, ◌==◌, ℕ, List, [], Some, true, false, length, slice_get, slice_set, option_map}
+use Rattle.std.proofs.Common.{ap, sym, ◌∙◌, ◌≡◌, ℕ, [], true, false, length, slice_set, option_map}
 use Rattle.std.specs.List.{remove}
 use Rattle.std.proofs.lemmas.Bool.{eqb-true, eq-eqb}
 use Rattle.std.proofs.lemmas.List.{get_or-set_same, nil_from_length}

@@ -1,5 +1,5 @@
-use Rattle.std.proofs.Common.{refl, ap, sym, ◌∙◌, ◌≡◌, ℕ, subst, Some, option_map}
-use Rattle.ng_dom.specs.Records.{Runs, Rows, IsKept, run_set, row_at}
+use Rattle.std.proofs.Common.{refl, ap, sym, ◌∙◌, ℕ, subst, option_map}
+use Rattle.ng_dom.specs.Records.{Runs, IsKept, run_set, row_at}
 use Rattle.ng_dom.specs.declared.record.Record.{Record}
 use Rattle.ng_dom.proofs.Runs.{place_run, run_set_is, kept_run_set, row_read}
 use Rattle.ng_dom.proofs.records.Records.node_mut.Goals as goal

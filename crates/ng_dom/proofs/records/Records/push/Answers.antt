@@ -1,4 +1,4 @@
-use Rattle.std.proofs.Common.{refl, ap, sym, ◌∙◌, ◌≡◌, ◌+◌, ◌==◌, ℕ, Some, cond, subst}
+use Rattle.std.proofs.Common.{ap, sym, ◌∙◌, ◌+◌, ◌==◌, Some, cond, subst}
 use Rattle.ng_dom.specs.Records.{Runs, IsKept, live_in, node_at}
 use Rattle.ng_dom.proofs.Runs.{kept_pushed, node_at-pushed, live_pushed}
 use Rattle.ng_dom.proofs.records.Records.push.Goals as goal

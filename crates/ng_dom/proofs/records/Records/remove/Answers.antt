@@ -1,4 +1,4 @@
-use Rattle.std.proofs.Common.{ap, sym, subst, ◌∙◌, ◌≡◌, ◌+◌, ◌-◌, ◌==◌, ℕ, None, Some, cond, arith}
+use Rattle.std.proofs.Common.{ap, sym, subst, ◌∙◌, ◌≡◌, ◌+◌, ◌-◌, ◌==◌, None, Some, cond, arith}
 use Rattle.ng_dom.specs.Records.{Runs, IsKept, live_in, node_at, name_in, row_at}
 use Rattle.ng_dom.proofs.Runs.{row_by, node_found, node_at-gone, kept_gone, live_gone}
 use Rattle.ng_dom.proofs.records.Records.remove.Goals as goal
