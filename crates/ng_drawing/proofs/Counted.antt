@@ -1,19 +1,37 @@
 -- The nodes of a drawing.
-use Rattle.std.proofs.Common.{◌≡◌, ◌+◌, refl, ap, ◌∙◌}
-use Rattle.ng_drawing.specs.Template.{Part, Contents, Parts, text_part, comment_part, element_part, children, bound, no_parts, part_then}
-use Rattle.ng_drawing.specs.Drawing.{Look, draw_part, draw_contents, draw}
-use Rattle.ng_drawing.specs.Nodes.{node_count, forest_count, part_nodes, content_nodes, nodes}
+use Rattle.std.proofs.Common.{◌≡◌, ◌+◌, ℕ, refl, ◌∙◌, arith}
+use Rattle.ng_markup.specs.Forest.{Node, Forest, no_nodes, node}
+use Rattle.ng_drawing.specs.Template.{Part, Contents, Parts, text_part, comment_part, element_part, anchor_part, children, bound, no_parts, part_then}
+use Rattle.ng_drawing.specs.Drawing.{Look, Groups, followed_by, draw_part, draw_contents, draw}
+use Rattle.ng_drawing.specs.Nodes.{node_count, forest_count, part_nodes, content_nodes, nodes, part_filled, content_filled, filled}
 
-mutual
-  drawn_node : (look : Look) (p : Part) → node_count (draw_part look p) ≡ part_nodes p
-  drawn_node look (text_part pieces) = refl
-  drawn_node look (comment_part t) = refl
-  drawn_node look (element_part name own acts attributes contents) = ap (λ k. 1 + k) (drawn_contents look contents)
+-- one forest after another has the nodes of both
+count-followed : (f g : Forest) → forest_count (followed_by f g) ≡ forest_count f + forest_count g
+count-followed no_nodes g = omega arith
+count-followed (node n f) g =
+    let h : forest_count (followed_by f g) ≡ forest_count f + forest_count g = count-followed f g in
+    omega (arith, h)
 
-  drawn_contents : (look : Look) (c : Contents) → forest_count (draw_contents look c) ≡ content_nodes c
-  drawn_contents look (children ps) = drawn_nodes look ps
-  drawn_contents look (bound n) = refl
+module _ (look : Look) (groups : Groups) where
+  abbrev count : ℕ → ℕ
+  count o = forest_count (groups o)
 
-  pub drawn_nodes : (look : Look) (ps : Parts) → forest_count (draw look ps) ≡ nodes ps
-  drawn_nodes look no_parts = refl
-  drawn_nodes look (part_then p ps) = ap (λ k. k + forest_count (draw look ps)) (drawn_node look p) ∙ ap (λ k. part_nodes p + k) (drawn_nodes look ps)
+  mutual
+    drawn_part : (p : Part) → forest_count (draw_part look groups p) ≡ part_nodes p + part_filled count p
+    drawn_part (text_part pieces) = refl
+    drawn_part (comment_part t) = refl
+    drawn_part (element_part name own acts attributes contents) =
+        let h : forest_count (draw_contents look groups contents) ≡ content_nodes contents + content_filled count contents = drawn_contents contents in
+        omega (arith, h)
+    drawn_part (anchor_part outlet own starts) = refl
+
+    drawn_contents : (c : Contents) → forest_count (draw_contents look groups c) ≡ content_nodes c + content_filled count c
+    drawn_contents (children ps) = drawn_nodes ps
+    drawn_contents (bound n) = refl
+
+    pub drawn_nodes : (ps : Parts) → forest_count (draw look groups ps) ≡ nodes ps + filled count ps
+    drawn_nodes no_parts = refl
+    drawn_nodes (part_then p ps) =
+        let h : forest_count (draw_part look groups p) ≡ part_nodes p + part_filled count p = drawn_part p in
+        let g : forest_count (draw look groups ps) ≡ nodes ps + filled count ps = drawn_nodes ps in
+        count-followed (draw_part look groups p) (draw look groups ps) ∙ omega (arith, h, g)

@@ -1,14 +1,14 @@
--- Where each site shows now what it showed when it was drawn, the drawing is the rendering.
+-- Where each site and each outlet shows now what it showed when it was drawn, the drawing is the rendering.
 use Rattle.std.proofs.Common.{◌≡◌, ℕ, List, [], ◌∷◌, refl, ap, ◌∙◌}
 use Rattle.std.specs.List.{flat_map, list_any}
 use Rattle.ng_markup.specs.Attributes.{with_value}
 use Rattle.ng_markup.specs.Forest.{Attributes}
 use Rattle.ng_drawing.specs.Looks.{kept_words}
-use Rattle.ng_drawing.specs.Template.{Piece, word, hole, Hiding, while_true, while_false, PartClass, PartValue, always, unless_empty, flag, classes, PartAttributes, Part, Contents, Parts, text_part, comment_part, element_part, children, bound, no_parts, part_then}
-use Rattle.ng_drawing.specs.Drawing.{Look, draw_piece, draw_pieces, is_hiding, draw_class, draw_value, draw_attributes, draw_part, draw_contents, draw, Now, Rendered, ◌>>-◌, shown_as, render_piece, render_pieces, render_words, render_hiding, render_hidings, render_class, render_value, render_attributes, needed, render_part, render_contents, render}
+use Rattle.ng_drawing.specs.Template.{Piece, word, hole, Hiding, while_true, while_false, PartClass, PartValue, always, unless_empty, flag, classes, PartAttributes, Part, Contents, Parts, text_part, comment_part, element_part, anchor_part, children, bound, no_parts, part_then}
+use Rattle.ng_drawing.specs.Drawing.{Look, Groups, draw_piece, draw_pieces, is_hiding, draw_class, draw_value, draw_attributes, draw_part, draw_contents, draw, Now, GroupsNow, Rendered, ◌>>-◌, shown_as, render_piece, render_pieces, render_words, render_hiding, render_hidings, render_class, render_value, render_attributes, needed, render_part, render_contents, render}
 
 -- what is known to show goes on as that
-on : {A B : Type 0} {r : Rendered A} {a : A} {c : Rendered B} (go : A → Rendered B) → r ≡ shown_as a → go a ≡ c → (r >>- go) ≡ c
+pub on : {A B : Type 0} {r : Rendered A} {a : A} {c : Rendered B} (go : A → Rendered B) → r ≡ shown_as a → go a ≡ c → (r >>- go) ≡ c
 on go e f = ap (λ s. s >>- go) e ∙ f
 
 module _ (look : Look) (now : Now) (fresh : (n : ℕ) → now n ≡ shown_as (look n)) where
@@ -49,17 +49,19 @@ module _ (look : Look) (now : Now) (fresh : (n : ℕ) → now n ≡ shown_as (lo
   fresh_needed [] = refl
   fresh_needed (n ∷ ns) = on _ (fresh n) (fresh_needed ns)
 
-  mutual
-    fresh_part : (p : Part) → render_part now p ≡ shown_as (draw_part look p)
-    fresh_part (text_part pieces) = on _ (fresh_pieces pieces) refl
-    fresh_part (comment_part t) = refl
-    fresh_part (element_part name own acts attributes contents) =
-        on _ (fresh_needed own) (on _ (fresh_attributes attributes []) (on _ (fresh_contents contents) refl))
+  module _ (groups : Groups) (groups_now : GroupsNow) (full : (o : ℕ) → groups_now o ≡ shown_as (groups o)) where
+    mutual
+      fresh_part : (p : Part) → render_part now groups_now p ≡ shown_as (draw_part look groups p)
+      fresh_part (text_part pieces) = on _ (fresh_pieces pieces) refl
+      fresh_part (comment_part t) = refl
+      fresh_part (element_part name own acts attributes contents) =
+          on _ (fresh_needed own) (on _ (fresh_attributes attributes []) (on _ (fresh_contents contents) refl))
+      fresh_part (anchor_part outlet own starts) = on _ (fresh_needed own) (on _ (full outlet) refl)
 
-    fresh_contents : (c : Contents) → render_contents now c ≡ shown_as (draw_contents look c)
-    fresh_contents (children ps) = fresh_parts ps
-    fresh_contents (bound n) = on _ (fresh n) refl
+      fresh_contents : (c : Contents) → render_contents now groups_now c ≡ shown_as (draw_contents look groups c)
+      fresh_contents (children ps) = fresh_parts ps
+      fresh_contents (bound n) = on _ (fresh n) refl
 
-    pub fresh_parts : (ps : Parts) → render now ps ≡ shown_as (draw look ps)
-    fresh_parts no_parts = refl
-    fresh_parts (part_then p ps) = on _ (fresh_part p) (on _ (fresh_parts ps) refl)
+      pub fresh_parts : (ps : Parts) → render now groups_now ps ≡ shown_as (draw look groups ps)
+      fresh_parts no_parts = refl
+      fresh_parts (part_then p ps) = on _ (fresh_part p) (on _ (fresh_parts ps) refl)

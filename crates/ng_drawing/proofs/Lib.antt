@@ -1,3 +1,4 @@
 pub mod Words
 pub mod Fresh
+pub mod FreshInstances
 pub mod Counted

@@ -1,4 +1,5 @@
--- The document that parts show: one drawing, over what each site has kept. Beside it the rendering, by the same recursion.
+-- The document that parts show: one drawing, over what each site has kept and what fills each outlet. Beside it the rendering, by the
+-- same recursion.
 use Rattle.std.specs.Prelude.{ℕ, Bool, false, ◌||◌, List, [], ◌∷◌, ◌++◌, Option, Some, None, Result, Ok, Err, codes, if◌then◌else◌}
 use Rattle.std.specs.List.{flat_map, list_any}
 use Rattle.ng_base.specs.Views.{ViewTree}
@@ -7,7 +8,7 @@ use Rattle.ng_language.specs.Texts.{words_in}
 use Rattle.ng_markup.specs.Attributes.{if_any, word_if, with_value, class_value}
 use Rattle.ng_markup.specs.Forest.{Attributes, Node, Forest, element, text, comment, no_nodes, node}
 use Rattle.ng_drawing.specs.Looks.{kept_text, kept_words, is_kept_true, is_kept_false}
-use Rattle.ng_drawing.specs.Template.{Piece, word, hole, Hiding, while_true, while_false, PartClass, PartValue, always, unless_empty, flag, classes, PartAttributes, Part, Contents, Parts, text_part, comment_part, element_part, children, bound, no_parts, part_then}
+use Rattle.ng_drawing.specs.Template.{Piece, word, hole, Hiding, while_true, while_false, PartClass, PartValue, always, unless_empty, flag, classes, PartAttributes, Part, Contents, Parts, text_part, comment_part, element_part, anchor_part, children, bound, no_parts, part_then}
 
 -- what each site has kept, or nothing yet
 abbrev pub Look : Type 0
@@ -42,19 +43,30 @@ abbrev pub draw_attributes : Look → PartAttributes → Attributes → Attribut
 draw_attributes look [] done = done
 draw_attributes look (a ∷ ats) done = draw_attributes look ats (with_value a.0 (draw_value look a.1) done)
 
+-- one forest after another
+abbrev pub followed_by : Forest → Forest → Forest
+followed_by no_nodes g = g
+followed_by (node n f) g = node n (followed_by f g)
+
+-- the nodes that fill each outlet
+abbrev pub Groups : Type 0
+Groups = ℕ → Forest
+
+-- an anchor is an empty comment, and what fills its outlet stands after it
 abbrev mutual
-  pub draw_part : Look → Part → Node
-  draw_part look (text_part pieces) = text (draw_pieces look pieces)
-  draw_part look (comment_part t) = comment t
-  draw_part look (element_part name own acts attributes contents) = element name (draw_attributes look attributes []) (draw_contents look contents)
+  pub draw_part : Look → Groups → Part → Forest
+  draw_part look groups (text_part pieces) = node (text (draw_pieces look pieces)) no_nodes
+  draw_part look groups (comment_part t) = node (comment t) no_nodes
+  draw_part look groups (element_part name own acts attributes contents) = node (element name (draw_attributes look attributes []) (draw_contents look groups contents)) no_nodes
+  draw_part look groups (anchor_part outlet own starts) = node (comment []) (groups outlet)
 
-  pub draw_contents : Look → Contents → Forest
-  draw_contents look (children ps) = draw look ps
-  draw_contents look (bound n) = node (text (kept_text (look n))) no_nodes
+  pub draw_contents : Look → Groups → Contents → Forest
+  draw_contents look groups (children ps) = draw look groups ps
+  draw_contents look groups (bound n) = node (text (kept_text (look n))) no_nodes
 
-  pub draw : Look → Parts → Forest
-  draw look no_parts = no_nodes
-  draw look (part_then p ps) = node (draw_part look p) (draw look ps)
+  pub draw : Look → Groups → Parts → Forest
+  draw look groups no_parts = no_nodes
+  draw look groups (part_then p ps) = followed_by (draw_part look groups p) (draw look groups ps)
 
 -- What is computed afresh: a value, nothing where a block doesn't fit what its expression calls for, or the fault of an
 -- expression. Nothing and faults end it, whichever stands first.
@@ -114,18 +126,24 @@ abbrev pub needed : Now → List ℕ → Rendered (Unit {0})
 needed now [] = shown_as tt
 needed now (n ∷ ns) = now n >>- λ _. needed now ns
 
--- an element's own sites come first, in the order of its directives, and its children after its attributes
+-- what fills each outlet now, or nothing where that is not what its site calls for
+abbrev pub GroupsNow : Type 0
+GroupsNow = ℕ → Rendered Forest
+
+-- An element's own sites come first, in the order of its directives, and its children after its attributes. An anchor's own sites come
+-- before what fills its outlet.
 abbrev mutual
-  pub render_part : Now → Part → Rendered Node
-  render_part now (text_part pieces) = render_pieces now pieces >>- λ t. shown_as (text t)
-  render_part now (comment_part t) = shown_as (comment t)
-  render_part now (element_part name own acts attributes contents) =
-      needed now own >>- λ _. render_attributes now attributes [] >>- λ ats. render_contents now contents >>- λ f. shown_as (element name ats f)
+  pub render_part : Now → GroupsNow → Part → Rendered Forest
+  render_part now groups (text_part pieces) = render_pieces now pieces >>- λ t. shown_as (node (text t) no_nodes)
+  render_part now groups (comment_part t) = shown_as (node (comment t) no_nodes)
+  render_part now groups (element_part name own acts attributes contents) =
+      needed now own >>- λ _. render_attributes now attributes [] >>- λ ats. render_contents now groups contents >>- λ f. shown_as (node (element name ats f) no_nodes)
+  render_part now groups (anchor_part outlet own starts) = needed now own >>- λ _. groups outlet >>- λ f. shown_as (node (comment []) f)
 
-  pub render_contents : Now → Contents → Rendered Forest
-  render_contents now (children ps) = render now ps
-  render_contents now (bound n) = now n >>- λ s. shown_as (node (text (kept_text s)) no_nodes)
+  pub render_contents : Now → GroupsNow → Contents → Rendered Forest
+  render_contents now groups (children ps) = render now groups ps
+  render_contents now groups (bound n) = now n >>- λ s. shown_as (node (text (kept_text s)) no_nodes)
 
-  pub render : Now → Parts → Rendered Forest
-  render now no_parts = shown_as no_nodes
-  render now (part_then p ps) = render_part now p >>- λ n. render now ps >>- λ f. shown_as (node n f)
+  pub render : Now → GroupsNow → Parts → Rendered Forest
+  render now groups no_parts = shown_as no_nodes
+  render now groups (part_then p ps) = render_part now groups p >>- λ f. render now groups ps >>- λ g. shown_as (followed_by f g)

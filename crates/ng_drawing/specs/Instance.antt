@@ -1,6 +1,7 @@
--- An instance of a template: what a run adds to it. For each site its key, its scope, what it has kept, and whether it rests,
--- which is to say that its scope is destroyed or its one-time binding has ended.
-use Rattle.std.specs.Prelude.{ℕ, Bool, List, [], map, Option, Some, None, Result, Ok, slice_get, if◌then◌else◌}
+-- An instance of a fragment: what a run adds to it. For each site its key, its scope, what it has kept, and whether it rests, which is
+-- to say that its scope is destroyed or its one-time binding has ended; and for each outlet the bodies that fill it.
+use Rattle.std.specs.Prelude.{ℕ, ◌≡◌, Bool, true, false, not, List, [], ◌∷◌, map, Option, Some, None, Result, Ok, slice_get, slice_index_or, if◌then◌else◌}
+use Rattle.std.specs.Option.{option_map_or}
 use Rattle.ng_base.specs.Meets.{◌>>=◌}
 use Rattle.ng_base.specs.Objects.{Object}
 use Rattle.ng_base.specs.Views.{ViewTree, prim, list, views_from}
@@ -11,11 +12,12 @@ use Rattle.ng_behaviour.specs.Scopes.{Scope, object_at}
 use Rattle.ng_language.specs.Texts.{show_text, class_words}
 use Rattle.ng_language.specs.Trees.{Trees}
 use Rattle.ng_language.specs.declared.snapshots.SnapKind.TheVariants as snaps
-use Rattle.ng_markup.specs.Forest.{Forest}
+use Rattle.ng_markup.specs.Forest.{Forest, no_nodes}
 use Rattle.ng_value.specs.Taken.{taken}
 use Rattle.ng_view.specs.Evaluation.{evaluated_program}
-use Rattle.ng_drawing.specs.Template.{Site, Template}
-use Rattle.ng_drawing.specs.Drawing.{draw, Now, Rendered, shown_as, render}
+use Rattle.ng_drawing.specs.Template.{Site, Filling, body_if, Outlet, Fragment}
+use Rattle.ng_drawing.specs.Looks.{is_kept_true}
+use Rattle.ng_drawing.specs.Drawing.{Look, followed_by, draw, Now, Rendered, ◌>>-◌, shown_as, render}
 use Rattle.ng_drawing.specs.declared.kind.SiteKind.{SiteKind}
 use Rattle.ng_drawing.specs.declared.kind.SiteKind.TheVariants as kinds
 
@@ -25,17 +27,51 @@ pub record SiteState : Type 0 where
   pub kept : Option ViewTree
   pub rests : Bool
 
-pub record Instance : Type 0 where
-  pub scope : ℕ
-  pub sites : List SiteState
+mutual
+  pub data Instance : Type 0 where
+    instance_with : Fragment → (scope : ℕ) → List SiteState → Outlets → Instance
 
+  -- the bodies that fill an outlet, in order
+  pub data Instances : Type 0 where
+    no_instances : Instances
+    instance_then : Instance → Instances → Instances
+
+  pub data Outlets : Type 0 where
+    no_outlets : Outlets
+    outlet_then : Instances → Outlets → Outlets
+
+abbrev pub instances_from : List Instance → Instances
+instances_from [] = no_instances
+instances_from (i ∷ is) = instance_then i (instances_from is)
+
+abbrev pub outlets_from : List Instances → Outlets
+outlets_from [] = no_outlets
+outlets_from (is ∷ os) = outlet_then is (outlets_from os)
+
+abbrev pub has_any : Instances → Bool
+has_any no_instances = false
+has_any (instance_then i is) = true
+
+-- what the site of a number has kept
 abbrev pub state_kept : Option SiteState → Option ViewTree
 state_kept None = None
 state_kept (Some s) = s.kept
 
--- what is shown: the drawing with what is kept
-abbrev pub shown : Template → Instance → Forest
-shown t i = draw (λ n. state_kept (slice_get i.sites n)) t.parts
+abbrev pub kept_by : List SiteState → Look
+kept_by states n = state_kept (slice_get states n)
+
+-- what is shown: the drawing with what is kept, and with the bodies that stand
+abbrev mutual
+  pub shown : Instance → Forest
+  shown (instance_with f scope states outlets) = draw (kept_by states) (λ o. slice_index_or (shown_in outlets) o no_nodes) f.parts
+
+  pub shown_all : Instances → Forest
+  shown_all no_instances = no_nodes
+  shown_all (instance_then i is) = followed_by (shown i) (shown_all is)
+
+  pub shown_in : Outlets → List Forest
+  shown_in no_outlets = []
+  shown_in (outlet_then is os) = shown_all is ∷ shown_in os
 
 -- what an expression shows now over a scope's object, as a text. It is closed where its steps don't matter.
 unfoldable pub text_now : List Object → ℕ → Trees → Result (List ℕ) Fault
@@ -72,6 +108,55 @@ site_now objects scopes (Some x) (Some s) = if s.rests then shown_as s.kept else
 abbrev pub instance_now : List Object → List Scope → List Site → List SiteState → Now
 instance_now objects scopes sites states n = site_now objects scopes (slice_get sites n) (slice_get states n)
 
+-- whether the bodies that stand are those that a value calls for
+abbrev pub is_filled : Filling → Option ViewTree → Instances → Bool
+is_filled (body_if b) v is = if is_kept_true v then has_any is else not (has_any is)
+
+abbrev pub rests_in : List SiteState → ℕ → Bool
+rests_in states n = option_map_or (λ (s : SiteState). s.rests) (slice_get states n) true
+
+-- What fills an outlet now: the bodies that stand, which must be those that the value of its site calls for now. A site that rests calls
+-- for nothing.
+abbrev pub outlet_now : Now → List SiteState → Outlet → Instances → Rendered Forest → Rendered Forest
+outlet_now now states o is bodies = if rests_in states o.site then bodies else now o.site >>- λ v. if is_filled o.filling v is then bodies else Ok None
+
+-- an outlet that the fragment doesn't have is filled anyhow
+abbrev pub outlet_at : Now → List SiteState → Option Outlet → Instances → Rendered Forest → Rendered Forest
+outlet_at now states None is bodies = bodies
+outlet_at now states (Some o) is bodies = outlet_now now states o is bodies
+
 -- The rendering of an instance over data and scopes: no watcher and no node is asked.
-abbrev pub rendering : List Object → List Scope → Template → Instance → Rendered Forest
-rendering objects scopes t i = render (instance_now objects scopes t.sites i.sites) t.parts
+abbrev mutual
+  pub rendering : List Object → List Scope → Instance → Rendered Forest
+  rendering objects scopes (instance_with f scope states outlets) =
+      render (instance_now objects scopes f.sites states)
+      (λ o. slice_index_or (rendering_in objects scopes (instance_now objects scopes f.sites states) states f.outlets outlets) o (shown_as no_nodes)) f.parts
+
+  pub rendering_all : List Object → List Scope → Instances → Rendered Forest
+  rendering_all objects scopes no_instances = shown_as no_nodes
+  rendering_all objects scopes (instance_then i is) = rendering objects scopes i >>- λ f. rendering_all objects scopes is >>- λ g. shown_as (followed_by f g)
+
+  pub rendering_in : List Object → List Scope → Now → List SiteState → List Outlet → Outlets → List (Rendered Forest)
+  rendering_in objects scopes now states os no_outlets = []
+  rendering_in objects scopes now states [] (outlet_then is rest) = rendering_all objects scopes is ∷ rendering_in objects scopes now states [] rest
+  rendering_in objects scopes now states (o ∷ os) (outlet_then is rest) =
+      outlet_now now states o is (rendering_all objects scopes is) ∷ rendering_in objects scopes now states os rest
+
+-- an outlet has the bodies that its site has kept to call for
+abbrev pub IsFilled : List SiteState → Outlet → Instances → Type 0
+IsFilled states o is = rests_in states o.site ≡ false → is_filled o.filling (kept_by states o.site) is ≡ true
+
+-- each site of an instance and of the bodies in it shows now what it has kept, and each outlet has the bodies that this calls for
+abbrev mutual
+  pub IsFresh : List Object → List Scope → Instance → Type 0
+  IsFresh objects scopes (instance_with f scope states outlets) =
+      ((n : ℕ) → instance_now objects scopes f.sites states n ≡ shown_as (kept_by states n)) × AreFilled objects scopes states f.outlets outlets
+
+  pub AllFresh : List Object → List Scope → Instances → Type 0
+  AllFresh objects scopes no_instances = Unit {0}
+  AllFresh objects scopes (instance_then i is) = IsFresh objects scopes i × AllFresh objects scopes is
+
+  pub AreFilled : List Object → List Scope → List SiteState → List Outlet → Outlets → Type 0
+  AreFilled objects scopes states os no_outlets = Unit {0}
+  AreFilled objects scopes states [] (outlet_then is rest) = AllFresh objects scopes is × AreFilled objects scopes states [] rest
+  AreFilled objects scopes states (o ∷ os) (outlet_then is rest) = IsFilled states o is × AllFresh objects scopes is × AreFilled objects scopes states os rest

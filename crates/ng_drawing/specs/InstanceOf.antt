@@ -1,12 +1,31 @@
--- What an instance of the code stands for.
-use Rattle.std.specs.Prelude.{map, option_map}
+-- What an instance of the code stands for, where the fragments of templates are known by their numbers.
+use Rattle.std.specs.Prelude.{ℕ, map, option_map}
 use Rattle.ng_value.specs.Snaps.{snap_of}
-use Rattle.ng_drawing.specs.Instance.{SiteState, Instance}
+use Rattle.ng_drawing.specs.Instance.{SiteState, Instance, Instances, instance_with, instances_from, outlets_from}
+use Rattle.ng_drawing.specs.Template.{Fragment}
 use Rattle.ng_drawing.specs.declared.instance.SiteState as code_state
 use Rattle.ng_drawing.specs.declared.instance.Instance as code_instance
+use Rattle.ng_drawing.specs.declared.instance.Instances as code_instances
+use Rattle.ng_drawing.specs.declared.instance.Instance.{fold-Instance}
+use Rattle.ng_drawing.specs.declared.instance.Instances.{fold-Instances}
+use Rattle.ng_drawing.specs.declared.instance.Instance.TheOpen.{Instance-F, Instances-F}
 
 abbrev pub state_of : code_state.SiteState → SiteState
 state_of s = record { key = s.key; scope = s.scope.0; kept = option_map snap_of s.kept; rests = s.rests }
 
-abbrev pub instance_of : code_instance.Instance → Instance
-instance_of i = record { scope = i.scope.0; sites = map state_of i.sites.items }
+-- the fragment of a number, of the template of a number
+abbrev pub Fragments : Type 0
+Fragments = ℕ → ℕ → Fragment
+
+-- one level, with the bodies inside seen already
+abbrev pub instance_step : Fragments → Instance-F Instance Instances → Instance
+instance_step fragments v = instance_with (fragments v.template.0 v.fragment) v.scope.0 (map state_of v.sites.items) (outlets_from v.outlets.items)
+
+abbrev pub instances_step : Instances-F Instance Instances → Instances
+instances_step v = instances_from v.items.items
+
+abbrev pub instance_of : Fragments → code_instance.Instance → Instance
+instance_of fragments = fold-Instance Instance Instances (instance_step fragments) instances_step
+
+abbrev pub instances_of : Fragments → code_instances.Instances → Instances
+instances_of fragments = fold-Instances Instance Instances (instance_step fragments) instances_step

@@ -1,6 +1,6 @@
 -- A compiled template: a tree of parts whose texts and attributes are cut at their holes, and its sites, the expressions
 -- that are watched, numbered in document order (guide: HTML Compiler).
-use Rattle.std.specs.Prelude.{ℕ, Bool, List, [], ◌∷◌}
+use Rattle.std.specs.Prelude.{ℕ, Bool, List, [], ◌∷◌, Option, slice_get}
 use Rattle.ng_language.specs.Trees.{Trees}
 use Rattle.ng_drawing.specs.declared.kind.SiteKind.{SiteKind}
 
@@ -42,12 +42,14 @@ pub record Acts : Type 0 where
   pub handlers : List (List ℕ × Trees)
 
 -- An element has its name, the numbers of its own sites in the order of its directives, what it does, its attributes and its
--- contents: its children, or the text that one of its sites shows (API: ngBind).
+-- contents: its children, or the text that one of its sites shows (API: ngBind). An anchor stands where a block was: it has the number
+-- of its outlet, which bodies fill, the numbers of its own sites, and programs that run when it is linked.
 mutual
   pub data Part : Type 0 where
     text_part : List Piece → Part
     comment_part : List ℕ → Part
     element_part : (name : List ℕ) → (own : List ℕ) → Acts → PartAttributes → Contents → Part
+    anchor_part : (outlet : ℕ) → (own : List ℕ) → (starts : List Trees) → Part
 
   pub data Contents : Type 0 where
     children : Parts → Contents
@@ -72,6 +74,29 @@ pub record Site : Type 0 where
   pub one_time : Bool
   pub program : Trees
 
-pub record Template : Type 0 where
+-- how an outlet is filled: the body of this number stands while the value of its site is true (API: ngIf)
+pub data Filling : Type 0 where
+  body_if : (body : ℕ) → Filling
+
+-- an outlet is filled by the value of a site
+pub record Outlet : Type 0 where
+  pub site : ℕ
+  pub filling : Filling
+
+-- A part of a template that is linked as a whole: its sites and outlets are numbered in document order.
+pub record Fragment : Type 0 where
   pub parts : Parts
   pub sites : List Site
+  pub outlets : List Outlet
+
+-- A template: its own fragment, and those of its blocks' bodies, each after those in it
+pub record Template : Type 0 where
+  pub own : Fragment
+  pub bodies : List Fragment
+
+abbrev pub no_fragment : Fragment
+no_fragment = record { parts = no_parts; sites = []; outlets = [] }
+
+-- the fragment of a number: 0 is the template's own, and its bodies follow
+abbrev pub fragment_at : Template → ℕ → Option Fragment
+fragment_at t n = slice_get (t.own ∷ t.bodies) n

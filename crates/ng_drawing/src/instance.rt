@@ -1,5 +1,5 @@
-//! An instance of a template in the code. `specs/InstanceOf.antt` says what it stands for.
-use ng_base::name::ScopeId;
+//! An instance of a fragment in the code. `specs/InstanceOf.antt` says what it stands for.
+use ng_base::name::{ScopeId, TplId};
 use ng_base::path::Key;
 use ng_value::snapshot::Snap;
 
@@ -13,9 +13,21 @@ pub struct SiteState {
     pub rests: bool,
 }
 
-/// An instance of a template: its scope, and what was added to each site, by the site's number.
+/// An instance of a fragment, which is known by its number in its template: its scope, what was added to each site, by the site's
+/// number, and the bodies that fill each outlet.
+#[cycle(instance)]
 #[derive(Drop)]
 pub struct Instance {
+    pub template: TplId,
+    pub fragment: u32,
     pub scope: ScopeId,
     pub sites: Vec<SiteState>,
+    pub outlets: Vec<Instances>,
+}
+
+/// The bodies that fill an outlet, in order.
+#[cycle(instance)]
+#[derive(Drop)]
+pub struct Instances {
+    pub items: Vec<Instance>,
 }

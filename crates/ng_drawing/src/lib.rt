@@ -1,10 +1,10 @@
 //! Definitions of templates and of what stands of them, which the contracts from the compiler to the run cite. They stand in
 //! `specs/`.
 //!
-//! `Template.antt` has the parts of a template and its sites, the watched expressions by number (guide: HTML Compiler).
-//! `Drawing.antt` has the drawing of parts as a document, over what each site has kept, and beside it the rendering, the same
-//! recursion with each expression evaluated now; `Looks.antt` says what is seen of a kept snapshot. `Instance.antt` has what a run
-//! adds to a template: keys, scopes, what was kept and which sites rest; what is shown is the drawing with what was kept, the
+//! `Template.antt` has templates as fragments: parts, sites, the watched expressions by number, and outlets, the places that the bodies
+//! of blocks fill (guide: HTML Compiler). `Drawing.antt` has the drawing of parts as a document, over what each site has kept and what
+//! fills each outlet, and beside it the rendering, the same recursion with each expression evaluated now; `Looks.antt` says what is seen of a kept snapshot. `Instance.antt` has what a run
+//! adds to a fragment: keys, scopes, what was kept, which sites rest, and the bodies that stand; what is shown is the drawing with what was kept, the
 //! rendering asks no watcher and no node. `Nodes.antt` counts nodes. The code's own types of kinds and instances are in `kind` and
 //! `instance`; `classes` has the value of a class, which the linking and the rendering share.
 //!

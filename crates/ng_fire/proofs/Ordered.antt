@@ -55,7 +55,7 @@ sites_ordered path object (n ∷ ns) (x ∷ xs) t h =
     sites_ordered path object ns xs (with_watch (key_on path n) (watching_site object x) t) (insert_sorted key_cmp key_cmp_total (key_on path n) (record { watch = watching_site object x; kept = None }) t h)
 
 pub placed_ordered : (number scope : ℕ) (t : Template) (serials : List ℕ) (s : State) → IsOrdered s → IsOrdered (placed_on number scope t serials s)
-placed_ordered number scope t serials s h = sites_ordered (path_at s.core.scopes scope) (object_at s.core.scopes scope) serials t.sites s.watchers h
+placed_ordered number scope t serials s h = sites_ordered (path_at s.core.scopes scope) (object_at s.core.scopes scope) serials t.own.sites s.watchers h
 
 -- ---- what programs leave
 
@@ -87,11 +87,11 @@ steps_ordered scope (x ∷ xs) g h = steps_ordered scope xs (step_linked scope x
 
 by_ordered : (number scope : ℕ) (t : Template) (r : Result (Unit {0}) Fault) (s : State) → IsOrdered s → IsOrdered (link_by number scope t r s)
 by_ordered number scope t (Ok u) s h =
-    let g : Linking = steps_linked scope (steps t.parts) (begins_linking s) in
+    let g : Linking = steps_linked scope (steps t.own.parts) (begins_linking s) in
     let p : State = placed_on number scope t g.serials g.state in
-    let k : IsOrdered p = placed_ordered number scope t g.serials g.state (steps_ordered scope (steps t.parts) (begins_linking s) h) in
+    let k : IsOrdered p = placed_ordered number scope t g.serials g.state (steps_ordered scope (steps t.own.parts) (begins_linking s) h) in
     either (live_at p.core.scopes scope) p (left_at (path_at p.core.scopes scope) p) k (left_ordered (path_at p.core.scopes scope) p k)
-by_ordered number scope t (Err f) s h = steps_ordered scope (steps_within node_limit (steps t.parts)) (begins_linking s) h
+by_ordered number scope t (Err f) s h = steps_ordered scope (steps_within node_limit (steps t.own.parts)) (begins_linking s) h
 
 pub link_ordered : (number scope : ℕ) (t : Template) (s : State) → IsOrdered s → IsOrdered (link_on number scope t s)
-link_ordered number scope t s h = by_ordered number scope t (linked 0 t.parts) s h
+link_ordered number scope t s h = by_ordered number scope t (linked 0 t.own.parts) s h

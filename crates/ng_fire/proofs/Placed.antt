@@ -43,7 +43,7 @@ whole_placed v w number scope t serials e none core stands h =
       listeners = subst (λ (x : State). ListenersStand (length x.core.scopes) x.declared) (sym e) h.listeners;
       kept = subst (λ (x : State). RowsStand (length x.core.objects) x.linked x.watchers) (sym e)
           (rows_any (length s.core.objects) u.linked u.watchers
-          (rows_placed (length s.core.objects) (path_at s.core.scopes scope) (object_at s.core.scopes scope) serials t.sites s.watchers
+          (rows_placed (length s.core.objects) (path_at s.core.scopes scope) (object_at s.core.scopes scope) serials t.own.sites s.watchers
           (subst (λ l. RowsStand (length s.core.objects) l s.watchers) none h.kept)));
     }
 

@@ -47,9 +47,9 @@ placed number scope t g = rested_on scope (placed_on number scope t g.serials g.
 
 -- Where the nodes don't find room, the steps before the node too many are done, and nothing stands.
 abbrev pub link_by : ℕ → ℕ → Template → Result (Unit {0}) Fault → State → State
-link_by number scope t (Ok u) s = placed number scope t (steps_linked scope (steps t.parts) (begins_linking s))
-link_by number scope t (Err f) s = (steps_linked scope (steps_within node_limit (steps t.parts)) (begins_linking s)).state
+link_by number scope t (Ok u) s = placed number scope t (steps_linked scope (steps t.own.parts) (begins_linking s))
+link_by number scope t (Err f) s = (steps_linked scope (steps_within node_limit (steps t.own.parts)) (begins_linking s)).state
 
 -- the state after a template was linked, by its number, on a scope
 abbrev pub link_on : ℕ → ℕ → Template → State → State
-link_on number scope t s = link_by number scope t (linked 0 t.parts) s
+link_on number scope t s = link_by number scope t (linked 0 t.own.parts) s

@@ -157,8 +157,8 @@ pub fn link(
     requires top { parent ≡ None }
     requires first { at ≡ 0 }
     ensures state { Unless result ((tpl : Template) → template_at (templates_of works.old) t.0 ≡ Some tpl → state_of works.new ≡ link_on t.0 scope.0 tpl (state_of works.old)) }
-    ensures room { OnOk result ((tpl : Template) → template_at (templates_of works.old) t.0 ≡ Some tpl → linked 0 tpl.parts ≡ Ok tt) }
-    ensures fault { IfErr result (λ e. is_memory e ≡ false → (tpl : Template) → template_at (templates_of works.old) t.0 ≡ Some tpl → linked 0 tpl.parts ≡ Err e) }
+    ensures room { OnOk result ((tpl : Template) → template_at (templates_of works.old) t.0 ≡ Some tpl → linked 0 tpl.own.parts ≡ Ok tt) }
+    ensures fault { IfErr result (λ e. is_memory e ≡ false → (tpl : Template) → template_at (templates_of works.old) t.0 ≡ Some tpl → linked 0 tpl.own.parts ≡ Err e) }
     ensures bare { IfErr result (λ e. is_memory e ≡ false → (state_of works.new).linked ≡ None) }
     ensures whole { Unless result (IsWhole works.new) }
     ensures templates { templates_of works.new ≡ templates_of works.old }

@@ -43,10 +43,10 @@ is_full n l = grind (arith, nat_tests)
 
 -- what the programs before the node too many leave
 abbrev begun_on : Accepted → State
-begun_on a = (steps_linked 0 (steps_within node_limit (steps a.template.parts)) (begins_linking (prepared a.facts))).state
+begun_on a = (steps_linked 0 (steps_within node_limit (steps a.template.own.parts)) (begins_linking (prepared a.facts))).state
 
-empty : (a : Accepted) → node_limit < nodes a.template.parts → opening a.facts a.template ≡ linked_by (Err NodeLimit) (begun_on a)
-empty a l = ap (λ b. by (if b then Err NodeLimit else Ok tt)) (is_full (nodes a.template.parts) l)
+empty : (a : Accepted) → node_limit < nodes a.template.own.parts → opening a.facts a.template ≡ linked_by (Err NodeLimit) (begun_on a)
+empty a l = ap (λ b. by (if b then Err NodeLimit else Ok tt)) (is_full (nodes a.template.own.parts) l)
   where
     by : Result (Unit {0}) Fault → State
     by r = linked_by r (link_by 0 0 a.template r (prepared a.facts))
@@ -113,7 +113,7 @@ continues_unlinked trace k [] left xs end h e = ap (λ (z : Left). z.state.linke
 continues_unlinked trace k (c ∷ es) left xs end (x, next, rest, does, more, is) e =
     continues_unlinked trace (k + 1) es next rest end more (act_unlinked trace (header k c.shown) (fired_by c.act) c.act left.state x next does e)
 
-module _ (trace : Bool) (a : Accepted) (more : node_limit < nodes a.template.parts) (x : Step) (left : Left) (h : OpensPage trace a x left) where
+module _ (trace : Bool) (a : Accepted) (more : node_limit < nodes a.template.own.parts) (x : Step) (left : Left) (h : OpensPage trace a x left) where
   abbrev started : State
   started = opening a.facts a.template
 
@@ -124,9 +124,9 @@ module _ (trace : Bool) (a : Accepted) (more : node_limit < nodes a.template.par
   first_faulted = ap (λ (s : Step). s.well) h.prints ∙ (ap (λ f. is_well f h.outcome.digest) first_fault ∙ not_well (begun_on a).core.handed.first NodeLimit h.outcome.digest)
 
   first_unlinked : left.state.linked ≡ None
-  first_unlinked = ap (λ (z : Left). z.state.linked) h.leaves ∙ ends_unlinked started h.outcome h.state h.opens (ap (λ (s : State). s.linked) (empty a more) ∙ (started_linked 0 (steps_within node_limit (steps a.template.parts)) (begins_linking (prepared a.facts)) ∙ none_linked a.facts))
+  first_unlinked = ap (λ (z : Left). z.state.linked) h.leaves ∙ ends_unlinked started h.outcome h.state h.opens (ap (λ (s : State). s.linked) (empty a more) ∙ (started_linked 0 (steps_within node_limit (steps a.template.own.parts)) (begins_linking (prepared a.facts)) ∙ none_linked a.facts))
 
-runs_crowded : (trace : Bool) (a : Accepted) (r : Reply) → node_limit < nodes a.template.parts → Runs whole trace a r → (r.status ≡ 1) × IfSome r.page (λ l. shown l.state ≡ no_nodes)
+runs_crowded : (trace : Bool) (a : Accepted) (r : Reply) → node_limit < nodes a.template.own.parts → Runs whole trace a r → (r.status ≡ 1) × IfSome r.page (λ l. shown l.state ≡ no_nodes)
 runs_crowded trace a r more (xs, end, (x, left, rest, opens, then_on, is), done_so) =
     let status : steps_status xs ≡ 1 = ap steps_status is ∙ ap (λ b. if b && all_well rest then 0 else 1) (first_faulted trace a more x left opens) in
     let gone : end.state.linked ≡ None = continues_unlinked trace 1 a.commands left rest end then_on (first_unlinked trace a more x left opens) in (

@@ -107,7 +107,7 @@ by_ordered (Ok u) s h = h
 by_ordered (Err f) s h = h
 
 pub opening_ordered : (f : Facts) (t : Template) → IsOrdered (opening f t)
-opening_ordered f t = by_ordered (linked 0 t.parts) (link_on 0 0 t (prepared f)) (link_ordered 0 0 t (prepared f) (prepared_ordered f))
+opening_ordered f t = by_ordered (linked 0 t.own.parts) (link_on 0 0 t (prepared f)) (link_ordered 0 0 t (prepared f) (prepared_ordered f))
 
 -- ---- the commands
 

@@ -31,4 +31,4 @@ SessionIsThere = (trace : Bool) (i : Inputs) → (r : Reply) × Session trace i 
 
 -- a page that would have too many nodes is empty, whatever is done on it, and the status is 1
 abbrev pub CrowdedPageIsEmpty : Type 0
-CrowdedPageIsEmpty = (trace : Bool) (i : Inputs) (a : Accepted) (r : Reply) → accepted i ≡ Ok a → node_limit < nodes a.template.parts → Session trace i r → (r.status ≡ 1) × IfSome r.page (λ l. shown l.state ≡ no_nodes)
+CrowdedPageIsEmpty = (trace : Bool) (i : Inputs) (a : Accepted) (r : Reply) → accepted i ≡ Ok a → node_limit < nodes a.template.own.parts → Session trace i r → (r.status ≡ 1) × IfSome r.page (λ l. shown l.state ≡ no_nodes)

@@ -4,10 +4,10 @@ use Rattle.std.specs.Prelude.{◌==◌, ◌&&◌, not, nat_le, nat_lt}
 use Rattle.std.specs.List.{list_all}
 use Rattle.std.proofs.lemmas.Bool.Decides.{nat_tests}
 use Rattle.ng_drawing.specs.Template as template
-use Rattle.ng_drawing.specs.Template.{word, hole, while_true, while_false, PartClass, PartValue, always, unless_empty, flag, classes, PartAttributes, Part, Contents, Parts, text_part, comment_part, element_part, children, bound, no_parts, part_then, Template}
-use Rattle.ng_template.specs.Numbering.{after_pieces, after_own, after_contents, after_part, after_parts, is_within, is_apart, is_piece_drawn, is_hiding_drawn, is_class_drawn, is_value_drawn, are_drawn, is_regular}
+use Rattle.ng_drawing.specs.Template.{word, hole, while_true, while_false, PartClass, PartValue, always, unless_empty, flag, classes, PartAttributes, Part, Contents, Parts, text_part, comment_part, element_part, anchor_part, children, bound, no_parts, part_then, Fragment}
+use Rattle.ng_template.specs.Numbering.{after_pieces, after_own, after_contents, after_part, after_parts, is_within, is_apart, is_piece_drawn, is_hiding_drawn, is_class_drawn, is_value_drawn, are_drawn, is_whole}
 use Rattle.ng_link.specs.Holes.{PiecesBelow, SitesBelow, HidingsBelow, ClassBelow, ValueBelow, ValuesBelow, PartBelow, ContentsBelow, HolesBelow}
-use Rattle.ng_link.proofs.Numbers.{both_true, first_then, regular_count, next_own, next_hole, contents_children, contents_bound, counted_own, counted_contents, counted}
+use Rattle.ng_link.proofs.Numbers.{both_true, first_then, whole_count, next_own, next_hole, contents_children, contents_bound, counted_own, counted_contents, counted}
 
 -- a number that is within bounds
 pub within : (n c k : ℕ) → is_within n c k ≡ true → (n ≤ k) × (k < c)
@@ -80,6 +80,7 @@ mutual
       let last = counted_contents n h.0 0 c ats p h.2 in
       let more = contents_below n h.0 c b ats p h.2 le in
       (own_below n h.0 b own h.1 (omega (arith, last, le)), more.0, more.1)
+  part_below n c b (anchor_part o own starts) e le = own_below n c b own e le
 
   contents_below : (n d c b : ℕ) (ats : PartAttributes) (p : Contents) → after_contents n d ats p ≡ Some c → c ≤ b → ValuesBelow b ats × ContentsBelow b p
   contents_below n d c b ats (children ps) e le =
@@ -98,6 +99,6 @@ mutual
       let rest = counted h.0 0 c ps h.2 in
       (part_below n h.0 b p h.1 (omega (arith, rest, le)), parts_below h.0 c b ps h.2 le)
 
--- the sites of a regular template have numbers below their count
-pub regular_below : (t : Template) → is_regular t ≡ true → HolesBelow (length t.sites) t.parts
-regular_below t e = parts_below 0 (length t.sites) (length t.sites) t.parts (regular_count t e) (omega arith)
+-- the sites of a fragment have numbers below their count
+pub whole_below : (bodies : ℕ) (f : Fragment) → is_whole bodies f ≡ true → HolesBelow (length f.sites) f.parts
+whole_below bodies f e = parts_below 0 (length f.sites) (length f.sites) f.parts (whole_count bodies f e) (omega arith)

@@ -6,7 +6,7 @@ use Rattle.std.proofs.lemmas.List.{length-map}
 use Rattle.ng_base.specs.declared.fault.Fault.{Fault}
 use Rattle.ng_base.specs.declared.fault.Fault.TheVariants.{NodeLimit}
 use Rattle.ng_drawing.specs.Nodes.{part_nodes, nodes, node_limit}
-use Rattle.ng_drawing.specs.Template.{Piece, word, hole, Part, Contents, Parts, text_part, comment_part, element_part, children, bound, no_parts, part_then}
+use Rattle.ng_drawing.specs.Template.{Piece, word, hole, Part, Contents, Parts, text_part, comment_part, element_part, anchor_part, children, bound, no_parts, part_then}
 use Rattle.ng_language.specs.Trees.{Trees}
 use Rattle.ng_link.specs.Linking.{LinkStep, makes, starts, registers, piece_steps, part_steps, content_steps, steps, site_count}
 use Rattle.ng_link.specs.Shape.{own_node, piece_holes, part_holes, content_holes, holes, linked}
@@ -41,6 +41,11 @@ mutual
       let none = no_starts acts.starts in
       let many = own_count own in
       omega (arith, inner, one, two, none, many, length-map own (own_node m c), length-append (map (own_node m c) own) (content_holes (m + 1) c))
+  part_count m (anchor_part o own programs) =
+      let two = count-append (map starts programs) (map (λ n. registers) own) in
+      let none = no_starts programs in
+      let many = own_count own in
+      omega (arith, two, none, many, length-map own (λ (_ : ℕ). m))
 
   content_count : (m : ℕ) (c : Contents) → site_count (content_steps c) ≡ length (content_holes m c)
   content_count m (children ps) = parts_count m ps

@@ -1,30 +1,31 @@
 -- A page that stands displays the drawing of its template with what its instance has kept.
-use Rattle.std.proofs.Common.{◌≡◌, ◌<◌, ℕ, Bool, List, [], ◌∷◌, ◌++◌, Option, Some, None, refl, ap, ◌∙◌, sym, subst, length, slice_get}
+use Rattle.std.proofs.Common.{◌≡◌, ◌<◌, ℕ, Bool, List, [], ◌∷◌, ◌++◌, Option, Some, None, refl, ap, ◌∙◌, sym, subst, length, slice_get, slice_index_or}
 use Rattle.std.specs.Prelude.{◌||◌, option_map}
 use Rattle.std.proofs.lemmas.Option.{slice_get-map, slice_get-get_or}
 use Rattle.std.specs.List.{flat_map, list_any}
 use Rattle.ng_base.specs.Views.{ViewTree}
 use Rattle.ng_markup.specs.Attributes.{if_any, word_if, with_value, class_value}
-use Rattle.ng_markup.specs.Forest.{Attributes, Node, Forest, element, text, no_nodes, node}
+use Rattle.ng_markup.specs.Forest.{Attributes, Forest, element, text, comment, no_nodes, node}
 use Rattle.ng_dom.specs.Document.{Shows}
 use Rattle.ng_dom.specs.Drawing.{Stands, shows}
 use Rattle.ng_dom.specs.Nodes.{plain}
-use Rattle.ng_drawing.specs.Drawing.{Look, draw_pieces, is_hiding, class_words, draw_class, draw_value, draw_attributes, draw_part, draw_contents, draw}
-use Rattle.ng_drawing.specs.Instance.{state_kept}
+use Rattle.ng_drawing.specs.Drawing.{Look, Groups, draw_pieces, is_hiding, class_words, draw_class, draw_value, draw_attributes, followed_by, draw_part, draw_contents, draw}
+use Rattle.ng_drawing.specs.Instance as instances
+use Rattle.ng_drawing.specs.Instance.{state_kept, kept_by, no_outlets}
 use Rattle.ng_drawing.specs.Looks.{kept_text, kept_words, is_kept_true, is_kept_false}
-use Rattle.ng_drawing.specs.Template.{Piece, word, hole, Hiding, while_true, while_false, PartClass, PartValue, always, unless_empty, flag, classes, PartAttributes, Part, Contents, Parts, text_part, comment_part, element_part, children, bound, no_parts, part_then}
+use Rattle.ng_drawing.specs.Template.{Piece, word, hole, Hiding, while_true, while_false, PartClass, PartValue, always, unless_empty, flag, classes, PartAttributes, Part, Contents, Parts, text_part, comment_part, element_part, anchor_part, children, bound, no_parts, part_then}
 use Rattle.ng_watch.specs.Table.{Table}
 use Rattle.ng_link.specs.Events.{stands_in}
 use Rattle.ng_link.specs.Holes.{PiecesBelow, SitesBelow, HidingsBelow, ClassBelow, ValueBelow, ValuesBelow, PartBelow, ContentsBelow, HolesBelow}
 use Rattle.ng_link.specs.Laws.{PageDisplaysInstance, PageHasItsNames}
-use Rattle.ng_link.specs.Shape.{key_on}
+use Rattle.ng_link.specs.Shape.{key_on, unfilled}
 use Rattle.ng_link.specs.Standing.{HasShape, IsPage, Standing, Displays}
-use Rattle.ng_link.specs.State.{Page, Linked, Resting, keys_of, state_of, kept_in, looks_in, site_state, instance_at, shown_in}
+use Rattle.ng_link.specs.State.{Page, Linked, Resting, keys_of, state_of, kept_in, looks_in, site_state, site_states, shown_in}
 use Rattle.ng_link.specs.declared.works.Works.{Works}
 use Rattle.ng_link.proofs.Shapes.{shape_draws}
 
--- what is kept alike of each site is drawn alike
-module _ (look same : Look) (count : ℕ) (agree : (n : ℕ) → n < count → look n ≡ same n) where
+-- what is kept alike of each site, and stands alike in each outlet, is drawn alike
+module _ (look same : Look) (groups others : Groups) (count : ℕ) (agree : (n : ℕ) → n < count → look n ≡ same n) (alike : (o : ℕ) → groups o ≡ others o) where
   same_pieces : (ps : List Piece) → PiecesBelow count ps → draw_pieces look ps ≡ draw_pieces same ps
   same_pieces [] h = refl
   same_pieces (word w ∷ ps) h = ap (λ (t : List ℕ). w ++ t) (same_pieces ps h.1)
@@ -65,25 +66,26 @@ module _ (look same : Look) (count : ℕ) (agree : (n : ℕ) → n < count → l
       ∙ same_values ats (with_value a.0 (draw_value same a.1) done) h.1
 
   mutual
-    same_part : (p : Part) → PartBelow count p → draw_part look p ≡ draw_part same p
-    same_part (text_part ps) h = ap text (same_pieces ps h)
+    same_part : (p : Part) → PartBelow count p → draw_part look groups p ≡ draw_part same others p
+    same_part (text_part ps) h = ap (λ (t : List ℕ). node (text t) no_nodes) (same_pieces ps h)
     same_part (comment_part t) h = refl
     same_part (element_part e own acts ats c) h =
-        ap (λ (us : Attributes). element e us (draw_contents look c)) (same_values ats [] h.1)
-        ∙ ap (λ (f : Forest). element e (draw_attributes same ats []) f) (same_contents c h.2)
+        ap (λ (us : Attributes). node (element e us (draw_contents look groups c)) no_nodes) (same_values ats [] h.1)
+        ∙ ap (λ (f : Forest). node (element e (draw_attributes same ats []) f) no_nodes) (same_contents c h.2)
+    same_part (anchor_part o own starts) h = ap (λ (f : Forest). node (comment []) f) (alike o)
 
-    same_contents : (c : Contents) → ContentsBelow count c → draw_contents look c ≡ draw_contents same c
+    same_contents : (c : Contents) → ContentsBelow count c → draw_contents look groups c ≡ draw_contents same others c
     same_contents (children ps) h = same_parts ps h
     same_contents (bound n) h = ap (λ (s : Option ViewTree). node (text (kept_text s)) no_nodes) (agree n h)
 
-    pub same_parts : (ps : Parts) → HolesBelow count ps → draw look ps ≡ draw same ps
+    pub same_parts : (ps : Parts) → HolesBelow count ps → draw look groups ps ≡ draw same others ps
     same_parts no_parts h = refl
     same_parts (part_then p ps) h =
-        ap (λ (n : Node). node n (draw look ps)) (same_part p h.0)
-        ∙ ap (λ (f : Forest). node (draw_part same p) f) (same_parts ps h.1)
+        ap (λ (f : Forest). followed_by f (draw look groups ps)) (same_part p h.0)
+        ∙ ap (λ (f : Forest). followed_by (draw_part same others p) f) (same_parts ps h.1)
 
 -- the state of a site by its number
-state_at : (t : Table) (r : Resting) (p : Page) (j : ℕ) → j < length p.serials → slice_get (instance_at t r p).sites j ≡ Some (site_state t r p.scope (keys_of p j))
+state_at : (t : Table) (r : Resting) (p : Page) (j : ℕ) → j < length p.serials → slice_get (site_states t r p) j ≡ Some (site_state t r p.scope (keys_of p j))
 state_at t r p j lt =
     let state = λ (n : ℕ). site_state t r p.scope (key_on p.path n) in
     slice_get-map state p.serials j ∙ ap (option_map state) (slice_get-get_or p.serials j 0 lt)
@@ -99,9 +101,9 @@ shaped w ts l g h =
       shown = g.shown;
       plain =
           ap (λ (s : Stands). plain (shows (looks_in (state_of w)) s)) h.shape
-          ∙ (shape_draws (keys_of p) (kept_in t r) p.node l.template.parts
-          ∙ same_parts (λ n. kept_in t r (keys_of p n)) (λ n. state_kept (slice_get (instance_at t r p).sites n)) (length p.serials)
-          (λ n lt. sym (ap state_kept (state_at t r p n lt))) l.template.parts h.holes);
+          ∙ (shape_draws (keys_of p) (kept_in t r) unfilled p.node l.template.own.parts
+          ∙ same_parts (λ n. kept_in t r (keys_of p n)) (kept_by (site_states t r p)) (λ o. no_nodes) (λ o. slice_index_or (instances.shown_in no_outlets) o no_nodes) (length p.serials)
+          (λ n lt. sym (ap state_kept (state_at t r p n lt))) (λ o. refl) l.template.own.parts h.holes);
     }
 
 displays_linked : (w : Works) (ts : Stands) (o : Option Linked) → Standing w ts → IsPage o w.dom ts → Displays w (shown_in (state_of w).watchers (state_of w).resting o)

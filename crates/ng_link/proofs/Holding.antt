@@ -5,10 +5,10 @@ use Rattle.std.specs.List.{list_all}
 use Rattle.std.proofs.lemmas.Bool.{eq-eqb, eqb-true, eqb-false}
 use Rattle.std.proofs.lemmas.List.{length-map}
 use Rattle.ng_base.specs.declared.path.Key.{Key}
-use Rattle.ng_dom.specs.Drawing.{Source, HolesAt, KeysAt, hiding_key, ValueAt, AttributesAt, Held, HeldAll}
+use Rattle.ng_dom.specs.Drawing.{Source, Bodies, HolesAt, KeysAt, hiding_key, ValueAt, AttributesAt, HomedBodies, Held, HeldAll, HeldBodies}
 use Rattle.ng_drawing.specs.Nodes.{part_nodes}
 use Rattle.ng_drawing.specs.Template as template
-use Rattle.ng_drawing.specs.Template.{word, hole, while_true, while_false, PartValue, always, unless_empty, flag, classes, PartAttributes, Part, Contents, Parts, text_part, comment_part, element_part, children, bound, no_parts, part_then}
+use Rattle.ng_drawing.specs.Template.{word, hole, while_true, while_false, PartValue, always, unless_empty, flag, classes, PartAttributes, Part, Contents, Parts, text_part, comment_part, element_part, anchor_part, children, bound, no_parts, part_then}
 use Rattle.ng_template.specs.Numbering.{after_pieces, after_own, after_contents, after_part, after_parts, is_within, is_apart, is_piece_drawn, is_hiding_drawn, is_value_drawn, are_drawn}
 use Rattle.ng_link.specs.Building.{Homed, HomedAll, AllAt}
 use Rattle.ng_link.specs.Shape.{linked_pieces, linked_hiding, linked_value, linked_values, part_shape, content_shape, shape, own_node, piece_holes, part_holes, content_holes, holes}
@@ -69,33 +69,36 @@ module _ (site : Key → Option ℕ) (home : ℕ → Option Source) (keys : ℕ 
   bound_at : (m b k : ℕ) (o : Option ℕ) → o ≡ Some (own_node m (bound b) k) → (k == b) ≡ false → o ≡ Some m
   bound_at m b k o e ne = e ∙ ap Some (rw ne refl)
 
-  mutual
-    part_held : (n m c : ℕ) (p : Part) → after_part n p ≡ Some c → AllAt site keys n (part_holes m p) → Homed home (part_shape keys m p) → Held site home (part_shape keys m p)
-    part_held n m c (text_part ps) e h g = (g, pieces_held n m c ps e h)
-    part_held n m c (comment_part t) e h g = g
-    part_held n m c (element_part t own acts ats p) e h g =
-        let two = first_then (after_own n own) (λ d. after_contents n d ats p) c e in
-        let many : two.0 ≡ n + length (map (own_node m p) own) = counted_own n two.0 own two.1 ∙ ap (λ (i : ℕ). n + i) (sym (length-map own (own_node m p))) in
-        let both = at_append site keys n two.0 (map (own_node m p) own) (content_holes (m + 1) p) many h in
-        let more = contents_held n two.0 m c ats p two.2 (own_at (own_node m p) n two.0 own two.1 both.0) both.1 g.1 in
-        (g.0, more.0, more.1)
+  -- whatever fills the outlets
+  module _ (groups : ℕ → Bodies) (inside : (o : ℕ) → HomedBodies home (groups o) → HeldBodies site home (groups o)) where
+    mutual
+      part_held : (n m c : ℕ) (p : Part) → after_part n p ≡ Some c → AllAt site keys n (part_holes m p) → Homed home (part_shape keys m groups p) → Held site home (part_shape keys m groups p)
+      part_held n m c (text_part ps) e h g = (g, pieces_held n m c ps e h)
+      part_held n m c (comment_part t) e h g = g
+      part_held n m c (element_part t own acts ats p) e h g =
+          let two = first_then (after_own n own) (λ d. after_contents n d ats p) c e in
+          let many : two.0 ≡ n + length (map (own_node m p) own) = counted_own n two.0 own two.1 ∙ ap (λ (i : ℕ). n + i) (sym (length-map own (own_node m p))) in
+          let both = at_append site keys n two.0 (map (own_node m p) own) (content_holes (m + 1) p) many h in
+          let more = contents_held n two.0 m c ats p two.2 (own_at (own_node m p) n two.0 own two.1 both.0) both.1 g.1 in
+          (g.0, more.0, more.1)
+      part_held n m c (anchor_part o own starts) e h g = (g.0, inside o g.1)
 
-    contents_held : (n d m c : ℕ) (ats : PartAttributes) (p : Contents) → after_contents n d ats p ≡ Some c → ((k : ℕ) → n ≤ k → k < d → site (keys k) ≡ Some (own_node m p k))
-        → AllAt site keys d (content_holes (m + 1) p) → HomedAll home (content_shape keys (m + 1) p) → AttributesAt site m (linked_values keys ats) × HeldAll site home (content_shape keys (m + 1) p)
-    contents_held n d m c ats (children ps) e at h g =
-        let two = contents_children n d c ats ps e in
-        (drawn_values site keys m (is_within n d) (λ k is. let lies = within n d k is in at k lies.0 lies.1) ats two.0, all_held d (m + 1) c ps two.1 h g)
-    contents_held n d m c ats (bound b) e at h g =
-        let three = contents_bound n d c ats b e in
-        let lies = within n d b three.0 in
-        let here : site (keys b) ≡ Some (m + 1) = at b lies.0 lies.1 ∙ ap Some (rw (eq-eqb b b refl) refl) in (
-          drawn_values site keys m (is_apart b n d) (λ k is. let other = apart b n d k is in let within_own = within n d k other.0 in bound_at m b k (site (keys k)) (at k within_own.0 within_own.1) other.1) ats three.1,
-          ((g.0, (here, tt)), tt),
-        )
+      contents_held : (n d m c : ℕ) (ats : PartAttributes) (p : Contents) → after_contents n d ats p ≡ Some c → ((k : ℕ) → n ≤ k → k < d → site (keys k) ≡ Some (own_node m p k))
+          → AllAt site keys d (content_holes (m + 1) p) → HomedAll home (content_shape keys (m + 1) groups p) → AttributesAt site m (linked_values keys ats) × HeldAll site home (content_shape keys (m + 1) groups p)
+      contents_held n d m c ats (children ps) e at h g =
+          let two = contents_children n d c ats ps e in
+          (drawn_values site keys m (is_within n d) (λ k is. let lies = within n d k is in at k lies.0 lies.1) ats two.0, all_held d (m + 1) c ps two.1 h g)
+      contents_held n d m c ats (bound b) e at h g =
+          let three = contents_bound n d c ats b e in
+          let lies = within n d b three.0 in
+          let here : site (keys b) ≡ Some (m + 1) = at b lies.0 lies.1 ∙ ap Some (rw (eq-eqb b b refl) refl) in (
+            drawn_values site keys m (is_apart b n d) (λ k is. let other = apart b n d k is in let within_own = within n d k other.0 in bound_at m b k (site (keys k)) (at k within_own.0 within_own.1) other.1) ats three.1,
+            ((g.0, (here, tt)), tt),
+          )
 
-    pub all_held : (n m c : ℕ) (ps : Parts) → after_parts n ps ≡ Some c → AllAt site keys n (holes m ps) → HomedAll home (shape keys m ps) → HeldAll site home (shape keys m ps)
-    all_held n m c no_parts e h g = tt
-    all_held n m c (part_then p ps) e h g =
-        let two = first_then (after_part n p) (λ k. after_parts k ps) c e in
-        let both = at_append site keys n two.0 (part_holes m p) (holes (m + part_nodes p) ps) (counted_part n m two.0 p two.1) h in
-        (part_held n m two.0 p two.1 both.0 g.0, all_held two.0 (m + part_nodes p) c ps two.2 both.1 g.1)
+      pub all_held : (n m c : ℕ) (ps : Parts) → after_parts n ps ≡ Some c → AllAt site keys n (holes m ps) → HomedAll home (shape keys m groups ps) → HeldAll site home (shape keys m groups ps)
+      all_held n m c no_parts e h g = tt
+      all_held n m c (part_then p ps) e h g =
+          let two = first_then (after_part n p) (λ k. after_parts k ps) c e in
+          let both = at_append site keys n two.0 (part_holes m p) (holes (m + part_nodes p) ps) (counted_part n m two.0 p two.1) h in
+          (part_held n m two.0 p two.1 both.0 g.0, all_held two.0 (m + part_nodes p) c ps two.2 both.1 g.1)

@@ -1,11 +1,10 @@
 -- Steps of the loops that build nodes.
 use Rattle.std.proofs.Common.{◌≡◌, ◌≤◌, ◌<◌, ◌+◌, ℕ, zero, suc, List, [], ◌∷◌, ◌++◌, Option, Some, None, refl, ap, sym, map, take, drop, length, get_or, arith, add-one, drop-cons}
 use Rattle.std.specs.Prelude.{IsSome, option_map}
-use Rattle.std.specs.BTreeMap.{get}
-use Rattle.std.specs.Ordering.{nat_cmp}
 use Rattle.ng_base.specs.declared.name.NodeId.{NodeId}
 use Rattle.ng_dom.specs.Document.{homes, next_name}
 use Rattle.ng_dom.specs.Kept.{room_kept}
+use Rattle.ng_dom.specs.Records.{node_at}
 use Rattle.ng_dom.specs.Rooms.{Room}
 use Rattle.ng_dom.specs.declared.dom.Dom.{Dom}
 use Rattle.ng_dom.specs.declared.record.Record.{Record}
@@ -29,7 +28,7 @@ live_still (Some x) (Some y) e h = refl
 
 pub there_still : (d e : Dom) (p : Option NodeId) → IsThere d p → ((q : ℕ) → q < next_name d → homes e q ≡ homes d q) → IsThere e p
 there_still d e None h same = tt
-there_still d e (Some p) h same = live_still (get nat_cmp d.nodes p.made.0) (get nat_cmp e.nodes p.made.0) (same p.made.0 (standing_below d.nodes d.next p.made.0 d.fresh h)) h
+there_still d e (Some p) h same = live_still (node_at d.nodes p.made.0) (node_at e.nodes p.made.0) (same p.made.0 (standing_below d.nodes d.next p.made.0 d.fresh h)) h
 
 -- what is read is live
 pub read_lives : (o : Option Room) (x : Room) → o ≡ Some x → IsSome o

@@ -7,17 +7,23 @@ use Rattle.ng_base.specs.Views.{ViewTree}
 use Rattle.ng_base.specs.declared.path.Key.{Key}
 use Rattle.ng_markup.specs.Attributes.{if_any, with_value, class_value}
 use Rattle.ng_markup.specs.Forest.{Attributes, Forest, element, text, no_nodes, node}
-use Rattle.ng_dom.specs.Nodes.{plain, plain_node, followed_by}
+use Rattle.ng_dom.specs.Nodes.{plain, plain_node, plain_groups, followed_by}
 use Rattle.ng_dom.specs.Drawing as drawn
-use Rattle.ng_dom.specs.Drawing.{Look, Source, Stand, Stands, none_stand, stand_then, joined, drawn_words, drawn_value, drawn_on, show, shows}
+use Rattle.ng_dom.specs.Drawing.{Look, Source, Stand, Stands, Bodies, none_stand, stand_then, joined, drawn_words, drawn_value, drawn_on, show, shows, show_bodies}
+use Rattle.ng_drawing.specs.Drawing as drawing
 use Rattle.ng_drawing.specs.Drawing.{draw_pieces, is_hiding, draw_value, draw_attributes, draw_contents, draw_part, draw, class_words}
 use Rattle.ng_drawing.specs.Looks.{kept_text, kept_words}
 use Rattle.ng_drawing.specs.Nodes.{part_nodes, content_nodes, nodes}
 use Rattle.ng_drawing.specs.Template as template
-use Rattle.ng_drawing.specs.Template.{word, hole, while_true, while_false, PartClass, PartValue, always, unless_empty, flag, classes, PartAttributes, Part, Contents, Parts, text_part, comment_part, element_part, children, bound, no_parts, part_then, parts_from}
-use Rattle.ng_link.specs.Shape.{linked_pieces, linked_hiding, linked_class, linked_value, linked_values, part_shape, content_shape, shape, part_holes, holes}
+use Rattle.ng_drawing.specs.Template.{word, hole, while_true, while_false, PartClass, PartValue, always, unless_empty, flag, classes, PartAttributes, Part, Contents, Parts, text_part, comment_part, element_part, anchor_part, children, bound, no_parts, part_then, parts_from}
+use Rattle.ng_link.specs.Shape.{linked_pieces, linked_hiding, linked_class, linked_value, linked_values, part_shape, content_shape, shape, unfilled, part_holes, holes}
 use Rattle.ng_link.specs.State.{look_of}
 use Rattle.ng_link.specs.Building.{Homed, HomedAll}
+
+-- one forest after another
+same_followed : (f g : Forest) → followed_by f g ≡ drawing.followed_by f g
+same_followed no_nodes g = refl
+same_followed (node x f) g = ap (λ (h : Forest). node x h) (same_followed f g)
 
 -- what has the keys of its holes is drawn as it was
 module _ (keys : ℕ → Key) (v : Key → Option ViewTree) where
@@ -52,38 +58,46 @@ module _ (keys : ℕ → Key) (v : Key → Option ViewTree) where
       ap (λ (t : Option (List ℕ)). drawn_on looks (linked_values keys ats) (with_value a.0 t done)) (value_linked a.1)
       ∙ drawn_linked ats (with_value a.0 (draw_value kept a.1) done)
 
-  mutual
-    plain_part : (n : ℕ) (p : Part) → plain_node (show looks (part_shape keys n p)) ≡ node (draw_part kept p) no_nodes
-    plain_part n (text_part ps) = ap (λ (t : List ℕ). node (text t) no_nodes) (joined_linked ps)
-    plain_part n (comment_part t) = refl
-    plain_part n (element_part e own acts ats c) =
-        ap (λ (us : Attributes). node (element e us (plain (shows looks (content_shape keys (n + 1) c)))) no_nodes) (drawn_linked ats [])
-        ∙ ap (λ (f : Forest). node (element e (draw_attributes kept ats []) f) no_nodes) (content_draws (n + 1) c)
+  -- whatever fills the outlets
+  module _ (groups : ℕ → Bodies) where
+    abbrev filling : ℕ → Forest
+    filling o = plain_groups (show_bodies looks (groups o))
 
-    content_draws : (n : ℕ) (c : Contents) → plain (shows looks (content_shape keys n c)) ≡ draw_contents kept c
-    content_draws n (children ps) = shape_draws n ps
-    content_draws n (bound k) = ap (λ (t : List ℕ). node (text t) no_nodes) (append-nil (kept_text (kept k)))
+    mutual
+      plain_part : (n : ℕ) (p : Part) → plain_node (show looks (part_shape keys n groups p)) ≡ draw_part kept filling p
+      plain_part n (text_part ps) = ap (λ (t : List ℕ). node (text t) no_nodes) (joined_linked ps)
+      plain_part n (comment_part t) = refl
+      plain_part n (anchor_part o own starts) = refl
+      plain_part n (element_part e own acts ats c) =
+          ap (λ (us : Attributes). node (element e us (plain (shows looks (content_shape keys (n + 1) groups c)))) no_nodes) (drawn_linked ats [])
+          ∙ ap (λ (f : Forest). node (element e (draw_attributes kept ats []) f) no_nodes) (content_draws (n + 1) c)
 
-    -- what stands of parts is drawn as the parts are
-    pub shape_draws : (n : ℕ) (ps : Parts) → plain (shows looks (shape keys n ps)) ≡ draw kept ps
-    shape_draws n no_parts = refl
-    shape_draws n (part_then p ps) =
-        ap (λ (f : Forest). followed_by f (plain (shows looks (shape keys (n + part_nodes p) ps)))) (plain_part n p)
-        ∙ ap (λ (f : Forest). node (draw_part kept p) f) (shape_draws (n + part_nodes p) ps)
+      content_draws : (n : ℕ) (c : Contents) → plain (shows looks (content_shape keys n groups c)) ≡ draw_contents kept filling c
+      content_draws n (children ps) = shape_draws n ps
+      content_draws n (bound k) = ap (λ (t : List ℕ). node (text t) no_nodes) (append-nil (kept_text (kept k)))
+
+      -- what stands of parts is drawn as the parts are
+      pub shape_draws : (n : ℕ) (ps : Parts) → plain (shows looks (shape keys n groups ps)) ≡ draw kept filling ps
+      shape_draws n no_parts = refl
+      shape_draws n (part_then p ps) =
+          ap (λ (f : Forest). followed_by f (plain (shows looks (shape keys (n + part_nodes p) groups ps)))) (plain_part n p)
+          ∙ (ap (λ (f : Forest). followed_by (draw_part kept filling p) f) (shape_draws (n + part_nodes p) ps)
+          ∙ same_followed (draw_part kept filling p) (draw kept filling ps))
 
 -- what nodes are drawn from, where no name below a bound is touched
 module _ (h k : ℕ → Option Source) (keys : ℕ → Key) (end : ℕ) (same : (q : ℕ) → q < end → k q ≡ h q) where
   mutual
-    part_homed : (m : ℕ) (p : Part) → m + part_nodes p ≤ end → Homed h (part_shape keys m p) → Homed k (part_shape keys m p)
+    part_homed : (m : ℕ) (p : Part) → m + part_nodes p ≤ end → Homed h (part_shape keys m unfilled p) → Homed k (part_shape keys m unfilled p)
     part_homed m (text_part ps) le g = same m (omega (arith, le)) ∙ g
     part_homed m (comment_part t) le g = same m (omega (arith, le)) ∙ g
+    part_homed m (anchor_part o own starts) le g = (same m (omega (arith, le)) ∙ g.0, tt)
     part_homed m (element_part e own acts ats c) le g = (same m (omega (arith, le)) ∙ g.0, content_homed (m + 1) c (omega (arith, le)) g.1)
 
-    pub content_homed : (m : ℕ) (c : Contents) → m + content_nodes c ≤ end → HomedAll h (content_shape keys m c) → HomedAll k (content_shape keys m c)
+    pub content_homed : (m : ℕ) (c : Contents) → m + content_nodes c ≤ end → HomedAll h (content_shape keys m unfilled c) → HomedAll k (content_shape keys m unfilled c)
     content_homed m (children ps) le g = homed_stays m ps le g
     content_homed m (bound b) le g = (same m (omega (arith, le)) ∙ g.0, tt)
 
-    pub homed_stays : (m : ℕ) (ps : Parts) → m + nodes ps ≤ end → HomedAll h (shape keys m ps) → HomedAll k (shape keys m ps)
+    pub homed_stays : (m : ℕ) (ps : Parts) → m + nodes ps ≤ end → HomedAll h (shape keys m unfilled ps) → HomedAll k (shape keys m unfilled ps)
     homed_stays m no_parts le g = tt
     homed_stays m (part_then p ps) le g = (part_homed m p (omega (arith, le)) g.0, homed_stays (m + part_nodes p) ps (omega (arith, le)) g.1)
 
@@ -100,9 +114,9 @@ abbrev pub stands_push : Stands → Stand → Stands
 stands_push none_stand x = stand_then x none_stand
 stands_push (stand_then m ms) x = stand_then m (stands_push ms x)
 
-pub shape-push : (keys : ℕ → Key) (m k : ℕ) (ps : List Part) (q : Part) → k ≡ m + nodes (parts_from ps) → shape keys m (parts_from (ps ++ q ∷ [])) ≡ stands_push (shape keys m (parts_from ps)) (part_shape keys k q)
-shape-push keys m k [] q e = ap (λ (n : ℕ). stand_then (part_shape keys n q) none_stand) (omega (arith, e))
-shape-push keys m k (p ∷ ps) q e = ap (λ (ts : Stands). stand_then (part_shape keys m p) ts) (shape-push keys (m + part_nodes p) k ps q (omega (arith, e)))
+pub shape-push : (keys : ℕ → Key) (m k : ℕ) (ps : List Part) (q : Part) → k ≡ m + nodes (parts_from ps) → shape keys m unfilled (parts_from (ps ++ q ∷ [])) ≡ stands_push (shape keys m unfilled (parts_from ps)) (part_shape keys k unfilled q)
+shape-push keys m k [] q e = ap (λ (n : ℕ). stand_then (part_shape keys n unfilled q) none_stand) (omega (arith, e))
+shape-push keys m k (p ∷ ps) q e = ap (λ (ts : Stands). stand_then (part_shape keys m unfilled p) ts) (shape-push keys (m + part_nodes p) k ps q (omega (arith, e)))
 
 pub holes-push : (m k : ℕ) (ps : List Part) (q : Part) → k ≡ m + nodes (parts_from ps) → holes m (parts_from (ps ++ q ∷ [])) ≡ holes m (parts_from ps) ++ part_holes k q
 holes-push m k [] q e = append-nil (part_holes m q) ∙ ap (λ (n : ℕ). part_holes n q) (omega (arith, e))

@@ -69,14 +69,14 @@ page_on number scope t serials s = record {
   path = path_at s.core.scopes scope;
   serials = serials;
   node = s.next_node;
-  handlers = handled s.next_node t.parts [];
+  handlers = handled s.next_node t.own.parts [];
 }
 
 -- A template, by its number, stands on a scope: its sites are watched, each under its number of registration, its nodes are the
 -- document, and its instance is the page's.
 abbrev pub placed_on : ℕ → ℕ → Template → List ℕ → State → State
 placed_on number scope t serials s = record s {
-  watchers = with_sites (path_at s.core.scopes scope) (object_at s.core.scopes scope) serials t.sites s.watchers;
+  watchers = with_sites (path_at s.core.scopes scope) (object_at s.core.scopes scope) serials t.own.sites s.watchers;
   linked = Some (record { template = t; page = page_on number scope t serials s });
-  next_node = s.next_node + nodes t.parts;
+  next_node = s.next_node + nodes t.own.parts;
 }

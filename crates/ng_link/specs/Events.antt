@@ -4,13 +4,13 @@ use Rattle.ng_dom.specs.Drawing.{Stands, none_stand, shows}
 use Rattle.ng_dom.specs.Nodes.{NamedForest}
 use Rattle.ng_language.specs.Trees.{Trees}
 use Rattle.ng_link.specs.Handlers.{Handled, programs_at, is_entered}
-use Rattle.ng_link.specs.Shape.{shape}
+use Rattle.ng_link.specs.Shape.{shape, unfilled}
 use Rattle.ng_link.specs.State.{Linked, State, keys_of, looks_in}
 
 -- what stands of what is linked
 abbrev pub stands_in : Option Linked → Stands
 stands_in None = none_stand
-stands_in (Some l) = shape (keys_of l.page) l.page.node l.template.parts
+stands_in (Some l) = shape (keys_of l.page) l.page.node unfilled l.template.own.parts
 
 -- the document that a page shows, with the names of its nodes
 abbrev pub named : State → NamedForest

@@ -6,7 +6,7 @@ use Rattle.std.specs.Map.{lookup}
 use Rattle.std.specs.Ordering.{nat_cmp}
 use Rattle.std.specs.Str.{bytes_eq}
 use Rattle.ng_drawing.specs.Nodes.{part_nodes}
-use Rattle.ng_drawing.specs.Template.{Part, Contents, Parts, text_part, comment_part, element_part, children, bound, no_parts, part_then}
+use Rattle.ng_drawing.specs.Template.{Part, Contents, Parts, text_part, comment_part, element_part, anchor_part, children, bound, no_parts, part_then}
 use Rattle.ng_language.specs.Trees.{Trees}
 
 -- programs in the order of an element's directives, each with the name of its event
@@ -27,6 +27,7 @@ abbrev mutual
   pub part_handled : ℕ → Part → Handled → Handled
   part_handled n (text_part ps) t = t
   part_handled n (comment_part c) t = t
+  part_handled n (anchor_part outlet own starts) t = t
   part_handled n (element_part e own acts ats c) t = contents_handled (n + 1) c (with_handlers n acts.handlers t)
 
   pub contents_handled : ℕ → Contents → Handled → Handled

@@ -1,6 +1,6 @@
 -- The holes and sites of parts have numbers below a count.
 use Rattle.std.specs.Prelude.{ℕ, ◌<◌, ⊤, List, [], ◌∷◌}
-use Rattle.ng_drawing.specs.Template.{Piece, word, hole, Hiding, while_true, while_false, PartClass, PartValue, always, unless_empty, flag, classes, PartAttributes, Part, Contents, Parts, text_part, comment_part, element_part, children, bound, no_parts, part_then}
+use Rattle.ng_drawing.specs.Template.{Piece, word, hole, Hiding, while_true, while_false, PartClass, PartValue, always, unless_empty, flag, classes, PartAttributes, Part, Contents, Parts, text_part, comment_part, element_part, anchor_part, children, bound, no_parts, part_then}
 
 abbrev pub PieceBelow : ℕ → Piece → Type 0
 PieceBelow count (word t) = ⊤
@@ -37,6 +37,7 @@ abbrev mutual
   PartBelow count (text_part ps) = PiecesBelow count ps
   PartBelow count (comment_part t) = ⊤
   PartBelow count (element_part name own acts attributes contents) = SitesBelow count own × ValuesBelow count attributes × ContentsBelow count contents
+  PartBelow count (anchor_part outlet own starts) = SitesBelow count own
 
   pub ContentsBelow : ℕ → Contents → Type 0
   ContentsBelow count (children ps) = HolesBelow count ps

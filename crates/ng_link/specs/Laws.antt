@@ -4,8 +4,8 @@ use Rattle.ng_act.specs.declared.core_state.Core.{Core}
 use Rattle.ng_base.specs.Views.{ViewTree}
 use Rattle.ng_base.specs.declared.path.Key.{Key}
 use Rattle.ng_dom.specs.Document.{Shows}
-use Rattle.ng_dom.specs.Drawing.{Stands, shows}
-use Rattle.ng_dom.specs.Nodes.{plain}
+use Rattle.ng_dom.specs.Drawing.{Stands, Bodies, shows, show_bodies}
+use Rattle.ng_dom.specs.Nodes.{plain, plain_groups}
 use Rattle.ng_drawing.specs.Drawing.{draw}
 use Rattle.ng_drawing.specs.Template.{Parts}
 use Rattle.ng_watch.specs.Table.{Table, AllStand}
@@ -15,9 +15,11 @@ use Rattle.ng_link.specs.State.{look_of, state_of, shown}
 use Rattle.ng_link.specs.Standing.{WatchersStand, Standing, Displays}
 use Rattle.ng_link.specs.declared.works.Works.{Works}
 
--- what stands of parts is drawn as the parts are, whatever their sites have kept
+-- what stands of parts is drawn as the parts are, whatever their sites have kept and whatever fills their outlets
 abbrev pub ShapeDrawsParts : Type 0
-ShapeDrawsParts = (keys : ℕ → Key) (v : Key → Option ViewTree) (n : ℕ) (ps : Parts) → plain (shows (λ k. look_of (v k)) (shape keys n ps)) ≡ draw (λ k. v (keys k)) ps
+ShapeDrawsParts =
+    (keys : ℕ → Key) (v : Key → Option ViewTree) (n : ℕ) (groups : ℕ → Bodies) (ps : Parts)
+    → plain (shows (λ k. look_of (v k)) (shape keys n groups ps)) ≡ draw (λ k. v (keys k)) (λ o. plain_groups (show_bodies (λ k. look_of (v k)) (groups o))) ps
 
 -- a page that stands displays the drawing of its template with what its instance has kept, and nothing where none is linked
 abbrev pub PageDisplaysInstance : Type 0

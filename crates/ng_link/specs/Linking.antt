@@ -1,7 +1,8 @@
 -- The order of linking (guide: HTML Compiler, "How directives are compiled"; API: ngInit). An element's node is made, then its
--- `ng-init` runs, then its own sites get their numbers of registration, and then its children are linked.
+-- `ng-init` runs, then its own sites get their numbers of registration, and then its children are linked. An anchor goes before its
+-- block's site.
 use Rattle.std.specs.Prelude.{ℕ, zero, suc, ◌+◌, List, [], ◌∷◌, ◌++◌, map}
-use Rattle.ng_drawing.specs.Template.{Piece, word, hole, Part, Contents, Parts, text_part, comment_part, element_part, children, bound, no_parts, part_then}
+use Rattle.ng_drawing.specs.Template.{Piece, word, hole, Part, Contents, Parts, text_part, comment_part, element_part, anchor_part, children, bound, no_parts, part_then}
 use Rattle.ng_language.specs.Trees.{Trees}
 
 -- a node is made, a program runs, or a site gets the next number of registration
@@ -19,6 +20,7 @@ abbrev mutual
   pub part_steps : Part → List LinkStep
   part_steps (text_part ps) = makes ∷ piece_steps ps
   part_steps (comment_part t) = makes ∷ []
+  part_steps (anchor_part outlet own programs) = makes ∷ (map starts programs ++ map (λ n. registers) own)
   part_steps (element_part e own acts ats c) = makes ∷ (map starts acts.starts ++ (map (λ n. registers) own ++ content_steps c))
 
   pub content_steps : Contents → List LinkStep

@@ -4,12 +4,12 @@ use Rattle.std.specs.Prelude.{ℕ, ◌+◌, ◌==◌, List, [], ◌∷◌, ◌++
 use Rattle.ng_base.specs.declared.fault.Fault.{Fault}
 use Rattle.ng_base.specs.declared.fault.Fault.TheVariants.{NodeLimit}
 use Rattle.ng_base.specs.declared.path.Key.{Key}
-use Rattle.ng_dom.specs.Drawing.{DrawnHiding, while_true, while_false, DrawnClass, DrawnValue, always, unless_empty, flag, classes, DrawnAttributes, Stand, Stands, text_stands, comment_stands, element_stands, none_stand, stand_then}
+use Rattle.ng_dom.specs.Drawing.{DrawnHiding, while_true, while_false, DrawnClass, DrawnValue, always, unless_empty, flag, classes, DrawnAttributes, Stand, Stands, Bodies, text_stands, comment_stands, element_stands, block_stands, none_stand, stand_then, no_bodies}
 use Rattle.ng_dom.specs.declared.record.Piece.{Piece}
 use Rattle.ng_dom.specs.declared.record.Piece.TheVariants.{Words, Hole}
 use Rattle.ng_drawing.specs.Nodes.{part_nodes, nodes, node_limit}
 use Rattle.ng_drawing.specs.Template as template
-use Rattle.ng_drawing.specs.Template.{word, hole, PartAttributes, Part, Contents, Parts, text_part, comment_part, element_part, children, bound, no_parts, part_then}
+use Rattle.ng_drawing.specs.Template.{word, hole, PartAttributes, Part, Contents, Parts, text_part, comment_part, element_part, anchor_part, children, bound, no_parts, part_then}
 
 -- the key of a number on a scope's path
 abbrev pub key_on : List ℕ → ℕ → Key
@@ -48,22 +48,27 @@ linked_value keys (template.classes c) = classes (linked_class keys c)
 abbrev pub linked_values : (ℕ → Key) → PartAttributes → DrawnAttributes
 linked_values keys ats = map (λ a. (a.0, linked_value keys a.1)) ats
 
--- what stands of parts, given the keys of the sites and the name of the first node
+-- what stands of parts, given the keys of the sites, the name of the first node, and the bodies that stand in each outlet
 abbrev mutual
-  pub part_shape : (ℕ → Key) → ℕ → Part → Stand
-  part_shape keys n (text_part ps) = text_stands n (linked_pieces keys ps)
-  part_shape keys n (comment_part t) = comment_stands n t
-  part_shape keys n (element_part e own acts ats c) = element_stands n e (linked_values keys ats) (content_shape keys (n + 1) c)
+  pub part_shape : (ℕ → Key) → ℕ → (ℕ → Bodies) → Part → Stand
+  part_shape keys n groups (text_part ps) = text_stands n (linked_pieces keys ps)
+  part_shape keys n groups (comment_part t) = comment_stands n t
+  part_shape keys n groups (element_part e own acts ats c) = element_stands n e (linked_values keys ats) (content_shape keys (n + 1) groups c)
+  part_shape keys n groups (anchor_part outlet own starts) = block_stands n (groups outlet)
 
-  pub content_shape : (ℕ → Key) → ℕ → Contents → Stands
-  content_shape keys n (children ps) = shape keys n ps
-  content_shape keys n (bound k) = stand_then (text_stands n (Hole (keys k) ∷ [])) none_stand
+  pub content_shape : (ℕ → Key) → ℕ → (ℕ → Bodies) → Contents → Stands
+  content_shape keys n groups (children ps) = shape keys n groups ps
+  content_shape keys n groups (bound k) = stand_then (text_stands n (Hole (keys k) ∷ [])) none_stand
 
-  pub shape : (ℕ → Key) → ℕ → Parts → Stands
-  shape keys n no_parts = none_stand
-  shape keys n (part_then p ps) = stand_then (part_shape keys n p) (shape keys (n + part_nodes p) ps)
+  pub shape : (ℕ → Key) → ℕ → (ℕ → Bodies) → Parts → Stands
+  shape keys n groups no_parts = none_stand
+  shape keys n groups (part_then p ps) = stand_then (part_shape keys n groups p) (shape keys (n + part_nodes p) groups ps)
 
--- An element's own site is drawn in it, but for the one whose text its contents are.
+-- no body stands in any outlet yet
+abbrev pub unfilled : ℕ → Bodies
+unfilled o = no_bodies
+
+-- An element's own site is drawn in it, but for the one whose text its contents are. That of an anchor is said to be in it, too.
 abbrev pub own_node : ℕ → Contents → ℕ → ℕ
 own_node n (children ps) k = n
 own_node n (bound b) k = if k == b then n + 1 else n
@@ -79,6 +84,7 @@ abbrev mutual
   part_holes n (text_part ps) = piece_holes n ps
   part_holes n (comment_part t) = []
   part_holes n (element_part e own acts ats c) = map (own_node n c) own ++ content_holes (n + 1) c
+  part_holes n (anchor_part outlet own starts) = map (λ _. n) own
 
   pub content_holes : ℕ → Contents → List ℕ
   content_holes n (children ps) = holes n ps

@@ -11,16 +11,16 @@ use Rattle.ng_markup.specs.Forest.{Forest}
 use Rattle.ng_watch.specs.Seen.{WatchStands}
 use Rattle.ng_watch.specs.Table.{Table}
 use Rattle.ng_link.specs.Holes.{HolesBelow}
-use Rattle.ng_link.specs.Shape.{shape}
+use Rattle.ng_link.specs.Shape.{shape, unfilled}
 use Rattle.ng_link.specs.Sources.{sources}
 use Rattle.ng_link.specs.State.{Page, keys_of, Linked, state_of, places_of, looks_in}
 use Rattle.ng_link.specs.declared.works.Works.{Works}
 
 -- a template's parts stand with the keys of an instance, from its first node on
 pub record HasShape (t : Template) (p : Page) (ts : Stands) : Type 0 where
-  pub shape : ts ≡ shape (keys_of p) p.node t.parts
-  pub count : length p.serials ≡ length t.sites
-  pub holes : HolesBelow (length p.serials) t.parts
+  pub shape : ts ≡ shape (keys_of p) p.node unfilled t.own.parts
+  pub count : length p.serials ≡ length t.own.sites
+  pub holes : HolesBelow (length p.serials) t.own.parts
 
 -- nothing stands, and the document has no node
 pub record NothingStands (d : Dom) (ts : Stands) : Type 0 where

@@ -15,9 +15,9 @@ use Rattle.ng_dom.specs.Document.{next_name}
 use Rattle.ng_dom.specs.Drawing.{Look}
 use Rattle.ng_drawing.specs.Drawing.{Rendered, shown_as}
 use Rattle.ng_drawing.specs.Instance as instances
-use Rattle.ng_drawing.specs.Instance.{SiteState, Instance}
+use Rattle.ng_drawing.specs.Instance.{SiteState, Instance, instance_with, no_outlets}
 use Rattle.ng_drawing.specs.Looks.{kept_text, kept_words, kept_truth}
-use Rattle.ng_drawing.specs.Template.{Template, no_parts}
+use Rattle.ng_drawing.specs.Template.{Template, no_fragment}
 use Rattle.ng_language.specs.Trees.{Trees}
 use Rattle.ng_markup.specs.Forest.{Forest, no_nodes}
 use Rattle.ng_parse.specs.ProgramOf.{program}
@@ -114,13 +114,16 @@ looks_in s = looks_of s.watchers s.resting
 abbrev pub site_state : Table → Resting → ℕ → Key → SiteState
 site_state t r scope k = record { key = k; scope = scope; kept = kept_in t r k; rests = not (is_some (found k t)) }
 
--- the instance that stands
-abbrev pub instance_at : Table → Resting → Page → Instance
-instance_at t r p = record { scope = p.scope; sites = map (λ n. site_state t r p.scope (key_on p.path n)) p.serials }
+abbrev pub site_states : Table → Resting → Page → List SiteState
+site_states t r p = map (λ n. site_state t r p.scope (key_on p.path n)) p.serials
+
+-- the instance that stands, in whose outlets there is no body yet
+abbrev pub instance_at : Table → Resting → Linked → Instance
+instance_at t r l = instance_with l.template.own l.page.scope (site_states t r l.page) no_outlets
 
 abbrev pub instance_in : Table → Resting → Option Linked → Option Instance
 instance_in t r None = None
-instance_in t r (Some l) = Some (instance_at t r l.page)
+instance_in t r (Some l) = Some (instance_at t r l)
 
 -- the page's instance; there is none where the opening link met a fault
 abbrev pub instance : State → Option Instance
@@ -128,7 +131,7 @@ instance s = instance_in s.watchers s.resting s.linked
 
 abbrev pub shown_in : Table → Resting → Option Linked → Forest
 shown_in t r None = no_nodes
-shown_in t r (Some l) = instances.shown l.template (instance_at t r l.page)
+shown_in t r (Some l) = instances.shown (instance_at t r l)
 
 -- the document that a page shows: the drawing with what its sites have kept
 abbrev pub shown : State → Forest
@@ -136,7 +139,7 @@ shown s = shown_in s.watchers s.resting s.linked
 
 abbrev pub rendering_in : act.State → Table → Resting → Option Linked → Rendered Forest
 rendering_in c t r None = shown_as no_nodes
-rendering_in c t r (Some l) = instances.rendering c.objects c.scopes l.template (instance_at t r l.page)
+rendering_in c t r (Some l) = instances.rendering c.objects c.scopes (instance_at t r l)
 
 -- The rendering: the document computed afresh over data and scopes. Without an instance it is empty.
 abbrev pub rendering : State → Rendered Forest
@@ -151,7 +154,7 @@ template_at all n = option_map (λ k. k.1) (slice_get all n)
 
 -- the template of a number, or an empty one
 abbrev pub template_or : List Named → ℕ → Template
-template_or all n = unwrap_or (template_at all n) (record { parts = no_parts; sites = [] })
+template_or all n = unwrap_or (template_at all n) (record { own = no_fragment; bodies = [] })
 
 abbrev pub handled_of : List (ℕ × Vec Handler Global) → Handled
 handled_of t = map (λ e. (e.0, map handler_of e.1.items)) t
@@ -167,8 +170,11 @@ page_of i = record {
   handlers = handled_of i.handlers.entries;
 }
 
+abbrev pub one_of : List Named → code.Linked → Linked
+one_of all p = record { template = template_or all p.template.0; page = page_of p }
+
 abbrev pub linked_of : List Named → Option code.Linked → Option Linked
-linked_of all i = option_map (λ p. record { template = template_or all p.template.0; page = page_of p }) i
+linked_of all i = option_map (one_of all) i
 
 abbrev pub resting_of : List (Key × Option Snap) → Resting
 resting_of r = map (λ e. (e.0, option_map snap_of e.1)) r

@@ -2,7 +2,7 @@
 ghost use Rattle.std.specs.Prelude.{◌≡◌, ◌+◌, ◌≤◌, ◌<◌, ◌++◌, map, true, Some, IfOk, OnOk, IfErr};
 ghost use Rattle.ng_base.specs.Faults.{is_memory};
 ghost use Rattle.ng_dom.specs.Document.{next_name, live_count, Gains, IsLive};
-ghost use Rattle.ng_dom.specs.Drawing.{stand_then, none_stand, comment_stands, element_stands, shows};
+ghost use Rattle.ng_dom.specs.Drawing.{stand_then, none_stand, no_bodies, comment_stands, element_stands, block_stands, shows};
 ghost use Rattle.ng_dom.specs.Making.{new_part, node_limit as dom_limit};
 ghost use Rattle.ng_dom.specs.Nodes.{names_of};
 ghost use Rattle.ng_drawing.specs.Nodes.{part_nodes, content_nodes, nodes};
@@ -10,7 +10,7 @@ ghost use Rattle.ng_drawing.specs.Template.{parts_from, text_part, bound};
 ghost use Rattle.ng_template.specs.PieceOf.{piece_of as seen_piece};
 ghost use Rattle.ng_template.specs.Seen.{part_of, contents_of};
 ghost use Rattle.ng_link.specs.Building.{unset, parent_name, IsThere, IsMade, Builds};
-ghost use Rattle.ng_link.specs.Shape.{keys_in, linked_values, part_shape, content_shape, shape, own_node, piece_holes, part_holes, content_holes, holes};
+ghost use Rattle.ng_link.specs.Shape.{keys_in, linked_values, part_shape, content_shape, shape, unfilled, own_node, piece_holes, part_holes, content_holes, holes};
 ghost use Rattle.ng_link.specs.Seen.{fault_of, named_as};
 
 use crate::attributes::unset_attributes;
@@ -112,7 +112,7 @@ fn build_text(
     requires there { IsThere dom.old parent }
     requires room { live_count dom.old < dom_limit }
     ensures name { IfOk result (λ n. n.made.0 ≡ next_name dom.old) }
-    ensures builds { OnOk result (Builds (parent_name parent) (stand_then (part_shape (keys_in path.now serials.now) (next_name dom.old) (text_part pieces.now)) none_stand) 1 dom.old dom.new) }
+    ensures builds { OnOk result (Builds (parent_name parent) (stand_then (part_shape (keys_in path.now serials.now) (next_name dom.old) unfilled (text_part pieces.now)) none_stand) 1 dom.old dom.new) }
     ensures faults { IfErr result (λ e. is_memory e ≡ true) }
 {
     let drawn = copied_pieces(alloc, path, serials, pieces.as_slice())?;
@@ -154,7 +154,7 @@ fn build_bound(
     requires there { IsThere dom.old parent }
     requires room { live_count dom.old < dom_limit }
     ensures name { IfOk result (λ n. n.made.0 ≡ next_name dom.old) }
-    ensures builds { OnOk result (Builds (parent_name parent) (content_shape (keys_in path.now serials.now) (next_name dom.old) (bound b)) 1 dom.old dom.new) }
+    ensures builds { OnOk result (Builds (parent_name parent) (content_shape (keys_in path.now serials.now) (next_name dom.old) unfilled (bound b)) 1 dom.old dom.new) }
     ensures faults { IfErr result (λ e. is_memory e ≡ true) }
 {
     let mut drawn = Vec::new(alloc);
@@ -192,8 +192,21 @@ fn build_element(
         DomPart::Node(NewNode::Element(name)),
         Home::Attributes(drawn),
     )?;
-    dom.set_attrs(n, shown);
+    if !shown.is_empty() {
+        dom.set_attrs(n, shown);
+    }
     Ok(n)
+}
+
+/// An anchor's node, in whose groups nothing stands yet.
+fn build_anchor(dom: &mut Dom, parent: Option<NodeId>) -> Result<NodeId, Fault>
+    requires there { IsThere dom.old parent }
+    requires room { live_count dom.old < dom_limit }
+    ensures name { IfOk result (λ n. n.made.0 ≡ next_name dom.old) }
+    ensures builds { OnOk result (Builds (parent_name parent) (stand_then (block_stands (next_name dom.old) no_bodies) none_stand) 1 dom.old dom.new) }
+    ensures faults { IfErr result (λ e. is_memory e ≡ true) }
+{
+    make(dom, parent, DomPart::Anchor, Home::Plain)
 }
 
 /// The node of a part, with all that it holds.
@@ -210,7 +223,7 @@ fn build_part(
     requires there { IsThere dom.old parent }
     requires room { live_count dom.old + part_nodes (part_of part.now) ≤ dom_limit }
     ensures name { IfOk result (λ n. n.made.0 ≡ next_name dom.old) }
-    ensures builds { OnOk result (Builds (parent_name parent) (stand_then (part_shape (keys_in path.now serials.now) (next_name dom.old) (part_of part.now)) none_stand) (part_nodes (part_of part.now)) dom.old dom.new) }
+    ensures builds { OnOk result (Builds (parent_name parent) (stand_then (part_shape (keys_in path.now serials.now) (next_name dom.old) unfilled (part_of part.now)) none_stand) (part_nodes (part_of part.now)) dom.old dom.new) }
     ensures holes { OnOk result (spots.new.items ≡ spots.old.items ++ part_holes (next_name dom.old) (part_of part.now)) }
     ensures faults { IfErr result (λ e. is_memory e ≡ true) }
 {
@@ -221,6 +234,11 @@ fn build_part(
             Ok(n)
         }
         Part::Comment(text) => build_comment(dom, parent, text),
+        Part::Anchor { own, .. } => {
+            let n = build_anchor(dom, parent)?;
+            note_own(spots, n, own.as_slice())?;
+            Ok(n)
+        }
         Part::Element {
             name,
             own,
@@ -259,7 +277,7 @@ fn build_whole(
     requires there { IsThere dom.old parent }
     requires room { live_count dom.old + (1 + content_nodes (contents_of contents.now)) ≤ dom_limit }
     ensures name { IfOk result (λ n. n.made.0 ≡ next_name dom.old) }
-    ensures builds { OnOk result (Builds (parent_name parent) (stand_then (element_stands (next_name dom.old) name.now (linked_values (keys_in path.now serials.now) attributes.now) (content_shape (keys_in path.now serials.now) (next_name dom.old + 1) (contents_of contents.now))) none_stand) (1 + content_nodes (contents_of contents.now)) dom.old dom.new) }
+    ensures builds { OnOk result (Builds (parent_name parent) (stand_then (element_stands (next_name dom.old) name.now (linked_values (keys_in path.now serials.now) attributes.now) (content_shape (keys_in path.now serials.now) (next_name dom.old + 1) unfilled (contents_of contents.now))) none_stand) (1 + content_nodes (contents_of contents.now)) dom.old dom.new) }
     ensures holes { OnOk result (spots.new.items ≡ spots.old.items ++ (map (own_node (next_name dom.old) (contents_of contents.now)) own.now ++ content_holes (next_name dom.old + 1) (contents_of contents.now))) }
     ensures faults { IfErr result (λ e. is_memory e ≡ true) }
 {
@@ -284,8 +302,8 @@ fn build_contents(
     requires there { IsLive dom.old n.made.0 }
     requires last { next_name dom.old ≡ n.made.0 + 1 }
     requires room { live_count dom.old + content_nodes (contents_of contents.now) ≤ dom_limit }
-    ensures names { IfOk result (λ g. g.nodes.items ≡ names_of (shows unset (content_shape (keys_in path.now serials.now) (next_name dom.old) (contents_of contents.now)))) }
-    ensures builds { OnOk result (Builds (Some n.made.0) (content_shape (keys_in path.now serials.now) (next_name dom.old) (contents_of contents.now)) (content_nodes (contents_of contents.now)) dom.old dom.new) }
+    ensures names { IfOk result (λ g. g.nodes.items ≡ names_of (shows unset (content_shape (keys_in path.now serials.now) (next_name dom.old) unfilled (contents_of contents.now)))) }
+    ensures builds { OnOk result (Builds (Some n.made.0) (content_shape (keys_in path.now serials.now) (next_name dom.old) unfilled (contents_of contents.now)) (content_nodes (contents_of contents.now)) dom.old dom.new) }
     ensures holes { OnOk result (spots.new.items ≡ spots.old.items ++ (map (own_node n.made.0 (contents_of contents.now)) own.now ++ content_holes (next_name dom.old) (contents_of contents.now))) }
     ensures faults { IfErr result (λ e. is_memory e ≡ true) }
 {
@@ -317,8 +335,8 @@ pub(crate) fn build_parts(
 ) -> Result<Group, Fault>
     requires there { IsThere dom.old parent }
     requires room { live_count dom.old + nodes (parts_from (map part_of parts.now)) ≤ dom_limit }
-    ensures names { IfOk result (λ g. g.nodes.items ≡ names_of (shows unset (shape (keys_in path.now serials.now) (next_name dom.old) (parts_from (map part_of parts.now))))) }
-    ensures builds { OnOk result (Builds (parent_name parent) (shape (keys_in path.now serials.now) (next_name dom.old) (parts_from (map part_of parts.now))) (nodes (parts_from (map part_of parts.now))) dom.old dom.new) }
+    ensures names { IfOk result (λ g. g.nodes.items ≡ names_of (shows unset (shape (keys_in path.now serials.now) (next_name dom.old) unfilled (parts_from (map part_of parts.now))))) }
+    ensures builds { OnOk result (Builds (parent_name parent) (shape (keys_in path.now serials.now) (next_name dom.old) unfilled (parts_from (map part_of parts.now))) (nodes (parts_from (map part_of parts.now))) dom.old dom.new) }
     ensures holes { OnOk result (spots.new.items ≡ spots.old.items ++ holes (next_name dom.old) (parts_from (map part_of parts.now))) }
     ensures faults { IfErr result (λ e. is_memory e ≡ true) }
 {

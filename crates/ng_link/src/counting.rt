@@ -16,6 +16,7 @@ fn part_nodes(part: &Part) -> u64
     match part {
         Part::Text(_) => 1,
         Part::Comment(_) => 1,
+        Part::Anchor { .. } => 1,
         Part::Element { contents, .. } => content_nodes(contents).saturating_add(1),
     }
 }

@@ -81,6 +81,7 @@ fn enter_part(
     match part {
         Part::Text(_) => after(n),
         Part::Comment(_) => after(n),
+        Part::Anchor { .. } => after(n),
         Part::Element { acts, contents, .. } => {
             enter(alloc, table, n, acts.handlers.as_slice())?;
             enter_contents(alloc, table, after(n)?, contents)

@@ -2,7 +2,8 @@
 ghost use Rattle.std.specs.Prelude.{◌≡◌, IfOk, option_map};
 ghost use Rattle.ng_drawing.specs.InstanceOf.{state_of as seen_state, instance_of};
 ghost use Rattle.ng_value.specs.Snaps.{snap_of};
-ghost use Rattle.ng_link.specs.State.{page_of, kept_in, site_state, instance_at, instance, state_of};
+ghost use Rattle.ng_link.specs.State.{kept_in, site_state, instance_at, instance, state_of, one_of, templates_of};
+ghost use Rattle.ng_template.specs.Kept.{fragments_in};
 
 use crate::copying::key_on;
 use crate::looks::kept_in;
@@ -40,7 +41,7 @@ fn site_state(works: &Works, scope: ScopeId, key: Key) -> Result<SiteState, Memo
 
 /// The instance that stands.
 fn instance_of(works: &Works, page: &Linked) -> Result<Instance, Memory>
-    ensures { IfOk result (λ i. instance_of i ≡ instance_at (state_of works.now).watchers (state_of works.now).resting (page_of page.now)) }
+    ensures { IfOk result (λ i. instance_of (fragments_in (templates_of works.now)) i ≡ instance_at (state_of works.now).watchers (state_of works.now).resting (one_of (templates_of works.now) page.now)) }
 {
     let mut sites = Vec::new(works.alloc);
     for serial in page.spots.keys() {
@@ -48,15 +49,18 @@ fn instance_of(works: &Works, page: &Linked) -> Result<Instance, Memory>
         sites.push(site_state(works, page.scope, key)?)?;
     }
     Ok(Instance {
+        template: page.template,
+        fragment: 0,
         scope: page.scope,
         sites,
+        outlets: Vec::new(works.alloc),
     })
 }
 
 impl Works {
     /// The instance that stands, with what its sites have kept. It is read off the tables, and its size is that of the page.
     pub fn instance(&self) -> Result<Option<Instance>, Memory>
-        ensures { IfOk result (λ i. option_map instance_of i ≡ instance (state_of self.now)) }
+        ensures { IfOk result (λ i. option_map (instance_of (fragments_in (templates_of self.now))) i ≡ instance (state_of self.now)) }
     {
         match &self.page {
             None => Ok(None),

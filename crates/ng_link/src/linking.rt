@@ -13,7 +13,7 @@ ghost use Rattle.ng_template.specs.Seen.{parts_of};
 ghost use Rattle.ng_link.specs.Building.{unset, HomedAll};
 ghost use Rattle.ng_link.specs.Calls.{placed_on};
 ghost use Rattle.ng_link.specs.Linking.{steps, site_count};
-ghost use Rattle.ng_link.specs.Shape.{keys_in, shape, holes, linked};
+ghost use Rattle.ng_link.specs.Shape.{keys_in, shape, unfilled, holes, linked};
 ghost use Rattle.ng_link.specs.Sources.{sources};
 ghost use Rattle.ng_link.specs.Standing.{Standing, IsStanding};
 ghost use Rattle.ng_link.specs.State.{state_of, templates_of, template_at};
@@ -42,8 +42,8 @@ fn link_document(
     parts: &Parts,
 ) -> Result<Vec<u64>, Fault>
     requires room { live_count dom.old + nodes (parts_of parts.now) ≤ node_limit }
-    ensures shows { OnOk result (Shows dom.new (shows unset (shape (keys_in path.now serials.now) (next_name dom.old) (parts_of parts.now)))) }
-    ensures homed { OnOk result (HomedAll (sources dom.new) (shape (keys_in path.now serials.now) (next_name dom.old) (parts_of parts.now))) }
+    ensures shows { OnOk result (Shows dom.new (shows unset (shape (keys_in path.now serials.now) (next_name dom.old) unfilled (parts_of parts.now)))) }
+    ensures homed { OnOk result (HomedAll (sources dom.new) (shape (keys_in path.now serials.now) (next_name dom.old) unfilled (parts_of parts.now))) }
     ensures holes { IfOk result (λ h. h.items ≡ holes (next_name dom.old) (parts_of parts.now)) }
     ensures next { OnOk result (next_name dom.new ≡ next_name dom.old + nodes (parts_of parts.now)) }
     ensures faults { IfErr result (λ e. is_memory e ≡ true) }
@@ -66,20 +66,20 @@ impl Works {
     /// The order in which a template is linked.
     pub fn link_order(&self, t: TplId) -> Result<Vec<LinkStep>, Memory>
         requires template { t.0 < length (templates_of self.now) }
-        ensures { (tpl : Template) → template_at (templates_of self.now) t.0 ≡ Some tpl → IfOk result (λ v. map step_of v.items ≡ steps tpl.parts) }
+        ensures { (tpl : Template) → template_at (templates_of self.now) t.0 ≡ Some tpl → IfOk result (λ v. map step_of v.items ≡ steps tpl.own.parts) }
     {
         let mut order = Vec::new(self.alloc);
-        let tpl = self.templates.get(t);
-        add_parts(&mut order, self.alloc, tpl.parts().as_slice())?;
+        let own = self.templates.get(t).own();
+        add_parts(&mut order, self.alloc, own.parts().as_slice())?;
         Ok(order)
     }
 
     /// Whether the nodes of a template find room.
     pub fn has_room(&self, t: TplId) -> bool
         requires template { t.0 < length (templates_of self.now) }
-        ensures { (tpl : Template) → template_at (templates_of self.now) t.0 ≡ Some tpl → is_ok (linked 0 tpl.parts) ≡ result }
+        ensures { (tpl : Template) → template_at (templates_of self.now) t.0 ≡ Some tpl → is_ok (linked 0 tpl.own.parts) ≡ result }
     {
-        !is_too_large(self.templates.get(t).parts())
+        !is_too_large(self.templates.get(t).own().parts())
     }
 
     /// A template whose sites have these numbers of registration becomes the page's on a scope: its sites are watched, its nodes are
@@ -91,10 +91,10 @@ impl Works {
         requires objects { AreAmong (length (state_of self.old).core.objects) (state_of self.old).core.scopes }
         requires bare { (state_of self.old).linked ≡ None }
         requires stands { Standing self.old none_stand }
-        requires room { (tpl : Template) → template_at (templates_of self.old) t.0 ≡ Some tpl → linked 0 tpl.parts ≡ Ok tt }
+        requires room { (tpl : Template) → template_at (templates_of self.old) t.0 ≡ Some tpl → linked 0 tpl.own.parts ≡ Ok tt }
         requires rising { IsStrictlySortedBy nat_cmp serials.now }
         requires below { AllByRecursion (λ n. n < (state_of self.old).core.serial) serials.now }
-        requires count { (tpl : Template) → template_at (templates_of self.old) t.0 ≡ Some tpl → length serials.now ≡ site_count (steps tpl.parts) }
+        requires count { (tpl : Template) → template_at (templates_of self.old) t.0 ≡ Some tpl → length serials.now ≡ site_count (steps tpl.own.parts) }
         ensures state { OnOk result ((tpl : Template) → template_at (templates_of self.old) t.0 ≡ Some tpl → state_of self.new ≡ placed_on t.0 scope.0 tpl serials.now (state_of self.old)) }
         ensures core { OnOk result (self.new.core ≡ self.old.core) }
         ensures stands { OnOk result (IsStanding self.new) }
@@ -102,19 +102,20 @@ impl Works {
         ensures faults { IfErr result (λ e. is_memory e ≡ true) }
     {
         let tpl = self.templates.get(t);
+        let own = tpl.own();
         let path = self.core.scopes.path(scope).copied()?;
         let object = self.core.scopes.object(scope);
         let node = self.dom.next_name();
         let mut handlers = BTreeMap::new(self.alloc);
-        enter_parts(self.alloc, &mut handlers, node, tpl.parts().as_slice())?;
-        let nodes = link_document(self.alloc, &mut self.dom, &path, serials, tpl.parts())?;
+        enter_parts(self.alloc, &mut handlers, node, own.parts().as_slice())?;
+        let nodes = link_document(self.alloc, &mut self.dom, &path, serials, own.parts())?;
         watch_all(
             &mut self.watchers,
             self.alloc,
             &path,
             object,
             serials,
-            tpl.sites(),
+            own.sites(),
         )?;
         let spots = spots_of(self.alloc, serials, nodes.as_slice())?;
         self.page = Some(Linked {

@@ -62,6 +62,11 @@ fn add_part(order: &mut Vec<LinkStep>, alloc: Global, part: &Part) -> Result<(),
     match part {
         Part::Text(pieces) => Ok(add_pieces(order, pieces.as_slice())?),
         Part::Comment(_) => Ok(()),
+        Part::Anchor { own, starts, .. } => {
+            add_starts(order, alloc, starts.as_slice())?;
+            add_own(order, own.as_slice())?;
+            Ok(())
+        }
         Part::Element {
             own,
             acts,

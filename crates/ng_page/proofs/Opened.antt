@@ -60,7 +60,7 @@ all_watched t o path (n ∷ ns) [] e each = tt
 all_watched t o path [] (x ∷ xs) e each = absurd (omega (arith, e))
 all_watched t o path (n ∷ ns) (x ∷ xs) e each = (each 0 n x refl refl, all_watched t o path ns xs (omega (arith, e)) (λ j m y at is. each (suc j) m y at is))
 
-placed_watched : (t : Template) (serials : List ℕ) (s : State) → IsStrictlySortedBy nat_cmp serials → length serials ≡ length t.sites → IsOrdered s → IsWatched (placed_on 0 0 t serials s)
+placed_watched : (t : Template) (serials : List ℕ) (s : State) → IsStrictlySortedBy nat_cmp serials → length serials ≡ length t.own.sites → IsOrdered s → IsWatched (placed_on 0 0 t serials s)
 placed_watched t serials s rising many order =
     let u : State = placed_on 0 0 t serials s in
     let path : List ℕ = path_at s.core.scopes 0 in
@@ -69,8 +69,8 @@ placed_watched t serials s rising many order =
       template = refl;
       scope = refl;
       count = many;
-      watched = all_watched u.watchers object path serials t.sites many
-          (λ j n x at is. found_all (key_on path n) (fresh object x) u.watchers (placed_ordered 0 0 t serials s order) (sites_found path object serials t.sites s.watchers j n x rising at is));
+      watched = all_watched u.watchers object path serials t.own.sites many
+          (λ j n x at is. found_all (key_on path n) (fresh object x) u.watchers (placed_ordered 0 0 t serials s order) (sites_found path object serials t.own.sites s.watchers j n x rising at is));
     }
 
 pub rest_cases : (P : State → Type 0) (b : Bool) (s t : State) → P s → P t → P (cond b s t)
@@ -85,18 +85,18 @@ rested_linked : (s : State) → (rested_on 0 s).linked ≡ s.linked
 rested_linked s = rest_cases (λ t. t.linked ≡ s.linked) (live_at s.core.scopes 0) s (left_at (path_at s.core.scopes 0) s) refl refl
 
 -- what stands has a number for each site
-standing_count : (o : Option Linked) (d : Dom) (ts : Stands) (l : Linked) → IsPage o d ts → o ≡ Some l → length l.page.serials ≡ length l.template.sites
+standing_count : (o : Option Linked) (d : Dom) (ts : Stands) (l : Linked) → IsPage o d ts → o ≡ Some l → length l.page.serials ≡ length l.template.own.sites
 standing_count None d ts l h e = absurd (cc)
-standing_count (Some k) d ts l h e = let same : k ≡ l = cc in subst (λ (x : Linked). length x.page.serials ≡ length x.template.sites) same h.count
+standing_count (Some k) d ts l h e = let same : k ≡ l = cc in subst (λ (x : Linked). length x.page.serials ≡ length x.template.own.sites) same h.count
 
-pub link_watched : (w : Works) (t : Template) (s : State) → linked 0 t.parts ≡ Ok tt → state_of w ≡ link_on 0 0 t s → IsWhole w → IsOrdered s → IsWatched (state_of w)
+pub link_watched : (w : Works) (t : Template) (s : State) → linked 0 t.own.parts ≡ Ok tt → state_of w ≡ link_on 0 0 t s → IsWhole w → IsOrdered s → IsWatched (state_of w)
 link_watched w t s room e h order =
-    let g : Linking = steps_linked 0 (steps t.parts) (begins_linking s) in
+    let g : Linking = steps_linked 0 (steps t.own.parts) (begins_linking s) in
     let p : State = placed_on 0 0 t g.serials g.state in
     let is : state_of w ≡ rested_on 0 p = e ∙ ap (λ o. link_by 0 0 t o s) room in
     let stands : (state_of w).linked ≡ p.linked = ap (λ (x : State). x.linked) is ∙ rested_linked p in
-    let many : length g.serials ≡ length t.sites = standing_count (state_of w).linked w.dom h.standing.0 (record { template = t; page = page_on 0 0 t g.serials g.state }) h.standing.1.page stands in
-    subst IsWatched (sym is) (rested_watched p (placed_watched t g.serials g.state (linking_numbered 0 (steps t.parts) s).rising many (steps_ordered 0 (steps t.parts) (begins_linking s) order)))
+    let many : length g.serials ≡ length t.own.sites = standing_count (state_of w).linked w.dom h.standing.0 (record { template = t; page = page_on 0 0 t g.serials g.state }) h.standing.1.page stands in
+    subst IsWatched (sym is) (rested_watched p (placed_watched t g.serials g.state (linking_numbered 0 (steps t.own.parts) s).rising many (steps_ordered 0 (steps t.own.parts) (begins_linking s) order)))
 
 -- ---- the page's template is the first
 

@@ -42,10 +42,10 @@ prepared_by f v w p c e g i h =
     h ∙ (ap (λ (s : State). followed (program_run 0 p s.core) s) (e ∙ ap blank g) ∙ ap (λ q. followed (program_run 0 q (installed f)) (blank (installed f))) i)
 
 -- a template that has room is linked
-pub linked_fine : (u : Template) (s r : State) → linked 0 u.parts ≡ Ok tt → r ≡ link_on 0 0 u s → r ≡ linked_on u s
+pub linked_fine : (u : Template) (s r : State) → linked 0 u.own.parts ≡ Ok tt → r ≡ link_on 0 0 u s → r ≡ linked_on u s
 linked_fine u s r room e = e ∙ ap (λ o. linked_by o (link_on 0 0 u s)) (sym room)
 
-pub linked_fault : (u : Template) (s t r : State) (f : Fault) → linked 0 u.parts ≡ Err f → t ≡ link_on 0 0 u s → r ≡ with_core (act.with_fault f t.core) t → r ≡ linked_on u s
+pub linked_fault : (u : Template) (s t r : State) (f : Fault) → linked 0 u.own.parts ≡ Err f → t ≡ link_on 0 0 u s → r ≡ with_core (act.with_fault f t.core) t → r ≡ linked_on u s
 linked_fault u s t r f room e h = h ∙ (ap (λ (x : State). with_core (act.with_fault f x.core) x) e ∙ ap (λ o. linked_by o (link_on 0 0 u s)) (sym room))
 
 pub bare_watched : (s : State) → s.linked ≡ None → IsWatched s

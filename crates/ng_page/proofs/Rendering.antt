@@ -14,7 +14,7 @@ use Rattle.ng_drawing.specs.Instance.{SiteState, state_kept, snapshot_as, snapsh
 use Rattle.ng_drawing.specs.Template.{Site}
 use Rattle.ng_drawing.specs.declared.kind.SiteKind.{SiteKind}
 use Rattle.ng_drawing.specs.declared.kind.SiteKind.TheVariants as sites
-use Rattle.ng_drawing.proofs.Fresh.{fresh_parts}
+use Rattle.ng_drawing.proofs.FreshInstances.{fresh_instance}
 use Rattle.ng_link.specs.Rows.{watch_kind, watching_site}
 use Rattle.ng_link.specs.Shape.{key_on}
 use Rattle.ng_link.specs.State.{State, Linked, Resting, kept_or, site_state, instance_at, shown_in, shown, rendering_in, rendering}
@@ -89,10 +89,11 @@ module _ (c : act.State) (t : Table) (r : Resting) (settled : (k : Key) (w : Wat
 settled_in : (c : act.State) (t : Table) (r : Resting) (o : Option Linked) → ((k : Key) (w : Watcher) → found k t ≡ Some w → verdict c.objects w ≡ Ok clean) → IsLinkedIn c t o → rendering_in c t r o ≡ shown_as (shown_in t r o)
 settled_in c t r None settled h = refl
 settled_in c t r (Some l) settled h =
-    fresh_parts (λ n. state_kept (slice_get (instance_at t r l.page).sites n)) (λ n. site_now c.objects c.scopes (slice_get l.template.sites n) (slice_get (instance_at t r l.page).sites n))
-    (λ n. sites_show c t r settled l.page.scope l.page.path l.page.serials l.template.sites n h.count
-    (subst (λ s. AreWatched t (object_at c.scopes s) l.page.path l.page.serials l.template.sites) (sym h.scope) h.watched))
-    l.template.parts
+    fresh_instance c.objects c.scopes (instance_at t r l) (
+      λ n. sites_show c t r settled l.page.scope l.page.path l.page.serials l.template.own.sites n h.count
+      (subst (λ s. AreWatched t (object_at c.scopes s) l.page.path l.page.serials l.template.own.sites) (sym h.scope) h.watched),
+      tt,
+    )
 
 pub settled_renders : (s : State) → IsSettled s → IsWatched s → rendering s ≡ shown_as (shown s)
 settled_renders s settled h = settled_in s.core s.watchers s.resting s.linked settled h

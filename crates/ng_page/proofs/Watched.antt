@@ -41,8 +41,8 @@ linked_stays s t (Some l) each e h = record {
   template = h.template;
   scope = h.scope;
   count = h.count;
-  watched = subst (λ o. AreWatched t.watchers o l.page.path l.page.serials l.template.sites) (sym e)
-      (all_stay l.page.path s.watchers t.watchers (object_at s.core.scopes 0) l.page.serials l.template.sites (λ j n v at. each (key_on l.page.path n) v (site_in l.page.path l.page.serials j n at)) h.watched);
+  watched = subst (λ o. AreWatched t.watchers o l.page.path l.page.serials l.template.own.sites) (sym e)
+      (all_stay l.page.path s.watchers t.watchers (object_at s.core.scopes 0) l.page.serials l.template.own.sites (λ j n v at. each (key_on l.page.path n) v (site_in l.page.path l.page.serials j n at)) h.watched);
 }
 
 pub watched_stays : (s t : State) → SitesStay s t → IsWatched s → IsWatched t

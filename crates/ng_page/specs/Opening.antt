@@ -23,7 +23,7 @@ linked_by (Err f) s = with_core (act.with_fault f s.core) s
 
 -- the page's own template is the first
 abbrev pub linked_on : Template → link.State → link.State
-linked_on t s = linked_by (linked 0 t.parts) (link_on 0 0 t s)
+linked_on t s = linked_by (linked 0 t.own.parts) (link_on 0 0 t s)
 
 -- a page right after its template was linked
 abbrev pub opening : Facts → Template → link.State

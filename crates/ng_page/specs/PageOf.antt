@@ -2,14 +2,20 @@
 use Rattle.std.specs.Prelude.{◌≡◌, false}
 use Rattle.ng_dom.specs.Document as document
 use Rattle.ng_dom.specs.Nodes.{NamedForest}
+use Rattle.ng_drawing.specs.InstanceOf.{Fragments}
 use Rattle.ng_link.specs.Standing as standing
 use Rattle.ng_link.specs.State as link
 use Rattle.ng_markup.specs.Forest.{Forest}
+use Rattle.ng_template.specs.Kept.{fragments_in}
 use Rattle.ng_page.specs.PlaceOf.{PageIs}
 use Rattle.ng_page.specs.declared.page.Page.{Page}
 
 abbrev pub state_of : Page → link.State
 state_of p = link.state_of p.engine.works
+
+-- the fragments of its templates, by their numbers
+abbrev pub fragments_of : Page → Fragments
+fragments_of p = fragments_in (link.templates_of p.engine.works)
 
 -- What holds of a page, unless memory ran out: what stands of its template is known, node by node, and each site is watched.
 abbrev pub IsPage : Page → Type 0

@@ -30,8 +30,8 @@ AreWatched t o path (n ∷ ns) (x ∷ xs) = WatchesAt (key_on path n) (watching_
 pub record IsLinked (c : act.State) (t : Table) (l : Linked) : Type 0 where
   pub template : l.page.template ≡ 0
   pub scope : l.page.scope ≡ 0
-  pub count : length l.page.serials ≡ length l.template.sites
-  pub watched : AreWatched t (object_at c.scopes 0) l.page.path l.page.serials l.template.sites
+  pub count : length l.page.serials ≡ length l.template.own.sites
+  pub watched : AreWatched t (object_at c.scopes 0) l.page.path l.page.serials l.template.own.sites
 
 abbrev pub IsLinkedIn : act.State → Table → Option Linked → Type 0
 IsLinkedIn c t None = Unit {0}

@@ -17,6 +17,7 @@ ghost use Rattle.ng_link.specs.State as link;
 ghost use Rattle.ng_link.specs.State.{shown, instance, rendering};
 ghost use Rattle.ng_markup.specs.Forest.{Forest as PlainForest, print};
 ghost use Rattle.ng_parse.specs.ProgramOf.{program};
+ghost use Rattle.ng_template.specs.Kept.{fragments_in};
 ghost use Rattle.ng_template.specs.TemplateOf.{template_of};
 ghost use Rattle.ng_view.specs.Purity.{are_pure, all_filters_known};
 ghost use Rattle.ng_page.specs.Answered.{WhenOk};
@@ -36,7 +37,7 @@ use crate::running;
 use ng_act::core_state::Core;
 use ng_app::App;
 use ng_base::fault::{Fault, Memory};
-use ng_base::name::{NodeId, ScopeId, TplId};
+use ng_base::name::{NodeId, ScopeId};
 use ng_base::path::{Path, Target};
 use ng_base::txt::Txt;
 use ng_dom::dom::Dom;
@@ -59,13 +60,12 @@ pub struct Page {
 /// The rendering of the page's instance.
 fn rendered(alloc: Global, works: &Works, i: &Instance) -> Result<Option<Forest>, Fault>
     requires page { PageIs works.now }
-    requires instance { Some (instance_of i.now) ≡ instance (link.state_of works.now) }
+    requires instance { Some (instance_of (fragments_in (link.templates_of works.now)) i.now) ≡ instance (link.state_of works.now) }
     ensures { Gives is_memory (option_map forest_of) (rendering (link.state_of works.now)) result }
 {
     render(
         alloc,
         works.templates(),
-        TplId(0),
         &works.core.store,
         &works.core.scopes,
         i,
@@ -88,7 +88,7 @@ impl Page {
     ghost use Rattle.ng_link.specs.Events.{named};
     ghost use Rattle.ng_page.specs.Commanded.{Commanded, Ended, refusal};
     ghost use Rattle.ng_page.specs.Dispatched.{Dispatched};
-    ghost use Rattle.ng_page.specs.PageOf.{state_of, IsPage, Displays, Names};
+    ghost use Rattle.ng_page.specs.PageOf.{state_of, fragments_of, IsPage, Displays, Names};
     ghost use Rattle.ng_page.specs.Targets.{target_in};
 
     /// Opens a page: what the application has is installed and registered on the root scope, its program runs, the template is
@@ -336,7 +336,7 @@ impl Page {
 
     /// What stands of the template: for each site its key, its scope and what it has kept.
     pub fn instance(&self) -> Result<Option<Instance>, Memory>
-        ensures { IfOk result (λ i. option_map instance_of i ≡ instance (state_of self.now)) }
+        ensures { IfOk result (λ i. option_map (instance_of (fragments_of self.now)) i ≡ instance (state_of self.now)) }
     {
         self.engine.works.instance()
     }

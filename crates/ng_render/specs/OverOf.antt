@@ -1,14 +1,18 @@
 -- What the code renders over stands for.
-use Rattle.std.specs.Prelude.{ℕ, ◌≡◌, ◌<◌, List, length, map, option_map, Some, slice_get}
+use Rattle.std.specs.Prelude.{ℕ, ◌≡◌, ◌<◌, List, length, map, option_map, Some, None, Ok, Err, slice_get, slice_index_or}
 use Rattle.std.specs.List.{AllByRecursion}
 use Rattle.ng_base.specs.Objects.{Object}
 use Rattle.ng_behaviour.specs.Scopes.{Scope, object_at}
-use Rattle.ng_drawing.specs.Drawing.{Now, shown_as}
-use Rattle.ng_drawing.specs.Instance.{SiteState, instance_now}
+use Rattle.ng_drawing.specs.Drawing.{Now, GroupsNow, Rendered, shown_as}
+use Rattle.ng_drawing.specs.Instance.{SiteState, Instance, Instances, Outlets, instance_with, no_instances, instance_then, no_outlets, outlet_then, instance_now}
 use Rattle.ng_drawing.specs.InstanceOf.{state_of}
+use Rattle.ng_html.specs.Seen.{forest_of}
+use Rattle.ng_markup.specs.Forest.{Forest, no_nodes}
 use Rattle.ng_template.specs.SiteOf.{site_of}
 use Rattle.ng_value.specs.Snaps.{snap_of}
 use Rattle.ng_render.specs.declared.over.Known.{Known}
+use Rattle.ng_render.specs.declared.over.Group.{Group}
+use Rattle.ng_render.specs.declared.over.Group.TheVariants.{Shown, Unfit, Faulted}
 use Rattle.ng_render.specs.declared.over.Over.{Over}
 
 -- the scope that a site names is there, and its object is
@@ -16,9 +20,31 @@ pub record StateStands (objects : List Object) (scopes : List Scope) (s : SiteSt
   pub scope : s.scope < length scopes
   pub object : object_at scopes s.scope < length objects
 
--- the scopes that an instance names are there, and their objects are
+-- the scopes that the sites of an instance name are there, and their objects are
 pub record NamesStand (objects : List Object) (scopes : List Scope) (states : List SiteState) : Type 0 where
   pub state : (n : ℕ) (s : SiteState) → slice_get states n ≡ Some s → StateStands objects scopes s
+
+-- and so it is in an instance and in the bodies in it
+abbrev mutual
+  pub InstanceStands : List Object → List Scope → Instance → Type 0
+  InstanceStands objects scopes (instance_with f scope states outlets) = NamesStand objects scopes states × OutletsStand objects scopes outlets
+
+  pub InstancesStand : List Object → List Scope → Instances → Type 0
+  InstancesStand objects scopes no_instances = Unit {0}
+  InstancesStand objects scopes (instance_then i is) = InstanceStands objects scopes i × InstancesStand objects scopes is
+
+  pub OutletsStand : List Object → List Scope → Outlets → Type 0
+  OutletsStand objects scopes no_outlets = Unit {0}
+  OutletsStand objects scopes (outlet_then is os) = InstancesStand objects scopes is × OutletsStand objects scopes os
+
+-- what fills an outlet
+abbrev pub group_of : Group → Rendered Forest
+group_of (Shown f) = shown_as (forest_of f)
+group_of Unfit = Ok None
+group_of (Faulted f) = Err f
+
+abbrev pub groups_over : Over → GroupsNow
+groups_over o k = slice_index_or (map group_of o.groups.now) k (shown_as no_nodes)
 
 -- what is known of sites is what they show now
 abbrev pub AreKnown : Now → List Known → Type 0

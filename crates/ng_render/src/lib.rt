@@ -4,14 +4,15 @@
 //! over its scope, those of an element in the order of its directives and before its children; a site that rests shows what it has
 //! kept. No watcher and no node is asked, so a page whose watchers are all clean is checked by it. The contract is `rendering` of `ng_drawing`: the document, or the fault that stands first.
 //!
-//! The document is an option since blocks are to come, which don't always fit what their expressions call for; in a template
-//! without blocks it is always there.
+//! There is no document where a block has not the bodies that its expression calls for now; in a settled page each has.
 //!
 //! In reading order: `over` is what is asked, `snapshots` and `sites` what a site shows, `texts` joins pieces and sets attributes,
-//! `classes` has what a class shows, `parts` walks the template, and `rendering` has the call. Nothing here changes data.
+//! `classes` has what a class shows, `groups` what fills an outlet, `parts` walks a fragment, and `rendering` goes through the bodies of
+//! an instance and has the call. Nothing here changes data.
 #![tactic(auto)]
 
 mod classes;
+mod groups;
 mod over;
 mod parts;
 pub mod rendering;

@@ -5,7 +5,9 @@ ghost use Rattle.ng_drawing.specs.Drawing.{Now, shown_as};
 ghost use Rattle.ng_render.specs.OverOf.{AreKnown};
 ghost use Rattle.ng_value.specs.Snaps.{snap_of};
 
+use ng_base::fault::Fault;
 use ng_drawing::instance::SiteState;
+use ng_html::forest::Forest;
 use ng_scopes::scopes::Scopes;
 use ng_store::store::Store;
 use ng_template::Site;
@@ -19,7 +21,16 @@ pub(crate) struct Known {
     pub(crate) shown: Option<Snap>,
 }
 
-/// The sites of a template with what an instance adds to them, the data and scopes, and what is known of an element's own sites.
+/// What fills an outlet: the nodes of its bodies; nothing, where these are not what its site calls for; or the first fault of them.
+#[derive(Drop)]
+pub(crate) enum Group {
+    Shown(Forest),
+    Unfit,
+    Faulted(Fault),
+}
+
+/// The sites of a fragment with what an instance adds to them, the data and scopes, what is known of an element's own sites, and what
+/// fills each outlet.
 #[derive(Clone, Copy)]
 pub(crate) struct Over<'a> {
     pub(crate) alloc: Global,
@@ -28,6 +39,7 @@ pub(crate) struct Over<'a> {
     pub(crate) store: &'a Store,
     pub(crate) scopes: &'a Scopes,
     pub(crate) known: &'a [Known],
+    pub(crate) groups: &'a [Group],
 }
 
 /// What is known of the site of a number. An element's own sites have consecutive numbers, so it is looked for at one place.

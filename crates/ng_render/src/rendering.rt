@@ -1,61 +1,186 @@
-//! The rendering of an instance.
-ghost use Rattle.std.specs.Prelude.{◌≡◌, ◌<◌, length, map, option_map, slice_get, Some};
-ghost use Rattle.std.specs.Option.{IfSome};
+//! The rendering of an instance: the bodies in it first, and then its parts round them.
+ghost use Rattle.std.specs.Prelude.{◌≡◌, true, map, option_map, slice_get, IfOk, IfErr};
 ghost use Rattle.ng_base.specs.Faults.{is_memory};
 ghost use Rattle.ng_base.specs.Meets.{Gives};
-ghost use Rattle.ng_drawing.specs.Instance.{rendering};
-ghost use Rattle.ng_drawing.specs.InstanceOf.{state_of, instance_of};
+ghost use Rattle.ng_drawing.specs.Instance.{rests_in, is_filled as is_filled_with, outlet_now, outlet_at, rendering, rendering_all, rendering_in, outlets_from};
+ghost use Rattle.ng_drawing.specs.InstanceOf.{Fragments, state_of, instance_of, instances_of};
 ghost use Rattle.ng_html.specs.Seen.{forest_of};
-ghost use Rattle.ng_template.specs.Kept.{templates_of};
-ghost use Rattle.ng_template.specs.TemplateOf.{template_of};
-ghost use Rattle.ng_render.specs.OverOf.{NamesStand};
+ghost use Rattle.ng_template.specs.Kept.{templates_of, fragments_in};
+ghost use Rattle.ng_template.specs.FragmentOf.{outlet_of, outlets_of, filling_of};
+ghost use Rattle.ng_value.specs.Snaps.{snap_of};
+ghost use Rattle.ng_render.specs.OverOf.{group_of, now_over, Stands, InstanceStands, InstancesStand, OutletsStand};
 
-use crate::over::Over;
+use crate::classes::is_kept_true;
+use crate::groups::{append, group_from};
+use crate::over::{Group, Over};
 use crate::parts::rendered;
-use ng_base::fault::Fault;
-use ng_base::name::TplId;
-use ng_drawing::instance::Instance;
+use crate::sites::shown_now;
+use ng_base::fault::{Fault, Memory};
+use ng_drawing::instance::{Instance, Instances, SiteState};
 use ng_html::forest::Forest;
 use ng_scopes::scopes::Scopes;
 use ng_store::store::Store;
-use ng_template::{Templates, Tpl};
+use ng_template::{Filling, Outlet, Templates};
+use ng_value::snapshot::Snap;
 use std::alloc::Global;
 
-/// The rendering of an instance of a template.
-fn rendering_of(
+/// The templates, the data and the scopes that all instances of a page share.
+#[derive(Clone, Copy)]
+struct Ground<'a> {
     alloc: Global,
-    template: &Tpl,
-    store: &Store,
-    scopes: &Scopes,
-    i: &Instance,
-) -> Result<Option<Forest>, Fault>
-    requires { NamesStand store.now scopes.now (map state_of i.now.sites.items) }
-    ensures { Gives is_memory (option_map forest_of) (rendering store.now scopes.now (template_of template.now) (instance_of i.now)) result }
-{
-    let over = Over {
-        alloc,
-        sites: template.sites(),
-        states: i.sites.as_slice(),
-        store,
-        scopes,
-        known: &[],
-    };
-    Ok(Some(rendered(&over, template.parts())?))
+    all: &'a Templates,
+    store: &'a Store,
+    scopes: &'a Scopes,
 }
 
-/// The document that a template shows over the data as it stands, computed afresh (guide: Templates). A site that rests shows
-/// what it has kept. The first fault in document order ends it.
+/// Whether the site of a number rests.
+fn rests(states: &[SiteState], n: u32) -> bool
+    ensures { result ≡ rests_in (map state_of states.now) n }
+{
+    match states.get(n as usize) {
+        None => true,
+        Some(state) => state.rests,
+    }
+}
+
+/// Whether the bodies that stand are those that a value calls for.
+fn is_filled(filling: Filling, shown: &Option<Snap>, bodies: &Instances) -> bool
+    ensures { (all : Fragments) → result ≡ is_filled_with (filling_of filling) (option_map snap_of shown.now) (instances_of all bodies.now) }
+{
+    match filling {
+        Filling::BodyIf(_) => {
+            if is_kept_true(shown) {
+                !bodies.items.is_empty()
+            } else {
+                bodies.items.is_empty()
+            }
+        }
+    }
+}
+
+/// What fills an outlet of which this was rendered, where it is what the value of the site calls for now.
+fn filled(
+    over: &Over<'_>,
+    outlet: &Outlet,
+    bodies: &Instances,
+    group: Group,
+) -> Result<Group, Memory>
+    requires { Stands over.now }
+    ensures { (all : Fragments) → IfOk result (λ g. group_of g ≡ outlet_now (now_over over.now) (map state_of over.now.states.now) (outlet_of outlet.now) (instances_of all bodies.now) (group_of group)) }
+{
+    if rests(over.states, outlet.site) {
+        return Ok(group);
+    }
+    match shown_now(over, outlet.site) {
+        Err(Fault::Memory(memory)) => Err(memory),
+        Err(fault) => Ok(Group::Faulted(fault)),
+        Ok(shown) => {
+            if is_filled(outlet.filling, &shown, bodies) {
+                Ok(group)
+            } else {
+                Ok(Group::Unfit)
+            }
+        }
+    }
+}
+
+/// What fills the outlet of a number, of which this was rendered; one that the fragment doesn't have is filled anyhow.
+fn filled_at(
+    over: &Over<'_>,
+    outlets: &[Outlet],
+    k: usize,
+    bodies: &Instances,
+    group: Group,
+) -> Result<Group, Memory>
+    requires { Stands over.now }
+    ensures { (all : Fragments) → IfOk result (λ g. group_of g ≡ outlet_at (now_over over.now) (map state_of over.now.states.now) (slice_get (outlets_of outlets.now) k) (instances_of all bodies.now) (group_of group)) }
+{
+    match outlets.get(k) {
+        None => Ok(group),
+        Some(outlet) => filled(over, outlet, bodies, group),
+    }
+}
+
+/// The rendering of an instance.
+#[cycle(instance)]
+fn rendered_instance(ground: &Ground<'_>, i: &Instance) -> Result<Option<Forest>, Fault>
+    requires { InstanceStands ground.now.store.now ground.now.scopes.now (instance_of (fragments_in (templates_of ground.now.all.now)) i.now) }
+    ensures { Gives is_memory (option_map forest_of) (rendering ground.now.store.now ground.now.scopes.now (instance_of (fragments_in (templates_of ground.now.all.now)) i.now)) result }
+{
+    let Some(fragment) = ground.all.fragment(i.template, i.fragment) else {
+        return Ok(Some(Forest::new(ground.alloc)));
+    };
+    let over = Over {
+        alloc: ground.alloc,
+        sites: fragment.sites(),
+        states: i.sites.as_slice(),
+        store: ground.store,
+        scopes: ground.scopes,
+        known: &[],
+        groups: &[],
+    };
+    let groups = rendered_outlets(ground, i.outlets.as_slice(), &over, fragment.outlets())?;
+    let over = Over {
+        groups: groups.as_slice(),
+        ..over
+    };
+    rendered(&over, fragment.parts())
+}
+
+/// The rendering of the bodies of an outlet.
+#[cycle(instance)]
+fn rendered_all(ground: &Ground<'_>, bodies: &Instances) -> Result<Option<Forest>, Fault>
+    requires { InstancesStand ground.now.store.now ground.now.scopes.now (instances_of (fragments_in (templates_of ground.now.all.now)) bodies.now) }
+    ensures { Gives is_memory (option_map forest_of) (rendering_all ground.now.store.now ground.now.scopes.now (instances_of (fragments_in (templates_of ground.now.all.now)) bodies.now)) result }
+{
+    let mut forest = Forest::new(ground.alloc);
+    for body in &bodies.items {
+        let Some(more) = rendered_instance(ground, body)? else {
+            return Ok(None);
+        };
+        append(&mut forest, more)?;
+    }
+    Ok(Some(forest))
+}
+
+/// What fills each outlet.
+#[cycle(instance)]
+fn rendered_outlets(
+    ground: &Ground<'_>,
+    bodies: &[Instances],
+    over: &Over<'_>,
+    outlets: &[Outlet],
+) -> Result<Vec<Group>, Fault>
+    requires over { Stands over.now }
+    requires stands { OutletsStand ground.now.store.now ground.now.scopes.now (outlets_from (map (instances_of (fragments_in (templates_of ground.now.all.now))) bodies.now)) }
+    ensures groups { IfOk result (λ gs. map group_of gs.items ≡ rendering_in ground.now.store.now ground.now.scopes.now (now_over over.now) (map state_of over.now.states.now) (outlets_of outlets.now) (outlets_from (map (instances_of (fragments_in (templates_of ground.now.all.now))) bodies.now))) }
+    ensures faults { IfErr result (λ e. is_memory e ≡ true) }
+{
+    let mut groups = Vec::new(ground.alloc);
+    for (k, these) in bodies.iter().enumerate() {
+        let group = group_from(rendered_all(ground, these))?;
+        groups.push(filled_at(over, outlets, k, these, group)?)?;
+    }
+    Ok(groups)
+}
+
+/// The document that an instance shows over the data as it stands, computed afresh (guide: Templates). A site that rests shows what it
+/// has kept. What stands first in document order ends it: a fault, or a block that has not the bodies that its value calls for.
 pub fn render(
     alloc: Global,
     all: &Templates,
-    t: TplId,
     store: &Store,
     scopes: &Scopes,
     i: &Instance,
 ) -> Result<Option<Forest>, Fault>
-    requires template { t.0 < length (templates_of all.now) }
-    requires stands { NamesStand store.now scopes.now (map state_of i.now.sites.items) }
-    ensures { IfSome (slice_get (templates_of all.now) t.0) (λ k. Gives is_memory (option_map forest_of) (rendering store.now scopes.now k.1 (instance_of i.now)) result) }
+    requires { InstanceStands store.now scopes.now (instance_of (fragments_in (templates_of all.now)) i.now) }
+    ensures { Gives is_memory (option_map forest_of) (rendering store.now scopes.now (instance_of (fragments_in (templates_of all.now)) i.now)) result }
 {
-    rendering_of(alloc, all.get(t), store, scopes, i)
+    let ground = Ground {
+        alloc,
+        all,
+        store,
+        scopes,
+    };
+    rendered_instance(&ground, i)
 }

@@ -45,10 +45,10 @@ pub record Drawn (n : ℕ) (h : Head) : Type 0 where
   pub attributes : are_drawn (apart_from h.bound n (length h.sites)) h.attributes ≡ true
   pub class : is_class_drawn (apart_from h.bound n (length h.sites)) h.class ≡ true
 
-both_all : {A : Type 0} (p : A → Bool) (xs ys : List A) → list_all p xs ≡ true → list_all p ys ≡ true → list_all p (xs ++ ys) ≡ true
+pub both_all : {A : Type 0} (p : A → Bool) (xs ys : List A) → list_all p xs ≡ true → list_all p ys ≡ true → list_all p (xs ++ ys) ≡ true
 both_all p xs ys e h = list_all-append p xs ys ∙ and_from (list_all p xs) (list_all p ys) e h
 
-one : {A : Type 0} (p : A → Bool) (x : A) → p x ≡ true → list_all p (x ∷ []) ≡ true
+pub one : {A : Type 0} (p : A → Bool) (x : A) → p x ≡ true → list_all p (x ∷ []) ≡ true
 one p x e = and_from (p x) true e refl
 
 module _ (n c : ℕ) where

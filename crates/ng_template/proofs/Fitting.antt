@@ -27,9 +27,9 @@ module _ (m : Made) (r : Result (List Piece) TplFault) (ps : List Piece) (e : r 
   text_full l = ap (text_made m) e ∙ no_room (Err worn) (Ok (with_text m ps)) (length m.sites + length (sites_in kinds.Text ps)) l
 
   pub text_placed : (pieces : List template.Piece) (sites : List Site) → pieces ≡ numbered (length m.sites) ps → sites ≡ m.sites ++ sites_in kinds.Text ps → length m.sites + length (sites_in kinds.Text ps) ≤ site_limit
-      → text_made m r ≡ Ok (text_part pieces, record { places = other_places m.places; sites = sites })
+      → text_made m r ≡ Ok (text_part pieces, record m { places = other_places m.places; sites = sites })
   text_placed pieces sites named end l =
-      let same : with_text m ps ≡ (text_part pieces, record { places = other_places m.places; sites = sites }) = (cc) in
+      let same : with_text m ps ≡ (text_part pieces, record m { places = other_places m.places; sites = sites }) = (cc) in
       ap (text_made m) e ∙ (room (Err worn) (Ok (with_text m ps)) (length m.sites + length (sites_in kinds.Text ps)) l ∙ ap Ok same)
 
 -- an element with the parts of a directive more

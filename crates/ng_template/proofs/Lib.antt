@@ -7,6 +7,10 @@ pub mod Numbers
 pub mod Drawn
 pub mod PlainNodes
 pub mod Picking
+pub mod Wholes
+pub mod Blocks
+pub mod Wraps
+pub mod Lookups
 pub mod Following
 pub mod Compiled
 pub mod Fitting

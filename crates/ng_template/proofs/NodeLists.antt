@@ -4,12 +4,19 @@ use Rattle.std.proofs.lemmas.List.{at_drop_more, drop_all}
 use Rattle.std.specs.Prelude.{Result, Ok, Err}
 use Rattle.ng_base.specs.Meets.{◌>>=◌}
 use Rattle.ng_collect.specs.declared.definition.DirectiveDef.{DirectiveDef}
-use Rattle.ng_html.specs.Seen.{node_of}
+use Rattle.ng_html.specs.Seen.{node_step, forest_step, node_of, forest_of}
 use Rattle.ng_html.specs.declared.forest.Node as code_node
-use Rattle.ng_markup.specs.Forest.{Node, forest_from}
+use Rattle.ng_html.specs.declared.forest.Node.TheFolds.{fold-roll-Node}
+use Rattle.ng_html.specs.declared.forest.Node.TheOpen.{Node-F}
+use Rattle.ng_html.specs.declared.forest.Node.TheVariants as variants
+use Rattle.ng_markup.specs.Forest.{Node, Forest, element, forest_from}
 use Rattle.ng_drawing.specs.Template.{Part, Parts, no_parts, part_then, with_part}
 use Rattle.ng_template.specs.Compiles.{Made, compiled_node, compiled_forest}
 use Rattle.ng_template.specs.declared.fault.TplFault.{TplFault}
+
+-- an element of the code
+pub node_element : (name : List ℕ) (ats : _) (kids : _) → node_of (variants.Element name ats kids) ≡ element name ats (forest_of kids)
+node_element name ats kids = ap node_of (sym (variants.rolls-Element name ats kids)) ∙ fold-roll-Node Node Forest node_step forest_step (Node-F.Element name ats kids)
 
 abbrev pub compiled_list : List DirectiveDef → List Node → Made → Result (Parts × Made) TplFault
 compiled_list defs ns m = compiled_forest defs (forest_from ns) m

@@ -70,7 +70,7 @@ module _ (kind : SiteKind) where
       let more : (k : ℕ) → n + 1 ≤ k → k < n + 1 + length (sites_in kind ps) → test k ≡ true = λ k l u. h k (omega arith) (omega arith) in
       and_from (test n) (list_all (is_piece_drawn test) (numbered (n + 1) ps)) (h n (omega arith) (omega arith)) (numbered-drawn test (n + 1) ps more)
 
-all_more : {A : Type 0} (p q : A → Bool) → ((x : A) → p x ≡ true → q x ≡ true) → (xs : List A) → list_all p xs ≡ true → list_all q xs ≡ true
+pub all_more : {A : Type 0} (p q : A → Bool) → ((x : A) → p x ≡ true → q x ≡ true) → (xs : List A) → list_all p xs ≡ true → list_all q xs ≡ true
 all_more p q go [] e = refl
 all_more p q go (x ∷ xs) e = let h = and_parts (p x) (list_all p xs) e in and_from (q x) (list_all q xs) (go x h.0) (all_more p q go xs h.1)
 

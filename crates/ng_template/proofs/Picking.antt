@@ -17,7 +17,7 @@ use Rattle.ng_template.specs.Texts.{judged, counted, sites_in}
 use Rattle.ng_template.specs.declared.fault.TplFault.{TplFault}
 use Rattle.ng_template.specs.declared.fault.TplKind.{TplKind}
 use Rattle.ng_template.specs.declared.manners.Manner.{Manner}
-use Rattle.ng_template.specs.declared.manners.Manner.TheVariants.{Sets, Starts, Handles}
+use Rattle.ng_template.specs.declared.manners.Manner.TheVariants.{Sets, Starts, Handles, Fills}
 use Rattle.ng_template.specs.declared.manners.Setting.{Setting}
 use Rattle.ng_template.specs.declared.manners.Setting.TheVariants.{Interpolates, Links, Switches, Binds, Classes, Shows, Hides}
 use Rattle.ng_template.proofs.Drawn.{Drawn, parts_drawn}
@@ -99,6 +99,7 @@ module _ (place : ℕ) where
     manner_answers (Some (Sets s)) =
         let r : Result (List interp.Piece) InterpFault = parts_for s (text_on p.attribute) in
         set s r refl (judged place r) (judged_is place r)
+    manner_answers (Some Fills) = (acted h h refl refl refl (λ n g. g), refl)
     manner_answers (Some Starts) =
         let o : Option Trees = program_in (text_on p.attribute) in
         started o (judged_program place o) (judged_program_is place o)

@@ -1,4 +1,4 @@
--- Plain nodes: they have no hole and no number, and those of a list are made one after another.
+-- Plain nodes: they have no hole, no outlet and no number, and those of a list are made one after another.
 use Rattle.std.proofs.Common.{◌≡◌, ◌<◌, ◌≤◌, ℕ, ◌+◌, cond, List, [], ◌++◌, map, drop, get_or, length, None, Some, refl, ap, sym, ◌∙◌}
 use Rattle.std.proofs.lemmas.List.{at_drop_more, drop_all}
 use Rattle.std.specs.Prelude.{option_and_then}
@@ -6,7 +6,7 @@ use Rattle.ng_html.specs.Seen.{node_of}
 use Rattle.ng_html.specs.declared.forest.Node as code_node
 use Rattle.ng_markup.specs.Forest.{Node, Forest, element, text, comment, no_nodes, node, forest_from}
 use Rattle.ng_drawing.specs.Template.{Part, Parts, part_then, with_part}
-use Rattle.ng_template.specs.Numbering.{is_within, after_part, after_parts}
+use Rattle.ng_template.specs.Numbering.{is_within, after_part, after_parts, outlets_of_part, after_outlets}
 use Rattle.ng_template.specs.Order.{part_holes, holes}
 use Rattle.ng_template.specs.Plain.{plain_part, plain_parts}
 use Rattle.ng_template.proofs.Drawn.{plain_drawn}
@@ -31,6 +31,16 @@ mutual
   plain-all-after : (k : ℕ) (f : Forest) → after_parts k (plain_parts f) ≡ Some k
   plain-all-after k no_nodes = refl
   plain-all-after k (node n f) = ap (option_and_then (λ j. after_parts j (plain_parts f))) (plain-after k n) ∙ plain-all-after k f
+
+mutual
+  pub plain-outlets : (k : ℕ) (n : Node) → outlets_of_part k (plain_part n) ≡ Some k
+  plain-outlets k (element name ats kids) = plain-all-outlets k kids
+  plain-outlets k (text t) = refl
+  plain-outlets k (comment t) = refl
+
+  plain-all-outlets : (k : ℕ) (f : Forest) → after_outlets k (plain_parts f) ≡ Some k
+  plain-all-outlets k no_nodes = refl
+  plain-all-outlets k (node n f) = ap (option_and_then (λ j. after_outlets j (plain_parts f))) (plain-outlets k n) ∙ plain-all-outlets k f
 
 abbrev pub plain_list : List Node → Parts
 plain_list ns = plain_parts (forest_from ns)

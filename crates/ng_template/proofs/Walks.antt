@@ -1,10 +1,8 @@
--- The nodes of a document that are compiled, as a document is walked: those of a node, then those after it.
-use Rattle.std.proofs.Common.{◌≡◌, ℕ, suc, Bool, true, false, cond, List, [], ◌∷◌, ◌++◌, length, None, refl, ap, sym, ◌∙◌, append_assoc, append-nil}
-use Rattle.ng_collect.specs.Collected.{picked_for}
-use Rattle.ng_collect.specs.declared.definition.DirectiveDef.{DirectiveDef}
+-- The nodes of a document but those in some elements, as the document is walked: those of a node, then those after it.
+use Rattle.std.proofs.Common.{◌≡◌, ℕ, suc, Bool, true, false, cond, List, [], ◌∷◌, ◌++◌, length, refl, ap, sym, ◌∙◌, append_assoc, append-nil}
 use Rattle.ng_markup.specs.Forest.{Node, Forest, element, text, comment, no_nodes, node}
 use Rattle.ng_template.specs.Compiles.{first_place, other_places, after_node, after_forest}
-use Rattle.ng_template.specs.Order.{node_order, in_order, placed, are_passed_over, without_replaced, nodes_compiled}
+use Rattle.ng_template.specs.Order.{node_order, in_order, placed, count_if, without}
 
 -- the places that are left after as many nodes
 abbrev left : List Node → List ℕ → List ℕ
@@ -34,11 +32,14 @@ length-placed : (ns : List Node) (places : List ℕ) → length (placed ns place
 length-placed [] places = refl
 length-placed (n ∷ ns) places = ap suc (length-placed ns (other_places places))
 
-module _ (defs : List DirectiveDef) where
+module _ (skips : Node → Bool) where
+  abbrev left_in : Node → ℕ
+  left_in n = count_if (skips n) n
+
   abbrev mutual
     pub node_walk : Node → List ℕ → List (Node × ℕ)
     node_walk (element name ats kids) places =
-        (element name ats kids, first_place places) ∷ cond (are_passed_over (picked_for defs None name ats)) [] (walk kids (other_places places))
+        (element name ats kids, first_place places) ∷ cond (skips (element name ats kids)) [] (walk kids (other_places places))
     node_walk (text t) places = (text t, first_place places) ∷ []
     node_walk (comment t) places = (comment t, first_place places) ∷ []
 
@@ -47,23 +48,23 @@ module _ (defs : List DirectiveDef) where
     walk (node n f) places = node_walk n places ++ walk f (after_node n places)
 
   abbrev kept : List (Node × ℕ) → List (Node × ℕ)
-  kept ns = without_replaced defs 0 ns
+  kept ns = without left_in 0 ns
 
-  skipped : (xs ys : List (Node × ℕ)) → without_replaced defs (length xs) (xs ++ ys) ≡ kept ys
+  skipped : (xs ys : List (Node × ℕ)) → without left_in (length xs) (xs ++ ys) ≡ kept ys
   skipped [] ys = refl
   skipped (x ∷ xs) ys = skipped xs ys
 
   inner : (kids : Forest) (places : List ℕ) (rest : List (Node × ℕ)) → kept (placed (in_order kids) places ++ rest) ≡ walk kids places ++ kept rest
-      → (b : Bool) → without_replaced defs (cond b (length (in_order kids)) 0) (placed (in_order kids) places ++ rest) ≡ cond b [] (walk kids places) ++ kept rest
+      → (b : Bool) → without left_in (cond b (length (in_order kids)) 0) (placed (in_order kids) places ++ rest) ≡ cond b [] (walk kids places) ++ kept rest
   inner kids places rest e true =
-      ap (λ k. without_replaced defs k (placed (in_order kids) places ++ rest)) (sym (length-placed (in_order kids) places)) ∙ skipped (placed (in_order kids) places) rest
+      ap (λ k. without left_in k (placed (in_order kids) places ++ rest)) (sym (length-placed (in_order kids) places)) ∙ skipped (placed (in_order kids) places) rest
   inner kids places rest e false = e
 
   mutual
     node_walked : (n : Node) (places : List ℕ) (rest : List (Node × ℕ)) → kept (placed (node_order n) places ++ rest) ≡ node_walk n places ++ kept rest
     node_walked (element name ats kids) places rest =
         ap (λ (zs : List (Node × ℕ)). (element name ats kids, first_place places) ∷ zs)
-        (inner kids (other_places places) rest (forest_walked kids (other_places places) rest) (are_passed_over (picked_for defs None name ats)))
+        (inner kids (other_places places) rest (forest_walked kids (other_places places) rest) (skips (element name ats kids)))
     node_walked (text t) places rest = refl
     node_walked (comment t) places rest = refl
 
@@ -78,6 +79,6 @@ module _ (defs : List DirectiveDef) where
         ∙ (ap (λ (zs : List (Node × ℕ)). node_walk n places ++ zs) (forest_walked f (after_node n places) rest)
         ∙ sym (append_assoc (node_walk n places) (walk f (after_node n places)) (kept rest))))))
 
-  pub walked : (f : Forest) (places : List ℕ) → nodes_compiled defs (f, places) ≡ walk f places
+  pub walked : (f : Forest) (places : List ℕ) → without left_in 0 (placed (in_order f) places) ≡ walk f places
   walked f places =
       ap kept (sym (append-nil (placed (in_order f) places))) ∙ (forest_walked f places [] ∙ append-nil (walk f places))

@@ -19,7 +19,7 @@ use Rattle.ng_template.specs.Manners.{manner_of, target_of, event_name}
 use Rattle.ng_template.specs.Programs.{program_in, judged_program}
 use Rattle.ng_template.specs.Texts.{refused, judged, numbered, sites_in, counted}
 use Rattle.ng_template.specs.declared.manners.Manner.{Manner}
-use Rattle.ng_template.specs.declared.manners.Manner.TheVariants.{Sets, Starts, Handles}
+use Rattle.ng_template.specs.declared.manners.Manner.TheVariants.{Sets, Starts, Handles, Fills}
 use Rattle.ng_template.specs.declared.manners.Setting.{Setting}
 use Rattle.ng_template.specs.declared.manners.Setting.TheVariants.{Interpolates, Links, Switches, Binds, Classes, Shows, Hides}
 use Rattle.ng_template.specs.declared.fault.TplFault.{TplFault}
@@ -120,10 +120,11 @@ with_start b h = record h { acts = record { starts = h.acts.starts ++ b ∷ []; 
 abbrev pub with_handler : List ℕ → Trees → Head → Head
 with_handler event b h = record h { acts = record { starts = h.acts.starts; handlers = h.acts.handlers ++ (event, b) ∷ [] } }
 
--- a directive more, or why it is refused: one that is not built yet, or what is wrong with its text
+-- a directive more, or why it is refused: one that is not built yet, or what is wrong with its text; a block does nothing in its body
 abbrev pub with_manner : ℕ → Pick → Option Manner → Head → Result Head TplFault
 with_manner place p None h = Err (refused Later place)
 with_manner place p (Some (Sets s)) h = judged place (parts_for s (text_on p.attribute)) >>= λ ps. if_it_fits p s ps h
+with_manner place p (Some Fills) h = Ok h
 with_manner place p (Some Starts) h = judged_program place (program_in (text_on p.attribute)) >>= λ b. Ok (with_start b h)
 with_manner place p (Some (Handles e)) h = judged_program place (program_in (text_on p.attribute)) >>= λ b. Ok (with_handler (event_name e) b h)
 

@@ -5,14 +5,15 @@ use Rattle.ng_drawing.specs.Template.{Template}
 use Rattle.ng_markup.specs.Forest.{Forest}
 use Rattle.ng_template.specs.Compiles.{compiled}
 use Rattle.ng_template.specs.Limits.{worn}
-use Rattle.ng_template.specs.Order.{nodes_compiled, FirstRefusal, NoneRefused, sites_at, holes}
+use Rattle.ng_template.specs.Order.{nodes_compiled, nodes_of_fragment, FirstRefusal, NoneRefused, sites_at, holes}
 use Rattle.ng_template.specs.Texts.{counted}
 use Rattle.ng_template.specs.declared.fault.TplFault.{TplFault}
 
--- the sites of a template are those of its directives and texts in document order, and have the numbers 0, 1, 2 in that order
+-- The sites of a template's own fragment are those of its directives, blocks and texts in document order, and have the numbers 0, 1, 2 in
+-- that order.
 abbrev pub SitesFollowTheDocument : Type 0
 SitesFollowTheDocument = (source : Forest × List ℕ) (defs : List DirectiveDef) (slots : Bool) (t : Template) → compiled source defs slots ≡ Ok t →
-    (t.sites ≡ sites_at defs (nodes_compiled defs source)) × (holes t.parts ≡ counted 0 t.sites)
+    (t.own.sites ≡ sites_at defs (nodes_of_fragment defs source)) × (holes t.own.parts ≡ counted 0 t.own.sites)
 
 -- a document compiles only where no node of it that is compiled is refused
 abbrev pub CompilesWhatIsNotRefused : Type 0

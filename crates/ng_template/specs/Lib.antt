@@ -10,9 +10,12 @@ pub mod Programs
 pub mod Directives
 pub mod Shared
 pub mod Plain
+pub mod Around
 pub mod Compiles
 pub mod Numbering
+pub mod FragmentOf
 pub mod TemplateOf
+pub mod AroundOf
 pub mod Order
 pub mod Laws
 pub mod TplNames

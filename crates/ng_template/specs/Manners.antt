@@ -1,5 +1,5 @@
 -- What each directive does with its text, and which attribute it sets beside its own (API: ngHref, ngSrc, ngChecked, ngDisabled, ngOpen,
--- ngReadonly, ngSelected, ngBind, ngClass, ngShow, ngHide, ngInit, ngClick, ngNonBindable).
+-- ngReadonly, ngSelected, ngBind, ngClass, ngShow, ngHide, ngInit, ngClick, ngNonBindable, ngIf).
 use Rattle.std.specs.Prelude.{ℕ, Bool, true, false, List, [], Option, None, Some, is_some, codes}
 use Rattle.std.specs.List.{list_all, list_any}
 use Rattle.ng_collect.specs.declared.pick.Directive.{Directive}

@@ -1,8 +1,8 @@
--- What the compiler makes: sites are numbered in document order, an element's own before those of its children, and an element's
--- attributes and contents are drawn from its own sites alone.
+-- What the compiler makes: the sites and outlets of a fragment are numbered in document order, an element's own before those of its
+-- children, and an element's attributes and contents are drawn from its own sites alone.
 use Rattle.std.specs.Prelude.{ℕ, ◌+◌, ◌==◌, ◌&&◌, Bool, true, false, not, List, [], ◌∷◌, length, Option, Some, None, option_and_then, nat_le, nat_lt, if◌then◌else◌}
 use Rattle.std.specs.List.{list_all}
-use Rattle.ng_drawing.specs.Template.{Piece, word, hole, Hiding, while_true, while_false, PartClass, PartValue, always, unless_empty, flag, classes, PartAttributes, Part, Contents, Parts, text_part, comment_part, element_part, children, bound, no_parts, part_then, Template}
+use Rattle.ng_drawing.specs.Template.{Piece, word, hole, Hiding, while_true, while_false, PartClass, PartValue, always, unless_empty, flag, classes, PartAttributes, Part, Contents, Parts, text_part, comment_part, element_part, anchor_part, children, bound, no_parts, part_then, Filling, body_if, Outlet, Fragment, Template}
 
 -- the number after those of the holes, where they are numbered from n on
 abbrev pub after_pieces : ℕ → List Piece → Option ℕ
@@ -50,6 +50,7 @@ abbrev mutual
   after_part n (text_part ps) = after_pieces n ps
   after_part n (comment_part t) = Some n
   after_part n (element_part e own acts ats p) = option_and_then (λ c. after_contents n c ats p) (after_own n own)
+  after_part n (anchor_part outlet own starts) = after_own n own
 
   pub after_contents : ℕ → ℕ → PartAttributes → Contents → Option ℕ
   after_contents n c ats (children ps) = if are_drawn (is_within n c) ats then after_parts c ps else None
@@ -59,10 +60,38 @@ abbrev mutual
   after_parts n no_parts = Some n
   after_parts n (part_then p ps) = option_and_then (λ k. after_parts k ps) (after_part n p)
 
+-- the number after those of the outlets, where they are numbered from n on
+abbrev mutual
+  pub outlets_of_part : ℕ → Part → Option ℕ
+  outlets_of_part n (text_part ps) = Some n
+  outlets_of_part n (comment_part t) = Some n
+  outlets_of_part n (element_part e own acts ats p) = outlets_of_contents n p
+  outlets_of_part n (anchor_part outlet own starts) = if outlet == n then Some (n + 1) else None
+
+  pub outlets_of_contents : ℕ → Contents → Option ℕ
+  outlets_of_contents n (children ps) = after_outlets n ps
+  outlets_of_contents n (bound b) = Some n
+
+  pub after_outlets : ℕ → Parts → Option ℕ
+  after_outlets n no_parts = Some n
+  after_outlets n (part_then p ps) = option_and_then (λ k. after_outlets k ps) (outlets_of_part n p)
+
 abbrev pub is_number : ℕ → Option ℕ → Bool
 is_number n None = false
 is_number n (Some k) = k == n
 
--- the sites of a template are numbered so
+-- an outlet has the number of a site and that of a body
+abbrev pub is_body : ℕ → Filling → Bool
+is_body bodies (body_if b) = nat_lt 0 b && nat_le b bodies
+
+abbrev pub is_outlet : ℕ → ℕ → Outlet → Bool
+is_outlet sites bodies o = nat_lt o.site sites && is_body bodies o.filling
+
+-- the sites and outlets of a fragment are numbered so, where there are so many bodies
+abbrev pub is_whole : ℕ → Fragment → Bool
+is_whole bodies f =
+    is_number (length f.sites) (after_parts 0 f.parts) && (is_number (length f.outlets) (after_outlets 0 f.parts) && list_all (is_outlet (length f.sites) bodies) f.outlets)
+
+-- and so are those of each fragment of a template
 abbrev pub is_regular : Template → Bool
-is_regular t = is_number (length t.sites) (after_parts 0 t.parts)
+is_regular t = list_all (is_whole (length t.bodies)) (t.own ∷ t.bodies)

@@ -1,29 +1,27 @@
 -- Document order, in the words of documents: what a node is refused for by itself, and which holes and sites it has.
 use Rattle.std.specs.Prelude.{◌≡◌, ℕ, zero, suc, Bool, true, false, ◌||◌, List, [], ◌∷◌, ◌++◌, length, Option, None, Some, Result, Ok, Err, if◌then◌else◌}
 use Rattle.std.specs.List.{flat_map, list_any}
-use Rattle.ng_collect.specs.Collected.{picked_for}
 use Rattle.ng_collect.specs.declared.definition.DirectiveDef.{DirectiveDef}
-use Rattle.ng_collect.specs.declared.fault.CollectFault.{CollectFault}
-use Rattle.ng_collect.specs.declared.fault.CollectFault.TheVariants as collect
 use Rattle.ng_collect.specs.declared.pick.Pick.{Pick}
-use Rattle.ng_drawing.specs.Template.{Site, Piece, word, hole, Part, Contents, Parts, text_part, comment_part, element_part, children, bound, no_parts, part_then}
+use Rattle.ng_drawing.specs.Template.{Site, Piece, word, hole, Part, Contents, Parts, text_part, comment_part, element_part, anchor_part, children, bound, no_parts, part_then}
 use Rattle.ng_interp.specs.Parts as interp
 use Rattle.ng_interp.specs.declared.pieces.InterpFault.{InterpFault}
 use Rattle.ng_markup.specs.Forest.{Node, Forest, element, text, comment, no_nodes, node}
+use Rattle.ng_template.specs.Around.{Inside, is_plain, has_picks, Around, around_node}
 use Rattle.ng_template.specs.Compiles.{first_place, other_places}
 use Rattle.ng_drawing.specs.declared.kind.SiteKind.{SiteKind}
 use Rattle.ng_drawing.specs.declared.kind.SiteKind.TheVariants as kinds
 use Rattle.ng_tags.specs.declared.attrs.Attr.{Attr}
 use Rattle.ng_template.specs.Directives.{text_on, parts_for, kind_for}
-use Rattle.ng_template.specs.Manners.{manner_of, are_built, any_makes_plain}
+use Rattle.ng_template.specs.Manners.{manner_of}
 use Rattle.ng_template.specs.Programs.{program_in, program_refusal}
 use Rattle.ng_template.specs.Texts.{refused, wrong, sites_in}
 use Rattle.ng_template.specs.declared.manners.Manner.{Manner}
-use Rattle.ng_template.specs.declared.manners.Manner.TheVariants.{Sets, Starts, Handles}
+use Rattle.ng_template.specs.declared.manners.Manner.TheVariants.{Sets, Starts, Handles, Fills}
 use Rattle.ng_template.specs.declared.manners.Setting.TheVariants.{Binds}
 use Rattle.ng_template.specs.declared.fault.TplFault.{TplFault}
 use Rattle.ng_template.specs.declared.fault.TplKind.{TplKind}
-use Rattle.ng_template.specs.declared.fault.TplKind.TheVariants.{LeftOut, MultiDir, Later, Expression, Memory}
+use Rattle.ng_template.specs.declared.fault.TplKind.TheVariants.{Later, Expression}
 
 -- the nodes of a document in document order: a node comes before those in it
 abbrev mutual
@@ -49,29 +47,49 @@ is_binding _ = false
 abbrev pub is_bind : Pick → Bool
 is_bind p = is_binding (manner_of p.directive)
 
--- whether the nodes in an element with these directives are not compiled: it is plain, or a text stands in their place
-abbrev pub is_passed_over : List Pick → Bool
-is_passed_over ps = any_makes_plain ps || list_any is_bind ps
+-- whether the nodes in an element are not compiled: it is plain, or a text stands in their place
+abbrev pub is_passed_over : Inside → Bool
+is_passed_over is_plain = true
+is_passed_over (has_picks ps) = list_any is_bind ps
 
-abbrev pub are_passed_over : Result (List Pick) CollectFault → Bool
-are_passed_over (Ok ps) = is_passed_over ps
-are_passed_over (Err f) = false
+-- whether the nodes in an element are none of its fragment: they are not compiled, or they are of a block's body
+abbrev pub has_block : List Site → Bool
+has_block [] = false
+has_block (h ∷ hs) = true
 
--- how many nodes after a node are in it and not compiled
-abbrev pub left_out_in : List DirectiveDef → Node → ℕ
-left_out_in defs (element name attributes kids) = if are_passed_over (picked_for defs None name attributes) then length (in_order kids) else 0
-left_out_in defs (text t) = 0
-left_out_in defs (comment t) = 0
+abbrev pub is_left : Result Around TplKind → Bool
+is_left (Ok a) = is_passed_over a.inside
+is_left (Err f) = false
 
--- the first k nodes are left out, and after an element that has `ng-bind` or is plain those in it
-abbrev pub without_replaced : List DirectiveDef → ℕ → List (Node × ℕ) → List (Node × ℕ)
-without_replaced defs k [] = []
-without_replaced defs zero (n ∷ ns) = n ∷ without_replaced defs (left_out_in defs n.0) ns
-without_replaced defs (suc k) (n ∷ ns) = without_replaced defs k ns
+abbrev pub is_left_to_body : Result Around TplKind → Bool
+is_left_to_body (Ok a) = has_block a.heads || is_passed_over a.inside
+is_left_to_body (Err f) = false
 
--- the nodes of a document that are compiled, in document order, each with its place
+-- how many nodes after an element are in it, where those are skipped
+abbrev pub count_if : Bool → Node → ℕ
+count_if b (element name attributes kids) = if b then length (in_order kids) else 0
+count_if b (text t) = 0
+count_if b (comment t) = 0
+
+-- how many of them are not compiled, and how many are none of its fragment
+abbrev pub not_compiled : List DirectiveDef → Node → ℕ
+not_compiled defs n = count_if (is_left (around_node defs n)) n
+
+abbrev pub not_in_fragment : List DirectiveDef → Node → ℕ
+not_in_fragment defs n = count_if (is_left_to_body (around_node defs n)) n
+
+-- the first k nodes are left out, and after each other node as many as are said to be
+abbrev pub without : (Node → ℕ) → ℕ → List (Node × ℕ) → List (Node × ℕ)
+without left k [] = []
+without left zero (n ∷ ns) = n ∷ without left (left n.0) ns
+without left (suc k) (n ∷ ns) = without left k ns
+
+-- the nodes of a document that are compiled, in document order, each with its place; and those of its own fragment
 abbrev pub nodes_compiled : List DirectiveDef → Forest × List ℕ → List (Node × ℕ)
-nodes_compiled defs source = without_replaced defs 0 (placed (in_order source.0) source.1)
+nodes_compiled defs source = without (not_compiled defs) 0 (placed (in_order source.0) source.1)
+
+abbrev pub nodes_of_fragment : List DirectiveDef → Forest × List ℕ → List (Node × ℕ)
+nodes_of_fragment defs source = without (not_in_fragment defs) 0 (placed (in_order source.0) source.1)
 
 -- why a text with these parts is refused
 abbrev pub text_refusal : Result (List interp.Piece) InterpFault → Option TplKind
@@ -82,6 +100,7 @@ text_refusal (Ok ps) = wrong ps
 abbrev pub manner_refusal : Option Manner → Option Attr → Option TplKind
 manner_refusal None a = Some Later
 manner_refusal (Some (Sets s)) a = text_refusal (parts_for s (text_on a))
+manner_refusal (Some Fills) a = None
 manner_refusal (Some Starts) a = program_refusal (program_in (text_on a))
 manner_refusal (Some (Handles e)) a = program_refusal (program_in (text_on a))
 
@@ -97,17 +116,19 @@ abbrev pub first_pick_refusal : List Pick → Option TplKind
 first_pick_refusal [] = None
 first_pick_refusal (p ∷ ps) = first_of (pick_refusal p) (first_pick_refusal ps)
 
--- why an element with these directives is refused: what is left out, what cannot stand together, one that is not built yet, or what
--- is wrong with the first of them; a plain element is not
-abbrev pub picks_refusal : Result (List Pick) CollectFault → Option TplKind
-picks_refusal (Err collect.MultiDir) = Some MultiDir
-picks_refusal (Err collect.LeftOut) = Some LeftOut
-picks_refusal (Err (collect.Memory m)) = Some (Memory m)
-picks_refusal (Ok ps) = if any_makes_plain ps then None else if are_built ps then first_pick_refusal ps else Some Later
+-- why an element is refused by itself: what is left out, what cannot stand together, one that is not built yet, what is wrong with a
+-- block round it, or with the first of its directives; a plain element is not
+abbrev pub inside_refusal : Inside → Option TplKind
+inside_refusal is_plain = None
+inside_refusal (has_picks ps) = first_pick_refusal ps
+
+abbrev pub around_refusal : Result Around TplKind → Option TplKind
+around_refusal (Err kind) = Some kind
+around_refusal (Ok a) = inside_refusal a.inside
 
 -- why a node is refused by itself, whatever stands around it
 abbrev pub refusal : List DirectiveDef → Node → Option TplKind
-refusal defs (element name attributes kids) = picks_refusal (picked_for defs None name attributes)
+refusal defs (element name attributes kids) = around_refusal (around_node defs (element name attributes kids))
 refusal defs (text t) = text_refusal (interp.pieces_in t)
 refusal defs (comment t) = None
 
@@ -130,19 +151,29 @@ text_sites kind (Ok ps) = sites_in kind ps
 abbrev pub manner_sites : Option Manner → Option Attr → List Site
 manner_sites None a = []
 manner_sites (Some (Sets s)) a = text_sites (kind_for s) (parts_for s (text_on a))
+manner_sites (Some Fills) a = []
 manner_sites (Some Starts) a = []
 manner_sites (Some (Handles e)) a = []
 
 abbrev pub pick_sites : Pick → List Site
 pick_sites p = manner_sites (manner_of p.directive) p.attribute
 
-abbrev pub picked_sites : Result (List Pick) CollectFault → List Site
-picked_sites (Err f) = []
-picked_sites (Ok ps) = if any_makes_plain ps then [] else flat_map pick_sites ps
+abbrev pub inside_sites : Inside → List Site
+inside_sites is_plain = []
+inside_sites (has_picks ps) = flat_map pick_sites ps
 
--- the sites of a node by itself
+-- the outermost block has a site of the fragment; without a block it is the element that has
+abbrev pub heads_sites : List Site → Inside → List Site
+heads_sites [] i = inside_sites i
+heads_sites (h ∷ hs) i = h ∷ []
+
+abbrev pub around_sites : Result Around TplKind → List Site
+around_sites (Err f) = []
+around_sites (Ok a) = heads_sites a.heads a.inside
+
+-- the sites of a node by itself, in the fragment in which it stands
 abbrev pub node_sites : List DirectiveDef → Node → List Site
-node_sites defs (element name attributes kids) = picked_sites (picked_for defs None name attributes)
+node_sites defs (element name attributes kids) = around_sites (around_node defs (element name attributes kids))
 node_sites defs (text t) = text_sites kinds.Text (interp.pieces_in t)
 node_sites defs (comment t) = []
 
@@ -160,6 +191,7 @@ abbrev mutual
   part_holes (text_part ps) = flat_map piece_holes ps
   part_holes (comment_part t) = []
   part_holes (element_part name own acts attributes contents) = own ++ content_holes contents
+  part_holes (anchor_part outlet own starts) = own
 
   pub content_holes : Contents → List ℕ
   content_holes (children ps) = holes ps

@@ -1,6 +1,6 @@
 -- What the parts of the code stand for.
 use Rattle.std.specs.Prelude.{ℕ, List, map}
-use Rattle.ng_drawing.specs.Template.{Acts, Part, Contents, Parts, text_part, comment_part, element_part, children, bound, parts_from}
+use Rattle.ng_drawing.specs.Template.{Acts, Part, Contents, Parts, text_part, comment_part, element_part, anchor_part, children, bound, parts_from}
 use Rattle.ng_language.specs.Trees.{Trees}
 use Rattle.ng_parse.specs.ProgramOf.{program}
 use Rattle.ng_template.specs.declared.acts.Acts as code_acts
@@ -24,6 +24,7 @@ abbrev pub part_step : Part-F Contents Part Parts → Part
 part_step (Part-F.Text pieces) = text_part pieces
 part_step (Part-F.Comment t) = comment_part t
 part_step (Part-F.Element name own acts attributes contents) = element_part name own.items (acts_of acts) attributes contents
+part_step (Part-F.Anchor outlet own starts) = anchor_part outlet own.items (map program starts.items)
 
 abbrev pub contents_step : Contents-F Contents Part Parts → Contents
 contents_step (Contents-F.Children ps) = children ps

@@ -1,28 +1,35 @@
 //! Compiles a document.
-ghost use Rattle.std.specs.Prelude.{◌≡◌, true, IfOk};
+ghost use Rattle.std.specs.Prelude.{◌≡◌, ◌∷◌, [], true, IfOk, MatchOption};
 ghost use Rattle.ng_base.specs.Meets.{Gives};
 ghost use Rattle.ng_html.specs.Seen.{node_of, forest_of};
 ghost use Rattle.ng_html.specs.TreeSeen.{source_of};
 ghost use Rattle.ng_interp.specs.Parts.{pieces_in};
-ghost use Rattle.ng_template.specs.Compiles.{first_place, past as past_of, text_made, after_node as after_node_of, after_forest as after_forest_of, contents_made, compiled_node, compiled_forest, compiled};
+ghost use Rattle.ng_template.specs.Compiles.{first_place, past as past_of, text_made, after_node as after_node_of, after_forest as after_forest_of, contents_made, element_made, compiled_node, compiled_forest, compiled};
+ghost use Rattle.ng_template.specs.AroundOf.{inside_of};
+ghost use Rattle.ng_template.specs.SiteOf.{site_of};
 ghost use Rattle.ng_template.specs.Free.{is_tpl_want};
 ghost use Rattle.ng_template.specs.Numbering.{is_regular};
 ghost use Rattle.ng_template.specs.Seen.{part_of, contents_of, parts_of};
+ghost use Rattle.ng_template.specs.FragmentOf.{sites_of, fragments_of};
 ghost use Rattle.ng_template.specs.TemplateOf.{template_of, made_of};
 ghost use Rattle.ng_template.specs.Texts.{judged};
 
-use crate::elements::{Element, element_of, picks_at};
+use crate::around::{Around, Inside, find_blocks};
+use crate::elements::{Element, element_of};
 use crate::fault::TplFault;
+use crate::fragment::Fragment;
 use crate::known::Known;
-use crate::manners::any_makes_plain;
 use crate::parts::{Contents, Part, Parts, bound as bound_to, children, comment, element, text};
 use crate::plain::plain_part;
 use crate::settings::with_class;
+use crate::site::Site;
 use crate::texts::{SITE_LIMIT, count_holes, first_of, place_parts, read_text, worn};
 use crate::tpl::{Making, Tpl};
+use crate::wrapping::wrap;
 use ng_base::txt::Txt;
 use ng_collect::Registry;
 use ng_drawing::kind::SiteKind;
+use ng_html::attrs::Attrs;
 use ng_html::forest::{Forest, Node};
 use ng_html::source::Source;
 use std::alloc::Global;
@@ -47,6 +54,8 @@ fn text_at<'a>(
         Making {
             places: others,
             sites,
+            outlets: made.outlets,
+            bodies: made.bodies,
         },
     ))
 }
@@ -58,7 +67,7 @@ fn past(made: Making<'_>) -> Making<'_>
     let (_, others) = first_of(made.places);
     Making {
         places: others,
-        sites: made.sites,
+        ..made
     }
 }
 
@@ -89,12 +98,36 @@ fn after_forest<'a>(forest: &Forest, places: &'a [u64]) -> &'a [u64]
 
 /// What is being made, after the places of a node and of all nodes in it.
 fn past_all<'a>(node: &Node, made: Making<'a>) -> Making<'a>
-    ensures { made_of result ≡ record { places = after_node_of (node_of node.now) (made_of made.entry).places; sites = (made_of made.entry).sites } }
+    ensures { made_of result ≡ record (made_of made.entry) { places = after_node_of (node_of node.now) (made_of made.entry).places } }
 {
     Making {
         places: after_node(node, made.places),
-        sites: made.sites,
+        ..made
     }
+}
+
+/// A fragment without sites and outlets.
+fn begun_body<'a>(alloc: Global, places: &'a [u64], bodies: Vec<Fragment>) -> Making<'a>
+    ensures { made_of result ≡ record { places = places.now; sites = []; outlets = []; bodies = fragments_of bodies.items } }
+{
+    Making {
+        places,
+        sites: Vec::new(alloc),
+        outlets: Vec::new(alloc),
+        bodies,
+    }
+}
+
+/// The first of some sites, and the others.
+fn split_first(heads: Vec<Site>) -> Option<(Site, Vec<Site>)>
+    ensures { MatchOption result (sites_of heads.items ≡ []) (λ p. sites_of heads.items ≡ site_of p.0 ∷ sites_of p.1.items) }
+{
+    let mut others = heads;
+    if others.is_empty() {
+        return None;
+    }
+    let first = others.remove(0);
+    Some((first, others))
 }
 
 /// The part of a node.
@@ -112,12 +145,53 @@ fn part_at<'a>(
         Node::Text(whole) => text_at(alloc, known, whole, made),
         Node::Comment(whole) => Ok((comment(whole.copied()?), past(made))),
         Node::Element { name, attrs, kids } => {
-            let picked = picks_at(alloc, node, r, made.places)?;
-            if any_makes_plain(picked.as_slice()) {
-                return Ok((plain_part(alloc, node)?, past_all(node, made)));
+            let (place, _) = first_of(made.places);
+            let Around { heads, inside } = find_blocks(alloc, known, node, r, place)?;
+            match split_first(heads) {
+                None => element_at(alloc, r, known, kids, node, name, attrs, inside, made),
+                Some((head, others)) => {
+                    let Making {
+                        places,
+                        sites,
+                        outlets,
+                        bodies,
+                    } = made;
+                    let body = begun_body(alloc, places, bodies);
+                    let (part, after) = element_at(
+                        alloc, r, known, kids, node, name, attrs, inside, body,
+                    )?;
+                    wrap(alloc, head, others, sites, outlets, part, after)
+                }
             }
+        }
+    }
+}
+
+/// The part of an element by itself.
+#[cycle(build)]
+fn element_at<'a>(
+    alloc: Global,
+    r: &Registry,
+    known: &mut Known,
+    kids: &Forest,
+    node: &Node,
+    name: &Txt,
+    attrs: &Attrs,
+    inside: Inside,
+    made: Making<'a>,
+) -> Result<(Part, Making<'a>), TplFault>
+    ensures { Gives is_tpl_want (λ q. (part_of q.0, made_of q.1)) (element_made (node_of node.now) name.now attrs.now (forest_of kids.now) (inside_of inside) (λ k. compiled_forest r.now (forest_of kids.now) k) (made_of made.entry)) result }
+{
+    match inside {
+        Inside::Plain => Ok((plain_part(alloc, node)?, past_all(node, made))),
+        Inside::Picks(picked) => {
             let name = name.copied()?;
-            let Making { places, sites } = made;
+            let Making {
+                places,
+                sites,
+                outlets,
+                bodies,
+            } = made;
             let Element {
                 attributes,
                 class,
@@ -131,6 +205,8 @@ fn part_at<'a>(
             let inner = Making {
                 places: others,
                 sites,
+                outlets,
+                bodies,
             };
             let (contents, after) = contents_at(alloc, r, known, bound, kids, inner)?;
             Ok((element(name, own, acts, attributes, contents), after))
@@ -159,7 +235,7 @@ fn contents_at<'a>(
             bound_to(n),
             Making {
                 places: after_forest(kids, made.places),
-                sites: made.sites,
+                ..made
             },
         )),
     }
@@ -187,18 +263,20 @@ fn parts_at<'a>(
 }
 
 /// Compiles a document (guide: HTML Compiler). The first refusal in document order stands, at the `<` of its element or at the first
-/// byte of its text: in an element LeftOut, MultiDir, Later where a directive is not built yet, and then directive by directive, in
-/// their order, Expression, UnknownFilter and, unless it is a program that runs, Impure; in a text Expression of all its holes,
-/// UnknownFilter of all, then Impure of all. The children in whose place a bound text stands are neither compiled nor refused. Of a plain
-/// element and of what is in it nothing is read.
+/// byte of its text: in an element LeftOut, MultiDir, Later where a directive is not built yet, what is wrong with the text of a block
+/// round it, and then directive by directive, in their order, Expression, UnknownFilter and, unless it is a program that runs, Impure; in a
+/// text Expression of all its holes, UnknownFilter of all, then Impure of all. The children in whose place a bound text stands are neither
+/// compiled nor refused. Of a plain element and of what is in it nothing is read.
 pub fn compile(alloc: Global, s: &Source, r: &Registry, slots: bool) -> Result<Tpl, TplFault>
     ensures template { Gives is_tpl_want template_of (compiled (source_of s.now) r.now slots) result }
     ensures regular { IfOk result (λ t. is_regular (template_of t) ≡ true) }
 {
-    let made = Making {
-        places: s.places.as_slice(),
-        sites: Vec::new(alloc),
-    };
+    let made = begun_body(alloc, s.places.as_slice(), Vec::new(alloc));
     let (parts, made) = parts_at(alloc, r, &mut Known::new(alloc), &s.forest, made)?;
-    Ok(Tpl::new(parts, made.sites))
+    let own = Fragment {
+        parts,
+        sites: made.sites,
+        outlets: made.outlets,
+    };
+    Ok(Tpl::new(own, made.bodies))
 }

@@ -105,6 +105,21 @@ pub(crate) fn directive_parts(
     judged_parts(place, read_parts(alloc, known, setting, &text))
 }
 
+/// The one hole that a block's text is as a whole, unless something is wrong with it.
+pub(crate) fn whole_parts(
+    alloc: Global,
+    known: &mut Known,
+    place: u64,
+    pick: &Pick,
+) -> Result<Vec<Part>, TplFault>
+    ensures parts { Gives is_tpl_want (λ v. map piece_of v.items) (judged place (whole_text (text_on pick.now.attribute))) result }
+    ensures known { IfOk result (λ v. list_all is_known (map piece_of v.items) ≡ true) }
+    ensures pure { IfOk result (λ v. list_all is_pure (map piece_of v.items) ≡ true) }
+{
+    let text = text_of(alloc, &pick.attribute)?;
+    judged_parts(place, read_whole(alloc, known, &text))
+}
+
 /// A program that was read of what stands at a place, unless a filter of it isn't there.
 fn judged_as_known(place: u64, program: Program) -> Result<Program, TplFault>
     ensures { Gives is_tpl_want trees (judged_program place (Some (trees program))) result }

@@ -1,18 +1,17 @@
 //! Elements: their directives, and what these set (guide: HTML Compiler, "How directives are compiled").
-ghost use Rattle.std.specs.Prelude.{List, [], ◌≡◌, ◌++◌, ◌+◌, ◌≤◌, map, length, true, None, IfOk, IfErr, OnOk};
+ghost use Rattle.std.specs.Prelude.{List, [], ◌≡◌, ◌++◌, ◌+◌, ◌≤◌, map, length, true, IfOk, IfErr, OnOk};
 ghost use Rattle.std.specs.List.{list_all};
-ghost use Rattle.ng_base.specs.Meets.{Gives, Meets};
-ghost use Rattle.ng_collect.specs.Collected.{collected};
+ghost use Rattle.ng_base.specs.Meets.{Gives};
 ghost use Rattle.ng_drawing.specs.Template.{Site as TemplateSite};
-ghost use Rattle.ng_html.specs.Seen.{node_of};
 ghost use Rattle.ng_interp.specs.Parts.{piece_of};
 ghost use Rattle.ng_parse.specs.ProgramOf.{program as trees};
 ghost use Rattle.ng_template.specs.AttributeOf.{class_of};
-ghost use Rattle.ng_template.specs.Compiles.{first_place, class_in as class_in_of, bare as bare_of, picks_at as picks_at_place, head_with};
+ghost use Rattle.ng_template.specs.Compiles.{class_in as class_in_of, bare as bare_of, head_with};
 ghost use Rattle.ng_template.specs.Directives.{if_it_fits, with_start as with_start_of, with_handler as with_handler_of, with_manner, with_picks};
 ghost use Rattle.ng_template.specs.Free.{is_tpl_want};
 ghost use Rattle.ng_template.specs.Manners.{manner_of, event_name as event_name_of};
-ghost use Rattle.ng_template.specs.TemplateOf.{sites_of, head_of};
+ghost use Rattle.ng_template.specs.FragmentOf.{sites_of};
+ghost use Rattle.ng_template.specs.TemplateOf.{head_of};
 ghost use Rattle.ng_template.specs.Texts.{is_known, is_pure, counted};
 
 use crate::acts::{Acts, Handler};
@@ -20,15 +19,14 @@ use crate::classes::ClassValue;
 use crate::directives::{directive_parts, directive_program, kind_for};
 use crate::fault::{TplFault, TplKind};
 use crate::known::Known;
-use crate::manners::{Manner, Setting, are_built, event_name, manner_for};
+use crate::manners::{Manner, Setting, event_name, manner_for};
 use crate::pieces::{Attributes, Pieces};
 use crate::plain::plain_values;
 use crate::settings::{add_to_class, bound_after, set};
 use crate::site::Site;
 use crate::texts::{SITE_LIMIT, count_holes, first_of, place_parts, refusal, want, worn};
-use ng_collect::{CollectFault, DomEvent, Pick, Picked, Registry, collect, kept_attrs};
+use ng_collect::{DomEvent, Pick, kept_attrs};
 use ng_html::attrs::Attrs;
-use ng_html::forest::Node;
 use ng_interp::Part;
 use ng_parse::Program;
 use std::alloc::{AllocError, Global};
@@ -161,6 +159,7 @@ fn with_pick(
             let parts = directive_parts(alloc, known, place, setting, pick)?;
             with_parts(alloc, setting, pick, parts, element)
         }
+        Some(Manner::Fills) => Ok(element),
         Some(Manner::Starts) => {
             let program = directive_program(alloc, place, pick)?;
             Ok(with_start(element, program)?)
@@ -207,24 +206,6 @@ fn bare(alloc: Global, attrs: &Attrs, sites: Vec<Site>) -> Result<Element, TplFa
     }
 }
 
-/// The directives of an element, or their refusal.
-pub(crate) fn picks_at(
-    alloc: Global,
-    e: &Node,
-    r: &Registry,
-    places: &[u64],
-) -> Result<Picked, TplFault>
-    ensures { Meets is_tpl_want (picks_at_place (first_place places.now) (collected r.now None (node_of e.now))) result }
-{
-    let (place, _) = first_of(places);
-    match collect(alloc, e, r) {
-        Err(CollectFault::MultiDir) => Err(refusal(TplKind::MultiDir, place)),
-        Err(CollectFault::LeftOut) => Err(refusal(TplKind::LeftOut, place)),
-        Err(CollectFault::Memory(_)) => Err(want()),
-        Ok(picked) => Ok(picked),
-    }
-}
-
 /// An element with these directives, all but its contents, or its refusal.
 pub(crate) fn element_of(
     alloc: Global,
@@ -234,12 +215,9 @@ pub(crate) fn element_of(
     places: &[u64],
     sites: Vec<Site>,
 ) -> Result<Element, TplFault>
-    ensures { Gives is_tpl_want head_of (head_with picks.now attrs.now (record { places = places.now; sites = sites_of sites.items })) result }
+    ensures { Gives is_tpl_want head_of (head_with picks.now attrs.now (record { places = places.now; sites = sites_of sites.items; outlets = []; bodies = [] })) result }
 {
     let (place, _) = first_of(places);
-    if !are_built(picks) {
-        return Err(refusal(TplKind::Later, place));
-    }
     let element = bare(alloc, attrs, sites)?;
     with_all(alloc, known, place, picks, element)
 }

@@ -1,5 +1,5 @@
 //! Holes that were read before, by their text.
-ghost use Rattle.std.specs.Prelude.{◌≡◌, true, Ok, IfOk, IfErr, IfSome, MatchResult};
+ghost use Rattle.std.specs.Prelude.{◌≡◌, true, Ok, IfErr, IfSome, MatchResult};
 ghost use Rattle.ng_base.specs.Meets.{Gives};
 ghost use Rattle.ng_interp.specs.Parts.{is_free, piece_of, hole_at, piece_at};
 ghost use Rattle.ng_parse.specs.ProgramOf.{program as trees};

@@ -1,5 +1,5 @@
 //! What each directive does with its text, and which attribute it sets beside its own (API: ngHref, ngSrc, ngChecked, ngDisabled,
-//! ngOpen, ngReadonly, ngSelected, ngBind, ngClass, ngShow, ngHide, ngInit, ngClick, ngNonBindable; guide: Interpolation, "How text and attribute
+//! ngOpen, ngReadonly, ngSelected, ngBind, ngClass, ngShow, ngHide, ngInit, ngClick, ngNonBindable, ngIf; guide: Interpolation, "How text and attribute
 //! bindings work").
 ghost use Rattle.std.specs.Prelude.{◌≡◌, IfOk};
 ghost use Rattle.ng_template.specs.Manners.{core_manner as core_manner_of, manner_of, are_built as are_built_all, core_makes_plain as core_makes_plain_of, makes_plain as makes_plain_of, any_makes_plain as any_makes_plain_of, core_target as core_target_of, target_of, event_name as event_name_of};
@@ -22,11 +22,12 @@ pub enum Setting {
     Hides,
 }
 
-/// What a directive does with its text. It watches it and sets something; or it runs it as a program when the element is linked, or
-/// when an event is handled.
+/// What a directive does with its text. It watches it and sets something, or is a block, whose body stands by its value; or it runs it as
+/// a program when the element is linked, or when an event is handled.
 #[derive(Clone, Copy, Debug, PartialEq, Eq, Drop)]
 pub enum Manner {
     Sets(Setting),
+    Fills,
     Starts,
     Handles(DomEvent),
 }

@@ -1,15 +1,17 @@
 //! The parts of a template. `specs/Seen.antt` says which parts of the definitions they stand for.
-ghost use Rattle.std.specs.Prelude.{◌≡◌, map, OnOk, OnErr};
-ghost use Rattle.ng_drawing.specs.Template.{text_part, comment_part, element_part, children as children_with, bound as bound_to, no_parts, with_part, parts_from};
+ghost use Rattle.std.specs.Prelude.{◌≡◌, [], map, OnOk, OnErr};
+ghost use Rattle.ng_drawing.specs.Template.{text_part, comment_part, element_part, anchor_part, children as children_with, bound as bound_to, no_parts, with_part, parts_from};
 ghost use Rattle.ng_template.specs.Seen.{acts_of, part_of, contents_of, parts_of};
 
 use crate::acts::Acts;
 use crate::pieces::{Attributes, Pieces};
 use ng_base::txt::Txt;
+use ng_parse::Program;
 use std::alloc::{AllocError, Global};
 
 /// A part of a template: a text, a comment or an element, with the numbers of its own sites in the order of its directives, and what
-/// it does.
+/// it does; or the anchor of a block, with the number of its outlet, the numbers of its own sites, and programs that run when it is
+/// linked.
 #[cycle(part)]
 #[derive(Drop)]
 pub enum Part {
@@ -21,6 +23,11 @@ pub enum Part {
         acts: Acts,
         attributes: Attributes,
         contents: Contents,
+    },
+    Anchor {
+        outlet: u32,
+        own: Vec<u32>,
+        starts: Vec<Program>,
     },
 }
 
@@ -100,6 +107,17 @@ pub(crate) fn element(
         acts,
         attributes,
         contents,
+    }
+}
+
+/// An anchor that runs no program.
+pub(crate) fn anchor(alloc: Global, outlet: u32, own: Vec<u32>) -> Part
+    ensures { part_of result ≡ anchor_part outlet own.items [] }
+{
+    Part::Anchor {
+        outlet,
+        own,
+        starts: Vec::new(alloc),
     }
 }
 

@@ -1,5 +1,5 @@
 //! Sites, the watched expressions of a template (guide: Scopes, "`$digest`").
-ghost use Rattle.std.specs.Prelude.{◌≡◌, true, IfOk};
+ghost use Rattle.std.specs.Prelude.{◌≡◌, true};
 ghost use Rattle.ng_parse.specs.ProgramOf.{program as trees};
 ghost use Rattle.ng_view.specs.Purity.{are_pure, all_filters_known};
 

@@ -1,9 +1,10 @@
 //! The templates of a page.
-ghost use Rattle.std.specs.Prelude.{◌≡◌, ◌++◌, ◌∷◌, ◌<◌, ◌≤◌, [], length, false, Some, None, option_map, slice_get, IfOk, IfErr, IfSome, OnOk, OnErr, IsNone, ◌↔◌};
+ghost use Rattle.std.specs.Prelude.{◌≡◌, ◌++◌, ◌∷◌, ◌<◌, ◌≤◌, [], length, false, Some, None, option_map, slice_get, IfOk, IfSome, OnOk, OnErr, IsNone, ◌↔◌};
 ghost use Rattle.std.specs.List.{list_any};
 ghost use Rattle.ng_base.specs.Meets.{Gives};
 ghost use Rattle.ng_template.specs.TplNames.{is_refused_memory, is_name, next_name};
 
+use crate::fragment::Fragment;
 use crate::tpl::Tpl;
 use ng_base::fault::Memory;
 use ng_base::name::TplId;
@@ -48,7 +49,8 @@ fn is_word(word: &Txt, name: &Option<Txt>) -> bool
 }
 
 impl Templates {
-    ghost use Rattle.ng_template.specs.Kept.{templates_of, is_named, named_from};
+    ghost use Rattle.ng_template.specs.Kept.{templates_of, is_named, named_from, fragment_in};
+    ghost use Rattle.ng_template.specs.FragmentOf.{fragment_of};
     ghost use Rattle.ng_template.specs.TemplateOf.{template_of};
 
     /// No template.
@@ -77,6 +79,16 @@ impl Templates {
         ensures { option_map (λ k. k.1) (slice_get (templates_of self.now) t.0) ≡ Some (template_of result.now) }
     {
         &self.items[t.0 as usize].template
+    }
+
+    /// The fragment of a number in the template of a name.
+    pub fn fragment(&self, t: TplId, n: u32) -> Option<&Fragment>
+        ensures { option_map (λ f. fragment_of f.now) result ≡ fragment_in (templates_of self.now) t.0 n }
+    {
+        match self.items.get(t.0 as usize) {
+            None => None,
+            Some(kept) => kept.template.fragment(n),
+        }
     }
 
     /// The application's template of a name (API: ngInclude).

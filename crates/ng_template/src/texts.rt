@@ -8,7 +8,7 @@ ghost use Rattle.ng_interp.specs.Parts.{Piece as InterpPiece, is_free, piece_of,
 ghost use Rattle.ng_template.specs.Limits.{site_limit, worn as worn_of};
 ghost use Rattle.ng_template.specs.Compiles.{first_place, other_places};
 ghost use Rattle.ng_template.specs.Free.{is_tpl_want};
-ghost use Rattle.ng_template.specs.TemplateOf.{sites_of};
+ghost use Rattle.ng_template.specs.FragmentOf.{sites_of};
 ghost use Rattle.ng_template.specs.Texts.{refused, is_known, is_pure as is_pure_piece, wrong as wrong_with, judged, numbered, sites_in};
 
 use crate::fault::{TplFault, TplKind};

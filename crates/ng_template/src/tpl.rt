@@ -1,50 +1,59 @@
 //! What a document compiles to.
-ghost use Rattle.std.specs.Prelude.{◌≡◌, true, map};
+ghost use Rattle.std.specs.Prelude.{◌≡◌, true};
+ghost use Rattle.ng_template.specs.FragmentOf.{fragment_of, fragments_of};
 ghost use Rattle.ng_template.specs.Numbering.{is_regular};
-ghost use Rattle.ng_template.specs.Seen.{parts_of};
-ghost use Rattle.ng_template.specs.SiteOf.{site_of};
 
-use crate::parts::Parts;
+use crate::fragment::Fragment;
+use crate::outlets::Outlet;
 use crate::site::Site;
 
-/// A template: its parts, and its sites in document order. The parts have the numbers of the sites in that order.
+/// A template: its own fragment, and those of its blocks' bodies, each after those in it. The parts of each have the numbers of its sites
+/// and outlets in document order.
 #[derive(Drop)]
 pub struct Tpl {
-    parts: Parts,
-    sites: Vec<Site>,
-    ghost regular: { is_regular (record { parts = parts_of parts; sites = map site_of sites.items }) ≡ true },
+    own: Fragment,
+    bodies: Vec<Fragment>,
+    ghost regular: { is_regular (record { own = fragment_of own; bodies = fragments_of bodies.items }) ≡ true },
 }
 
 impl Tpl {
+    ghost use Rattle.std.specs.Prelude.{option_map};
+    ghost use Rattle.ng_drawing.specs.Template.{fragment_at};
     ghost use Rattle.ng_template.specs.TemplateOf.{template_of};
 
-    /// A template of parts that have the numbers of these sites.
-    pub(crate) fn new(parts: Parts, sites: Vec<Site>) -> Tpl
-        requires { is_regular (record { parts = parts_of parts; sites = map site_of sites.items }) ≡ true }
-        ensures { template_of result ≡ record { parts = parts_of parts; sites = map site_of sites.items } }
+    /// A template of these fragments.
+    pub(crate) fn new(own: Fragment, bodies: Vec<Fragment>) -> Tpl
+        requires { is_regular (record { own = fragment_of own; bodies = fragments_of bodies.items }) ≡ true }
+        ensures { template_of result ≡ record { own = fragment_of own; bodies = fragments_of bodies.items } }
     {
-        Tpl { parts, sites }
+        Tpl { own, bodies }
     }
 
-    /// The parts.
-    pub fn parts(&self) -> &Parts
-        ensures parts { parts_of result.now ≡ (template_of self.now).parts }
+    /// Its own fragment.
+    pub fn own(&self) -> &Fragment
+        ensures own { fragment_of result.now ≡ (template_of self.now).own }
         ensures regular { is_regular (template_of self.now) ≡ true }
     {
-        &self.parts
+        &self.own
     }
 
-    /// The sites in document order.
-    pub fn sites(&self) -> &[Site]
-        ensures { map site_of result.now ≡ (template_of self.now).sites }
+    /// The fragment of a number: 0 is its own, and its bodies follow.
+    pub fn fragment(&self, n: u32) -> Option<&Fragment>
+        ensures { option_map (λ f. fragment_of f.now) result ≡ fragment_at (template_of self.now) n }
     {
-        self.sites.as_slice()
+        if n == 0 {
+            Some(&self.own)
+        } else {
+            self.bodies.get(n as usize - 1)
+        }
     }
 }
 
-/// A template that is being made: the places that are left, and the sites so far.
+/// A fragment that is being made: the places that are left, its sites and outlets so far, and the bodies that are made.
 #[derive(Drop)]
 pub(crate) struct Making<'a> {
     pub(crate) places: &'a [u64],
     pub(crate) sites: Vec<Site>,
+    pub(crate) outlets: Vec<Outlet>,
+    pub(crate) bodies: Vec<Fragment>,
 }

@@ -7,7 +7,7 @@ use Rattle.ng_drawing.specs.Nodes.{nodes}
 use Rattle.ng_drawing.specs.Template.{Part, Contents, parts_from}
 use Rattle.ng_template.specs.Seen.{part_of, contents_of}
 use Rattle.ng_link.specs.Building.{unset, parent_name, Builds}
-use Rattle.ng_link.specs.Shape.{keys_in, linked_values, content_shape, shape, part_holes, holes}
+use Rattle.ng_link.specs.Shape.{keys_in, linked_values, content_shape, shape, unfilled, part_holes, holes}
 use Rattle.ng_link.proofs.Built.{element_whole, builds_then, names_then}
 use Rattle.ng_link.proofs.Loops.{split_at, there_still, room_for, part_within}
 use Rattle.ng_link.proofs.Shapes.{holes-push}
@@ -20,7 +20,7 @@ build_whole-returns-clause-builds t c =
     let keys = keys_in c.args.path.now c.args.serials.now in
     let q : Contents = contents_of c.args.contents.now in
     let kids = c.in_ok-kids.ensures.builds in
-    let becomes = c.fill.ensures.reads (shows unset (content_shape keys (next_name e) q)) (sym c.in_ok-kids.ensures.names) kids.reads in
+    let becomes = c.fill.ensures.reads (shows unset (content_shape keys (next_name e) unfilled q)) (sym c.in_ok-kids.ensures.names) kids.reads in
     element_whole (parent_name c.args.parent) keys c.in_ok-n.n.made.0 c.args.name.now (linked_values keys c.args.attributes.now) q d e c.build_contents.new.dom c.fill.new.self
     c.in_ok-n.ensures.name c.in_ok-n.ensures.builds kids becomes c.fill.ensures.stays
 
@@ -51,13 +51,13 @@ build_parts-loop-part-preserved t c =
     let inv = c.loop-part.invariant in
     let more : map part_of (take (i + 1) xs) ≡ ps ++ q ∷ [] = map_more part_of xs i x c.loop-part-test.true ∙ ap (λ y. ps ++ part_of y ∷ []) (sym c.part-item.is) in
     let after : k ≡ m + nodes (parts_from ps) = inv.builds.next in
-    let P : List Part → Type 0 = λ qs. Builds (parent_name c.args.parent) (shape keys m (parts_from qs)) (nodes (parts_from qs)) c.args.dom.now c.build_part.new.dom in
+    let P : List Part → Type 0 = λ qs. Builds (parent_name c.args.parent) (shape keys m unfilled (parts_from qs)) (nodes (parts_from qs)) c.args.dom.now c.build_part.new.dom in
     record {
       names = c.in_ok-push.ensures.ok
           ∙ (ap (λ (ns : List ℕ). ns ++ c.in_ok-n.n.made.0 ∷ []) inv.names
-          ∙ (ap (λ (n : ℕ). names_of (shows unset (shape keys m (parts_from ps))) ++ n ∷ []) c.in_ok-n.ensures.name
+          ∙ (ap (λ (n : ℕ). names_of (shows unset (shape keys m unfilled (parts_from ps))) ++ n ∷ []) c.in_ok-n.ensures.name
           ∙ (sym (names_then keys m k ps q after)
-          ∙ ap (λ (qs : List Part). names_of (shows unset (shape keys m (parts_from qs)))) (sym more))));
+          ∙ ap (λ (qs : List Part). names_of (shows unset (shape keys m unfilled (parts_from qs)))) (sym more))));
       builds = subst P (sym more) (builds_then (parent_name c.args.parent) keys m ps q c.args.dom.now c.loop-part.dom c.build_part.new.dom refl inv.builds c.in_ok-n.ensures.builds);
       holes = c.in_ok-n.ensures.holes
           ∙ (ap (λ (ns : List ℕ). ns ++ part_holes k q) inv.holes

@@ -6,7 +6,7 @@ use Rattle.ng_drawing.specs.Nodes.{part_nodes, content_nodes, nodes}
 use Rattle.ng_drawing.specs.Template.{parts_from}
 use Rattle.ng_template.specs.Seen.{part_of, contents_of}
 use Rattle.ng_link.specs.Building.{unset, parent_name, Builds}
-use Rattle.ng_link.specs.Shape.{keys_in, shape, holes}
+use Rattle.ng_link.specs.Shape.{keys_in, shape, unfilled, holes}
 use Rattle.ng_link.proofs.building.+build.Given as goal
 
 abbrev pub invariant-build_parts-loop-part : goal.invariant-build_parts-loop-part
@@ -15,8 +15,8 @@ invariant-build_parts-loop-part l =
     let keys = keys_in l.path l.serials in
     let m = next_name l.initial.dom in
     record {
-      names : l.group.nodes.items ≡ names_of (shows unset (shape keys m done));
-      builds : Builds (parent_name l.parent) (shape keys m done) (nodes done) l.initial.dom l.dom;
+      names : l.group.nodes.items ≡ names_of (shows unset (shape keys m unfilled done));
+      builds : Builds (parent_name l.parent) (shape keys m unfilled done) (nodes done) l.initial.dom l.dom;
       holes : l.spots.items ≡ l.initial.spots.items ++ holes m done;
     }
 

@@ -2,4 +2,4 @@ use Rattle.ng_link.proofs.Shapes.{shape_draws}
 use Rattle.ng_link.proofs.laws.shape_draws_parts.Goals as goal
 
 pub returns : goal.returns
-returns c = shape_draws
+returns c = λ keys v n groups ps. shape_draws keys v groups n ps

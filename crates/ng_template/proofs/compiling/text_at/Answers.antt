@@ -35,5 +35,5 @@ returns c =
     let sites : List Site = map site_of c.in_ok-pieces.sites.items in
     text_placed (made_of c.args.made) (judged (first_place c.args.made.places.now) (pieces_in c.args.whole.now)) (map piece_of c.in_ok-parts.parts.items) judged_now
     c.in_ok-pieces.pieces (map site_of c.in_ok-pieces.sites.items) named c.in_ok-pieces.ensures.sites l
-    ∙ (ap (λ p. Ok (p, record { places = other_places c.args.made.places.now; sites = sites })) (sym c.text.ensures)
-    ∙ ap (λ places. Ok (part_of c.text.result, record { places = places; sites = sites })) (sym c.first_of-first.ensures.others))
+    ∙ (ap (λ p. Ok (p, record (made_of c.args.made) { places = other_places c.args.made.places.now; sites = sites })) (sym c.text.ensures)
+    ∙ ap (λ places. Ok (part_of c.text.result, record (made_of c.args.made) { places = places; sites = sites })) (sym c.first_of-first.ensures.others))

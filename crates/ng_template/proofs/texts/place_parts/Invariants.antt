@@ -2,7 +2,7 @@ use Rattle.std.proofs.Common.{◌≡◌, ◌≤◌, ◌+◌, ◌++◌, map, leng
 use Rattle.std.specs.List.{list_all}
 use Rattle.ng_interp.specs.Parts.{piece_of}
 use Rattle.ng_template.specs.Limits.{site_limit}
-use Rattle.ng_template.specs.TemplateOf.{sites_of}
+use Rattle.ng_template.specs.FragmentOf.{sites_of}
 use Rattle.ng_template.specs.Texts.{is_known, is_pure, numbered, sites_in}
 use Rattle.ng_template.proofs.texts.place_parts.Given as goal
 

@@ -1,0 +1,164 @@
+-- The bodies in an instance, and what is rendered of them.
+use Rattle.std.proofs.Common.{◌≡◌, ◌<◌, ◌≤◌, ◌+◌, ℕ, zero, suc, List, [], ◌∷◌, ◌++◌, map, drop, get_or, length, Bool, true, false, cond, Option, refl, ap, sym, subst, ◌∙◌, append_assoc, append-nil, slice_index_or, arith}
+use Rattle.std.proofs.lemmas.List.{at_drop_more, drop_all}
+use Rattle.std.proofs.lemmas.Bool.{ne_eqb}
+use Rattle.std.specs.Prelude.{slice_get, not, ◌==◌, vec_len}
+use Rattle.ng_base.specs.Views.{ViewTree}
+use Rattle.ng_base.specs.Objects.{Object}
+use Rattle.ng_behaviour.specs.Scopes.{Scope}
+use Rattle.ng_markup.specs.Forest.{Forest, no_nodes}
+use Rattle.ng_drawing.specs.Drawing.{Now, Rendered, shown_as, render}
+use Rattle.ng_drawing.specs.Instance.{SiteState, Instance, Instances, Outlets, instance_with, no_instances, instance_then, no_outlets, outlet_then, instances_from, outlets_from, has_any, is_filled, instance_now, outlet_at, rendering, rendering_all, rendering_in}
+use Rattle.ng_drawing.specs.InstanceOf.{state_of, Fragments, instance_step, instances_step, instance_of, instances_of}
+use Rattle.ng_drawing.specs.Looks.{is_kept_true}
+use Rattle.ng_drawing.specs.Template.{Site, Outlet, Contents, Part, Parts, anchor_part, Fragment, no_fragment}
+use Rattle.ng_render.specs.OverOf.{NamesStand, InstanceStands, OutletsStand}
+use Rattle.ng_template.specs.FragmentOf.{filling_of}
+use Rattle.ng_parse.specs.ProgramOf.{program}
+use Rattle.ng_template.specs.Seen.{contents_step, part_step, parts_step, part_of}
+use Rattle.ng_template.specs.declared.parts.Contents.TheFolds.{fold-roll-Part}
+use Rattle.ng_template.specs.declared.parts.Contents.TheOpen.{Part-F}
+use Rattle.ng_template.specs.declared.parts.Part.TheVariants as variants
+use Rattle.ng_template.specs.declared.outlets.Filling.{Filling}
+use Rattle.ng_template.specs.declared.outlets.Filling.TheVariants.{BodyIf}
+use Rattle.ng_drawing.specs.declared.instance.Instance as code_instance
+use Rattle.ng_drawing.specs.declared.instance.Instances as code_instances
+use Rattle.ng_drawing.specs.declared.instance.Instance.TheViews.{out-Instance, out-Instances}
+use Rattle.ng_drawing.specs.declared.instance.Instance.TheFolds.{fold_out-Instance, fold_out-Instances}
+
+-- what an instance of the code has
+pub instance_out : (all : Fragments) (i : code_instance.Instance)
+    → instance_of all i ≡ instance_with (all (out-Instance i).template.0 (out-Instance i).fragment) (out-Instance i).scope.0 (map state_of (out-Instance i).sites.items)
+    (outlets_from (map (instances_of all) (out-Instance i).outlets.items))
+instance_out all i = fold_out-Instance Instance Instances (instance_step all) instances_step i
+
+pub instances_out : (all : Fragments) (is : code_instances.Instances) → instances_of all is ≡ instances_from (map (instance_of all) (out-Instances is).items.items)
+instances_out all is = fold_out-Instances Instance Instances (instance_step all) instances_step is
+
+-- whether there is a body
+any_from : {X : Type 0} (seen : X → Instance) (xs : List X) → has_any (instances_from (map seen xs)) ≡ not (length xs == 0)
+any_from seen [] = refl
+any_from seen (x ∷ xs) = let e : length (x ∷ xs) ≡ 0 → ⊥ = λ h. omega (arith, h) in sym (ap not (ne_eqb (length (x ∷ xs)) 0 e))
+
+pub any_of : (all : Fragments) (is : code_instances.Instances) → has_any (instances_of all is) ≡ not (vec_len (out-Instances is).items == 0)
+any_of all is =
+    let v = (out-Instances is).items in
+    let size : length v.items ≡ vec_len v = omega (arith, v.ok.0) in
+    ap has_any (instances_out all is) ∙ (any_from (instance_of all) v.items ∙ ap (λ n. not (n == 0)) size)
+
+not_not : (b : Bool) → not (not b) ≡ b
+not_not true = refl
+not_not false = refl
+
+-- bodies that are there, or none, as a value calls for
+pub is_filled_by : (all : Fragments) (f : Filling) (v : Option ViewTree) (is : code_instances.Instances) (b : Bool) → is_kept_true v ≡ b
+    → is_filled (filling_of f) v (instances_of all is) ≡ cond b (not (vec_len (out-Instances is).items == 0)) (vec_len (out-Instances is).items == 0)
+is_filled_by all (BodyIf k) v is true e = ap (λ c. cond c (has_any (instances_of all is)) (not (has_any (instances_of all is)))) e ∙ any_of all is
+is_filled_by all (BodyIf k) v is false e =
+    ap (λ c. cond c (has_any (instances_of all is)) (not (has_any (instances_of all is)))) e ∙ (ap not (any_of all is) ∙ not_not (vec_len (out-Instances is).items == 0))
+
+-- how many bodies there are in bodies
+abbrev mutual
+  pub size : Instance → ℕ
+  size (instance_with f scope states outlets) = 1 + size_in outlets
+
+  pub size_all : Instances → ℕ
+  size_all no_instances = 0
+  size_all (instance_then i is) = size i + size_all is
+
+  pub size_in : Outlets → ℕ
+  size_in no_outlets = 0
+  size_in (outlet_then is os) = size_all is + size_in os
+
+-- whatever the fragments are
+abbrev pub no_fragments : Fragments
+no_fragments t n = no_fragment
+
+pub size_out : (i : code_instance.Instance) → size (instance_of no_fragments i) ≡ 1 + size_in (outlets_from (map (instances_of no_fragments) (out-Instance i).outlets.items))
+size_out i = ap size (instance_out no_fragments i)
+
+pub size_within : {X : Type 0} (seen : X → Instance) (xs : List X) (i : ℕ) (x : X) → i < length xs → x ≡ get_or xs i x → size (seen x) ≤ size_all (instances_from (map seen xs))
+size_within seen [] i x l is = absurd (omega (arith, l))
+size_within seen (y ∷ ys) zero x l is = let e = ap (λ z. size (seen z)) is in omega (arith, e)
+size_within seen (y ∷ ys) (suc i) x l is = let h = size_within seen ys i x (omega (arith, l)) is in omega (arith, h)
+
+pub sizes_within : {X : Type 0} (seen : X → Instances) (xs : List X) (i : ℕ) (x : X) → i < length xs → x ≡ get_or xs i x → size_all (seen x) ≤ size_in (outlets_from (map seen xs))
+sizes_within seen [] i x l is = absurd (omega (arith, l))
+sizes_within seen (y ∷ ys) zero x l is = let e = ap (λ z. size_all (seen z)) is in omega (arith, e)
+sizes_within seen (y ∷ ys) (suc i) x l is = let h = sizes_within seen ys i x (omega (arith, l)) is in omega (arith, h)
+
+-- an anchor of the code
+pub part_anchor : (outlet : ℕ) (own : _) (starts : _) → part_of (variants.Anchor outlet own starts) ≡ anchor_part outlet own.items (map program starts.items)
+part_anchor outlet own starts = ap part_of (sym (variants.rolls-Anchor outlet own starts)) ∙ fold-roll-Part Contents Part Parts contents_step part_step parts_step (Part-F.Anchor outlet own starts)
+
+-- ---- what fills outlets
+
+get_dropped : {X : Type 0} (xs : List X) (i : ℕ) → slice_get (drop i xs) 0 ≡ slice_get xs i
+get_dropped xs zero = refl
+get_dropped [] (suc i) = refl
+get_dropped (x ∷ xs) (suc i) = get_dropped xs i
+
+drop_again : {X : Type 0} (xs : List X) (i : ℕ) → drop 1 (drop i xs) ≡ drop (i + 1) xs
+drop_again xs zero = refl
+drop_again [] (suc i) = let e : suc (i + 1) ≡ suc i + 1 = omega arith in ap (λ k. drop k []) e
+drop_again (x ∷ xs) (suc i) = let e : suc (i + 1) ≡ suc i + 1 = omega arith in drop_again xs i ∙ ap (λ k. drop k (x ∷ xs)) e
+
+module _ (objects : List Object) (scopes : List Scope) (now : Now) (states : List SiteState) where
+  abbrev pub filled_by : List Outlet → List Instances → List (Rendered Forest)
+  filled_by os is = rendering_in objects scopes now states os (outlets_from is)
+
+  filled_first : (os : List Outlet) (is : Instances) (rest : List Instances)
+      → filled_by os (is ∷ rest) ≡ outlet_at now states (slice_get os 0) is (rendering_all objects scopes is) ∷ filled_by (drop 1 os) rest
+  filled_first [] is rest = refl
+  filled_first (o ∷ os) is rest = refl
+
+  module _ {X : Type 0} (seen : X → Instances) (os : List Outlet) (xs : List X) (i : ℕ) where
+    -- one outlet more
+    pub filled_turn : (x : X) (done : List (Rendered Forest)) (g : Rendered Forest) → i < length xs → x ≡ get_or xs i x → g ≡ outlet_at now states (slice_get os i) (seen x) (rendering_all objects scopes (seen x))
+        → (done ++ g ∷ []) ++ filled_by (drop (i + 1) os) (map seen (drop (i + 1) xs)) ≡ done ++ filled_by (drop i os) (map seen (drop i xs))
+    filled_turn x done g l is shows =
+        let rest : List Instances = map seen (drop (i + 1) xs) in
+        let here : g ≡ outlet_at now states (slice_get (drop i os) 0) (seen (get_or xs i x)) (rendering_all objects scopes (seen (get_or xs i x)))
+        = shows ∙ (ap (λ y. outlet_at now states (slice_get os i) (seen y) (rendering_all objects scopes (seen y))) is
+        ∙ ap (λ o. outlet_at now states o (seen (get_or xs i x)) (rendering_all objects scopes (seen (get_or xs i x)))) (sym (get_dropped os i))) in
+        append_assoc done (g ∷ []) (filled_by (drop (i + 1) os) rest)
+        ∙ (ap (λ h. done ++ h ∷ filled_by (drop (i + 1) os) rest) here
+        ∙ (ap (λ qs. done ++ outlet_at now states (slice_get (drop i os) 0) (seen (get_or xs i x)) (rendering_all objects scopes (seen (get_or xs i x))) ∷ filled_by qs rest) (sym (drop_again os i))
+        ∙ (ap (λ rs. done ++ rs) (sym (filled_first (drop i os) (seen (get_or xs i x)) rest))
+        ∙ sym (at_drop_more (λ zs. done ++ filled_by (drop i os) (map seen zs)) xs i x l))))
+
+    -- no outlet is left
+    pub filled_last : (done : List (Rendered Forest)) → length xs ≤ i → done ++ filled_by (drop i os) (map seen (drop i xs)) ≡ done
+    filled_last done l = ap (λ zs. done ++ filled_by (drop i os) (map seen zs)) (drop_all i xs l) ∙ append-nil done
+
+-- ---- the rendering of an instance
+
+module _ (objects : List Object) (scopes : List Scope) (all : Fragments) (i : code_instance.Instance) where
+  abbrev pub outlets : Outlets
+  outlets = outlets_from (map (instances_of all) (out-Instance i).outlets.items)
+
+  abbrev pub kept : List SiteState
+  kept = map state_of (out-Instance i).sites.items
+
+  abbrev pub shape : List Site → List SiteState → List (Rendered Forest) → Parts → Rendered Forest
+  shape sites states gs parts = render (instance_now objects scopes sites states) (λ o. slice_index_or gs o (shown_as no_nodes)) parts
+
+  abbrev groups_of : Fragment → List Site → List SiteState → List (Rendered Forest)
+  groups_of f sites states = rendering_in objects scopes (instance_now objects scopes sites states) states f.outlets outlets
+
+  pub instance_is : (f : Fragment) (sites : List Site) (states : List SiteState) (os : List Outlet) (gs : List (Rendered Forest)) (parts : Parts) → all (out-Instance i).template.0 (out-Instance i).fragment ≡ f → sites ≡ f.sites → states ≡ kept → os ≡ f.outlets
+      → gs ≡ rendering_in objects scopes (instance_now objects scopes sites states) states os outlets → parts ≡ f.parts → rendering objects scopes (instance_of all i) ≡ shape sites states gs parts
+  instance_is f sites states os gs parts e s t o g p =
+      ap (rendering objects scopes) (instance_out all i)
+      ∙ (ap (λ x. rendering objects scopes (instance_with x (out-Instance i).scope.0 kept outlets)) e
+      ∙ sym (ap (shape sites states gs) p
+      ∙ (ap (λ hs. shape sites states hs f.parts) (g ∙ ap (λ qs. rendering_in objects scopes (instance_now objects scopes sites states) states qs outlets) o)
+      ∙ (ap (λ ss. shape ss states (groups_of f ss states) f.parts) s
+      ∙ ap (λ ks. shape f.sites ks (groups_of f f.sites ks) f.parts) t))))
+
+  pub sites_stand : InstanceStands objects scopes (instance_of all i) → NamesStand objects scopes kept × OutletsStand objects scopes outlets
+  sites_stand h = subst (InstanceStands objects scopes) (instance_out all i) h
+
+  -- there is no such fragment
+  pub nothing_is : all (out-Instance i).template.0 (out-Instance i).fragment ≡ no_fragment → rendering objects scopes (instance_of all i) ≡ shown_as no_nodes
+  nothing_is e = ap (rendering objects scopes) (instance_out all i) ∙ ap (λ x. rendering objects scopes (instance_with x (out-Instance i).scope.0 kept outlets)) e

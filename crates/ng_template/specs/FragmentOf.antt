@@ -1,0 +1,28 @@
+-- What a fragment, its sites and its outlets stand for.
+use Rattle.std.specs.Prelude.{List, map}
+use Rattle.ng_drawing.specs.Template as template
+use Rattle.ng_template.specs.Seen.{parts_of}
+use Rattle.ng_template.specs.SiteOf.{site_of}
+use Rattle.ng_template.specs.declared.fragment.Fragment.{Fragment}
+use Rattle.ng_template.specs.declared.outlets.Filling.{Filling}
+use Rattle.ng_template.specs.declared.outlets.Filling.TheVariants.{BodyIf}
+use Rattle.ng_template.specs.declared.outlets.Outlet.{Outlet}
+use Rattle.ng_template.specs.declared.site.Site.{Site}
+
+abbrev pub sites_of : List Site → List template.Site
+sites_of sites = map site_of sites
+
+abbrev pub filling_of : Filling → template.Filling
+filling_of (BodyIf body) = template.body_if body
+
+abbrev pub outlet_of : Outlet → template.Outlet
+outlet_of o = record { site = o.site; filling = filling_of o.filling }
+
+abbrev pub outlets_of : List Outlet → List template.Outlet
+outlets_of outlets = map outlet_of outlets
+
+abbrev pub fragment_of : Fragment → template.Fragment
+fragment_of f = record { parts = parts_of f.parts; sites = sites_of f.sites.items; outlets = outlets_of f.outlets.items }
+
+abbrev pub fragments_of : List Fragment → List template.Fragment
+fragments_of fs = map fragment_of fs
