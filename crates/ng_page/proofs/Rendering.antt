@@ -91,7 +91,7 @@ settled_in c t r None settled h = refl
 settled_in c t r (Some l) settled h =
     fresh_instance c.objects c.scopes (instance_at t r l) (
       λ n. sites_show c t r settled l.page.scope l.page.path l.page.serials l.template.own.sites n h.count
-      (subst (λ s. AreWatched t (object_at c.scopes s) l.page.path l.page.serials l.template.own.sites) (sym h.scope) h.watched),
+          (subst (λ s. AreWatched t (object_at c.scopes s) l.page.path l.page.serials l.template.own.sites) (sym h.scope) h.watched),
       tt,
     )
 
