@@ -8,7 +8,6 @@ use crate::log::Log;
 use crate::world::{Stage, Tested};
 use std::cmp::Ordering;
 use std::marker::Model;
-use std::mem;
 
 /// The key that was last dirty, which is not copied while the cursor stands there.
 #[derive(Debug, Drop)]
@@ -35,17 +34,26 @@ impl<K> Model for Progress<K> {
     ghost view = { λ p. record { cursor = p.cursor; remembered = last_key p.last p.cursor; log = p.log; stage = p.stage } };
 }
 
-/// What is remembered where the cursor goes from a key.
-fn left<K: Drop>(last: Last<K>, cursor: Option<K>) -> Last<K>
-    ensures { (c : Option K) → last_key result c ≡ last_key last cursor }
+/// The cursor's key is taken to be remembered by itself. It stands apart, so that a test needs no room for it.
+#[inline(never)]
+fn kept<K: Drop>(cursor: &mut Option<K>) -> Last<K>
+    ensures { (c : Option K) → last_key result c ≡ cursor.old }
+{
+    match cursor.take() {
+        None => Last::Nothing,
+        Some(key) => Last::Key(key),
+    }
+}
+
+/// What is remembered stays so where the cursor goes from its key. No key is moved where another one is remembered, or none.
+fn leave<K: Drop>(last: &mut Last<K>, cursor: &mut Option<K>)
+    ensures { (c : Option K) → last_key last.new c ≡ last_key last.old cursor.old }
 {
     match last {
-        Last::Nothing => Last::Nothing,
-        Last::AtCursor => match cursor {
-            None => Last::Nothing,
-            Some(key) => Last::Key(key),
-        },
-        Last::Key(key) => Last::Key(key),
+        Last::Nothing | Last::Key(_) => {}
+        Last::AtCursor => {
+            *last = kept(cursor);
+        }
     }
 }
 
@@ -130,8 +138,8 @@ impl<K: Drop> Progress<K> {
     pub fn begin_round(&mut self)
         ensures { self.new ≡ round_begun self.old }
     {
-        let last = mem::replace(&mut self.last, Last::Nothing);
-        self.last = left(last, self.cursor.take());
+        leave(&mut self.last, &mut self.cursor);
+        self.cursor = None;
         self.stage = Stage::Draining;
         self.log.count_round();
     }
@@ -157,8 +165,7 @@ impl<K: Drop> Progress<K> {
                 false
             }
             Some(key) => {
-                let last = mem::replace(&mut self.last, Last::Nothing);
-                self.last = left(last, self.cursor.take());
+                leave(&mut self.last, &mut self.cursor);
                 self.cursor = Some(key);
                 self.stage = Stage::AtKey;
                 true
