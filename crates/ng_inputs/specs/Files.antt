@@ -2,7 +2,7 @@
 use Rattle.std.specs.Prelude.{ℕ, ◌≡◌, ◌≤◌, ◌<◌, ◌⊎◌, List, [], ◌∷◌, ◌++◌, length, codes, Option, None, Some, if◌then◌else◌}
 use Rattle.std.specs.Str.{bytes_eq}
 use Rattle.ng_base.specs.Outside.{longest}
-use Rattle.ng_inputs.specs.Words.{Words}
+use Rattle.ng_words.specs.Words.{Words}
 use Rattle.ng_inputs.specs.declared.files.Role.{Role}
 use Rattle.ng_inputs.specs.declared.files.Role.TheVariants.{Template, Application, Script}
 

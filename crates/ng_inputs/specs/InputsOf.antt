@@ -1,11 +1,9 @@
 -- What the values of the code stand for.
-use Rattle.std.specs.Prelude.{option_map}
 use Rattle.ng_app.specs.AppOf.{facts}
 use Rattle.ng_script.specs.Acts.{entries_of}
 use Rattle.ng_template.specs.TemplateOf.{template_of}
 use Rattle.ng_inputs.specs.Files as files
 use Rattle.ng_inputs.specs.Refusals as refusals
-use Rattle.ng_inputs.specs.Words as words
 use Rattle.ng_inputs.specs.declared.files.File.{File}
 use Rattle.ng_inputs.specs.declared.files.Inputs.{Inputs}
 use Rattle.ng_inputs.specs.declared.files.Got.{Got}
@@ -13,18 +11,6 @@ use Rattle.ng_inputs.specs.declared.files.Got.TheVariants as got
 use Rattle.ng_inputs.specs.declared.files.Fetched.{Fetched}
 use Rattle.ng_inputs.specs.declared.files.Fetched.TheVariants as fetched
 use Rattle.ng_inputs.specs.declared.refusal.Accepted.{Accepted}
-use Rattle.ng_inputs.specs.declared.words.Flags.{Flags}
-use Rattle.ng_inputs.specs.declared.words.Partly.{Partly}
-use Rattle.ng_inputs.specs.declared.words.Words.{Words}
-
-abbrev pub flags_seen : Flags → words.Flags
-flags_seen f = record { trace = f.trace; is_static = f.is_static }
-
-abbrev pub words_seen : Words → words.Words
-words_seen w = record { flags = flags_seen w.flags; template = w.template.now; application = w.application.now; script = option_map (λ s. s.now) w.script }
-
-abbrev pub partly_seen : Partly → words.Partly
-partly_seen p = record { flags = flags_seen p.flags; template = option_map (λ n. n.now) p.template; application = option_map (λ n. n.now) p.application; script = option_map (λ n. n.now) p.script }
 
 abbrev pub file_of : File → files.File
 file_of f = files.file f.role f.name.now

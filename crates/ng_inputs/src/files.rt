@@ -1,12 +1,13 @@
 //! The files of a run, and their fetches.
 ghost use Rattle.std.specs.Prelude.{◌≡◌, ◌≢◌, ◌++◌, ◌∷◌, [], IfOk, List, ℕ, map};
 ghost use Rattle.ng_inputs.specs.Files.{Brings, Fetches, files_of, first_role as first_role_of, no_inputs, role_name, with_file};
-ghost use Rattle.ng_inputs.specs.InputsOf.{fetched_of, file_of, got_of, inputs_of, words_seen};
+ghost use Rattle.ng_inputs.specs.InputsOf.{fetched_of, file_of, got_of, inputs_of};
+ghost use Rattle.ng_words.specs.WordsOf.{words_seen};
 
-use crate::words::Words;
 use ng_base::fault::{Memory, ShelfFault};
 use ng_base::outside::Shelf;
 use ng_base::txt::Txt;
+use ng_words::words::Words;
 use std::alloc::{AllocError, Global};
 
 /// What a file of a run is.
@@ -103,19 +104,19 @@ impl Inputs {
 }
 
 /// The files of these words, in the order of fetching.
-pub fn files_in<'a>(alloc: Global, words: &Words<'a>) -> Result<Vec<File<'a>>, AllocError>
+pub fn files_in<'a>(alloc: Global, words: &'a Words) -> Result<Vec<File<'a>>, AllocError>
     ensures { IfOk result (λ v. map file_of v.items ≡ files_of (words_seen words.now)) }
 {
     let mut files = Vec::new(alloc);
     files.push(File {
         role: Role::Template,
-        name: words.template,
+        name: &words.template,
     })?;
     files.push(File {
         role: Role::Application,
-        name: words.application,
+        name: &words.application,
     })?;
-    if let Some(name) = words.script {
+    if let Some(name) = &words.script {
         files.push(File {
             role: Role::Script,
             name,

@@ -3,7 +3,7 @@ use Rattle.std.proofs.Common.{◌≡◌, refl, sym, subst}
 use Rattle.std.specs.Prelude.{ℕ, Bool, List, Option, Some, Result, Ok, Err, IfOk}
 use Rattle.ng_inputs.specs.Files.{File, Inputs, Telling, files_of}
 use Rattle.ng_inputs.specs.Refusals.{Accepted, accepted}
-use Rattle.ng_inputs.specs.Words.{Words}
+use Rattle.ng_words.specs.Words.{Words}
 use Rattle.ng_inputs.specs.declared.refusal.Refusal.{Refusal}
 use Rattle.ng_run.specs.ReplyOf.{IsLine, IsPageTo, IsReplyTo}
 use Rattle.ng_run.specs.Session.{Extent, Runs, SessionOf, SessionWithin, FilesReply, Replies}

@@ -3,7 +3,7 @@ use Rattle.std.proofs.Common.{◌≡◌, ◌≢◌, ℕ, Bool, true, false, List
 use Rattle.std.specs.Prelude.{◌⊎◌, ◌↔◌, Result, Ok, Err, if◌then◌else◌}
 use Rattle.ng_inputs.specs.Files.{File, Inputs, Telling, Fetched, brought, unread, overlong, Fetches, files_of, no_inputs, FetchFailed, LongFile}
 use Rattle.ng_inputs.specs.Refusals.{Accepted, accepted, refusal_status}
-use Rattle.ng_inputs.specs.Words.{Words}
+use Rattle.ng_words.specs.Words.{Words}
 use Rattle.ng_inputs.specs.declared.refusal.Refusal.{Refusal}
 use Rattle.ng_inputs.specs.declared.refusal.Refusal.TheVariants.{Document, Application, Template, Script}
 use Rattle.ng_inputs.proofs.Fetching.{tells_brought, unread_failed, IsUnread, failed_unread, overlong_long, IsOverlong, long_overlong}

@@ -7,7 +7,7 @@ use Rattle.ng_base.specs.Outside.{TookAll, StopsAtFailure}
 use Rattle.ng_page.specs.declared.page.Page.{Page}
 use Rattle.ng_script.specs.Acts.{entries_of}
 use Rattle.ng_inputs.specs.Files.{Telling}
-use Rattle.ng_inputs.specs.Words.{Words}
+use Rattle.ng_words.specs.Words.{Words}
 use Rattle.ng_run.specs.Doing.{steps_bytes, HasDone, HasStopped, HasWanted, DidAll, WritesPage}
 use Rattle.ng_run.specs.ReplyOf.{step_seen, IsPageTo}
 use Rattle.ng_run.specs.Run.{Puts, Writes, RunsSession, is_traced, Causes, HasPage}

@@ -8,7 +8,7 @@ use Rattle.ng_inputs.specs.Refusals.{Accepted, accepted, refusal_status}
 use Rattle.ng_run.specs.ReplyOf.{Leaves}
 use Rattle.ng_run.specs.Session.{Reply, reply_bytes, Extent, whole, Session, all_well}
 use Rattle.ng_run.specs.Steps.{Left, Step, RunsSteps}
-use Rattle.ng_inputs.specs.Words.{Words}
+use Rattle.ng_words.specs.Words.{Words}
 use Rattle.ng_inputs.specs.declared.refusal.Refusal.{Refusal}
 
 -- What became of a reply, over as much of the script as was done. Its pieces were put one by one, whole unless a put failed, and

@@ -2,7 +2,7 @@
 ghost use Rattle.std.specs.Prelude.{◌≡◌, false, IfOk, map};
 ghost use Rattle.ng_inputs.specs.Free.{is_want};
 ghost use Rattle.ng_inputs.specs.InputsOf.{file_of, inputs_of};
-ghost use Rattle.ng_inputs.specs.Words.{words_of};
+ghost use Rattle.ng_words.specs.Words.{words_of};
 ghost use Rattle.ng_run.specs.ReplyOf.{IsLine, IsReplyTo};
 ghost use Rattle.ng_run.specs.Session.{SessionWithin, FilesReply, Replies, line as line_of, refused as refused_of, read_line as read_line_of, long_line as long_line_of, usage as usage_of};
 
@@ -14,7 +14,7 @@ use ng_base::txt::Txt;
 use ng_inputs::files::{Fetched, File, Inputs, Role, fetch_all, files_in, first_role};
 use ng_inputs::names::{push_number, refusal_words};
 use ng_inputs::refusal::{Refusal, accept};
-use ng_inputs::words::{Flags, read_words};
+use ng_words::words::{Flags, read_words};
 use std::alloc::{AllocError, Global};
 
 /// A reply of one line.
@@ -99,7 +99,8 @@ fn answer_to_files<S: Shelf>(
 pub(crate) fn answer<S: Shelf>(alloc: Global, words: &[Txt], shelf: &mut S) -> Result<Reply, Memory>
     ensures { IfOk result (λ r. IsReplyTo (λ e q. Replies e (words_of words.now) (S.bytes shelf.old) (S.failed shelf.old) (S.failed shelf.new) q) r) }
 {
-    match read_words(words) {
+    let asked = read_words(alloc, words)?;
+    match asked {
         None => Ok(usage(alloc)?),
         Some(words) => {
             let files = files_in(alloc, &words)?;

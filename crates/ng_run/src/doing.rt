@@ -8,9 +8,9 @@ ghost use Rattle.ng_run.specs.Steps.{Left};
 
 use crate::commands::do_command;
 use ng_base::outside::{Sink, put_all};
-use ng_inputs::words::Flags;
 use ng_page::page::Page;
 use ng_script::{Command, Commands};
+use ng_words::words::Flags;
 use std::alloc::Global;
 
 /// Why a run ends before its last command: a put failed, or memory was refused.

@@ -17,9 +17,9 @@ use crate::step::{is_well, last};
 use ng_base::fault::Memory;
 use ng_digest::log::Report;
 use ng_digest::rounds::DigestFault;
-use ng_inputs::words::Flags;
 use ng_page::outcome::Outcome;
 use ng_page::page::Page;
+use ng_words::words::Flags;
 use std::alloc::Global;
 
 /// The lines of one handler and its digest.

@@ -9,8 +9,8 @@ use crate::reply::Opened;
 use crate::step::step;
 use ng_base::fault::Memory;
 use ng_inputs::refusal::Accepted;
-use ng_inputs::words::Flags;
 use ng_page::page::Page;
+use ng_words::words::Flags;
 use std::alloc::Global;
 
 /// Opens the page, and tells what its step prints.

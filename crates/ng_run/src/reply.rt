@@ -1,7 +1,7 @@
 //! What a run is to write.
-use ng_inputs::words::Flags;
 use ng_page::page::Page;
 use ng_script::Commands;
+use ng_words::words::Flags;
 
 /// What a step prints, and whether none of its lines tells of a fault, of a digest that failed, or of a target that stands nowhere.
 #[derive(Drop)]

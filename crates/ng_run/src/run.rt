@@ -2,7 +2,7 @@
 ghost use Rattle.std.specs.Prelude.{◌≡◌, ◌≢◌, ◌&&◌, ◌∷◌, [], None, if◌then◌else◌};
 ghost use Rattle.ng_base.specs.Outside.{Rose};
 ghost use Rattle.ng_inputs.specs.Acts.{AreSound};
-ghost use Rattle.ng_inputs.specs.Words.{words_of};
+ghost use Rattle.ng_words.specs.Words.{words_of};
 ghost use Rattle.ng_script.specs.Acts.{entries_of};
 ghost use Rattle.ng_run.specs.Doing.{WritesPage};
 ghost use Rattle.ng_run.specs.ReplyOf.{IsReady, LeavesPage};
@@ -83,7 +83,7 @@ fn write_page<K: Sink>(alloc: Global, sink: &mut K, opened: Opened) -> Ran
 }
 
 /// Does all that the program does. The words are the names of a template, of an application, and of a script where one is given,
-/// and the flags `--trace` and `--static`, each at most once and anywhere. The files are fetched from the shelf in this order; the
+/// and the flags `--trace` and `--static`, each at most once, anywhere before a word `--`. The files are fetched from the shelf in this order; the
 /// page is opened, the commands of the script are done on it, and what is to be read goes to the sink, a put for each step.
 ///
 /// The statuses: 0, all steps went well; 1, a step had a fault; 2, the words are not of the form; 3, the template was refused; 4, the

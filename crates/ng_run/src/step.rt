@@ -14,9 +14,9 @@ use crate::reply::Lines;
 use ng_base::fault::{Fault, Memory};
 use ng_digest::log::Report;
 use ng_digest::rounds::DigestFault;
-use ng_inputs::words::Flags;
 use ng_page::outcome::Outcome;
 use ng_page::page::Page;
+use ng_words::words::Flags;
 use std::alloc::{AllocError, Global};
 
 /// Whether all went well: no fault was handed over, and no digest failed.

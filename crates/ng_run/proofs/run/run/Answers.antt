@@ -1,5 +1,5 @@
 use Rattle.std.proofs.Common.{subst}
-use Rattle.ng_inputs.specs.Words.{words_of}
+use Rattle.ng_words.specs.Words.{words_of}
 use Rattle.ng_run.specs.ReplyOf.{IsReplyTo, IsPageTo}
 use Rattle.ng_run.specs.Run.{Puts}
 use Rattle.ng_run.specs.Session.{whole, Replies}
