@@ -2,7 +2,8 @@
 """Times the steps of scripts on pages of several sizes, and checks what they print.
 
 usage: bench/steps.py [--cmd PROGRAM] [--only TEXT] [--times N]
-A workload is a page and a hundred commands (a thousand where the page is small), each of which changes one value. The time of a step is
+A workload is a page and a hundred commands (a thousand where the page is small, ten where all of it changes), each of which changes one
+value. The time of a step is
 that of the whole run, less that of a run without the script, over their number: processor time, the least of N runs (default 3). The
 tests of a step are those that the trace tells, the mean of all steps. Prints a table, with the time of the opening beside; 'WRONG' where
 the bytes are not those wanted.
@@ -104,6 +105,29 @@ def all_changed(count):
     return *buttons(count), [f'eval limit = {limit}' for limit in limits], button_pages(count, [lambda _, old, new=limit: new for limit in limits])
 
 
+def toggles(count):
+    """The commands that take bodies away and make them anew, in turn."""
+    return [f"eval on = {'false' if k % 2 == 0 else 'true'}" for k in range(count)]
+
+
+def body(nodes):
+    """One block, whose body has so many nodes, a hole in each second one but two, and is taken away and made anew in turn."""
+    holes = nodes // 2 - 1
+    inside = ''.join(f'<b>{{{{n{i}}}}}</b>' for i in range(holes)) + '<br>' * (nodes - 1 - 2 * holes)
+    shown = ''.join(f'<b>{i}</b>' for i in range(holes)) + '<br>' * (nodes - 1 - 2 * holes)
+    pages = [f'<!----><div ng-if="on">{shown}</div>', '<!---->']
+    commands = toggles(1_000 if nodes <= 1_000 else 100)
+    return f'<div ng-if="on">{inside}</div>', {'data': {f'n{i}': i for i in range(holes)} | {'on': True}}, commands, [pages[k % 2] for k in range(len(commands) + 1)]
+
+
+def bodies(count):
+    """So many blocks with a hole in each body, all of which are taken away and made anew in turn."""
+    template = ''.join(f'<b ng-if="on">{{{{n{i}}}}}</b>' for i in range(count))
+    pages = [''.join(f'<!----><b ng-if="on">{i}</b>' for i in range(count)), '<!---->' * count]
+    commands = toggles(10)
+    return template, {'data': {f'n{i}': i for i in range(count)} | {'on': True}}, commands, [pages[k % 2] for k in range(len(commands) + 1)]
+
+
 def three(i):
     return [i, i + 1, i + 2]
 
@@ -128,6 +152,8 @@ WORKLOADS += [(f'{o:,} one-time holes beside {n:,} live ones, without its print'
 WORKLOADS += [(f'{n:,} elements with a class, a bound text and a click each, a click on one', True, clicks, (n,)) for n in SIZES[:2]]
 WORKLOADS += [(f'the same {n:,} elements, without their print', False, clicks, (n,)) for n in SIZES[:2]]
 WORKLOADS += [(f'the same {n:,} elements, the class of all changed', True, all_changed, (n,)) for n in SIZES[:2]]
+WORKLOADS += [(f'ng-if toggled over a body of {n:,} nodes', True, body, (n,)) for n in SIZES[:2]]
+WORKLOADS += [(f'{n:,} ng-ifs over a hole each, all toggled', True, bodies, (n,)) for n in SIZES[:2]]
 WORKLOADS += [(f'one text with {n:,} holes, without its print', False, wide, (n,)) for n in (100, 1_000)]
 
 

@@ -1,5 +1,5 @@
 -- What a fire runs.
-use Rattle.std.proofs.Common.{◌≡◌, ◌∙◌, ◌≤◌, ◌<◌, ℕ, Bool, true, false, List, length, Option, Some, None, refl, ap, subst, if◌then◌else◌, arith}
+use Rattle.std.proofs.Common.{◌≡◌, ◌∙◌, ◌<◌, ℕ, Bool, true, false, List, length, Option, Some, None, refl, ap, subst, if◌then◌else◌}
 use Rattle.std.specs.Prelude.{Ok, Err, option_map}
 use Rattle.std.specs.Map.{lookup}
 use Rattle.std.specs.Option.{ForSome}
@@ -10,6 +10,7 @@ use Rattle.ng_base.specs.Objects.{Object}
 use Rattle.ng_base.specs.Views.{ViewTree}
 use Rattle.ng_base.specs.declared.fault.Fault.{Fault}
 use Rattle.ng_base.specs.declared.path.Key.{Key}
+use Rattle.ng_fire.proofs.Rising.{mark, Rises, rises-refl}
 use Rattle.ng_fire.proofs.Rows.{listener_found}
 use Rattle.ng_fire.proofs.Runs.{asked_rises}
 use Rattle.ng_fire.proofs.RisingPrograms.{bind-rises, stores-rises}
@@ -19,7 +20,8 @@ use Rattle.ng_fire.specs.Runs.{asked_first}
 use Rattle.ng_fire.specs.Whole.{ListenersStand}
 use Rattle.ng_language.specs.Objects.{AreObjects}
 use Rattle.ng_language.specs.Views.{ViewStands}
-use Rattle.ng_link.specs.State.{State, Listening, is_site}
+use Rattle.ng_link.specs.Instances.{is_site}
+use Rattle.ng_link.specs.State.{State, Listening}
 use Rattle.ng_watch.specs.Keys.{is_key}
 use Rattle.ng_watch.specs.Now.{value_now}
 use Rattle.ng_watch.specs.Seen.{Watching, Watcher, WatchStands}
@@ -51,7 +53,7 @@ dirty_found objects a (Some w) x v now e d ws q s =
 -- the program of a key
 
 pub listener_scope : (n : ℕ) (s : State) (k : Key) (l : Listening) → ListenersStand n s.declared → listener_at s k ≡ Some l → l.scope < n
-listener_scope n s k l h e = by (is_site s.linked k) e
+listener_scope n s k l h e = by (is_site s.instances k) e
   where
     by : (b : Bool) → (if b then None else lookup (is_key k) s.declared) ≡ Some l → l.scope < n
     by true e = absurd (cc)
@@ -66,23 +68,23 @@ run_is s k l former v el ef ev =
 pub none_is : (s : State) (k : Key) → listener_at s k ≡ None → fire_run k s ≡ None
 none_is s k e = ap (λ (x : Option Listening). run_with x (kept_at k s.watchers) (value_at s k) s.core) e
 
-pub site_none : (s : State) (k : Key) → is_site s.linked k ≡ true → listener_at s k ≡ None
-site_none s k e = by (is_site s.linked k) e
+pub site_none : (s : State) (k : Key) → is_site s.instances k ≡ true → listener_at s k ≡ None
+site_none s k e = by (is_site s.instances k) e
   where
     by : (b : Bool) → b ≡ true → (if b then None else lookup (is_key k) s.declared) ≡ None
     by true e = refl
     by false e = absurd (cc)
 
--- a fire lowers no number of registration
+-- a fire lowers no number of registration, and changes no path
 
-former_rises : (former : Option ViewTree) (v : ViewTree) (c : act.State) → c.serial ≤ (former_value former v c).0.serial
-former_rises None v c = omega arith
+former_rises : (former : Option ViewTree) (v : ViewTree) (c : act.State) → Rises (mark c) (mark (former_value former v c).0)
+former_rises None v c = rises-refl (mark c)
 former_rises (Some f) v c = stores-rises f c
 
-pub listener_rises : (l : Listening) (former : Option ViewTree) (v : ViewTree) (c : act.State) → c.serial ≤ (listener_run l former v c).0.serial
+pub listener_rises : (l : Listening) (former : Option ViewTree) (v : ViewTree) (c : act.State) → Rises (mark c) (mark (listener_run l former v c).0)
 listener_rises l former v c =
     let r : Run ViewTree = stores v c in
-    bind-rises c.serial r.0 r.1 (λ w d. former_value former w d >>= λ o e. asked_first (a_body l.scope (listener_locals w o) l.body) e) (stores-rises v c)
+    bind-rises (mark c) r.0 r.1 (λ w d. former_value former w d >>= λ o e. asked_first (a_body l.scope (listener_locals w o) l.body) e) (stores-rises v c)
     (λ w d. let q : Run ViewTree = former_value former w d in
-    bind-rises d.serial q.0 q.1 (λ o e. asked_first (a_body l.scope (listener_locals w o) l.body) e) (former_rises former w d)
+    bind-rises (mark d) q.0 q.1 (λ o e. asked_first (a_body l.scope (listener_locals w o) l.body) e) (former_rises former w d)
     (λ o e. asked_rises (a_body l.scope (listener_locals w o) l.body) e))

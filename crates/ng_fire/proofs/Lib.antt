@@ -1,3 +1,4 @@
+pub mod ScopePaths
 pub mod Rising
 pub mod RisingPrograms
 pub mod Snapshots
@@ -10,5 +11,8 @@ pub mod Names
 pub mod ProgramRuns
 pub mod Numbered
 pub mod Placed
-pub mod Sorted
 pub mod Ordered
+pub mod LiveNodes
+pub mod Answered
+pub mod Served
+pub mod Bodies

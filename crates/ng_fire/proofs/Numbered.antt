@@ -10,13 +10,17 @@ use Rattle.ng_act.specs.State as act
 use Rattle.ng_act.specs.State.{Change, Run, adds, removes, leaves, handed}
 use Rattle.ng_base.specs.declared.fault.Fault.{Fault}
 use Rattle.ng_fire.proofs.Runs.{program_rises}
-use Rattle.ng_fire.specs.Changes.{applied, applied_all, without_changes, key_in}
+use Rattle.ng_fire.proofs.Rising.{Mark, mark, Rises, rises-refl, rises-trans}
+use Rattle.ng_fire.proofs.ScopePaths.{paths_of}
+use Rattle.ng_fire.proofs.Wholes.{followed_linked}
+use Rattle.ng_fire.specs.Changes.{applied, applied_all, changed, without_changes, key_in}
 use Rattle.ng_fire.specs.Links.{Linking, begins_linking, started, step_linked, steps_linked}
 use Rattle.ng_fire.specs.Runs.{program_run, followed}
 use Rattle.ng_language.specs.Trees.{Trees}
 use Rattle.ng_link.specs.Calls.{with_core}
 use Rattle.ng_link.specs.Linking.{LinkStep, makes, starts, registers, site_count}
-use Rattle.ng_link.specs.State.{State, is_site}
+use Rattle.ng_link.specs.Instances.{is_site}
+use Rattle.ng_link.specs.State.{State}
 
 -- what is done for the watchers leaves the core
 core_choice : (b : Bool) (s t : State) → t.core ≡ s.core → (let u : State = if b then s else t in u.core ≡ s.core)
@@ -24,25 +28,50 @@ core_choice true s t h = refl
 core_choice false s t h = h
 
 applied_core : (c : Change) (s : State) → (applied c s).core ≡ s.core
-applied_core (adds w) s = core_choice (is_site s.linked (key_in s w.scope w.serial)) s _ refl
-applied_core (removes scope serial) s = core_choice (is_site s.linked (key_in s scope serial)) s _ refl
+applied_core (adds w) s = core_choice (is_site s.instances (key_in s w.scope w.serial)) s _ refl
+applied_core (removes scope serial) s = core_choice (is_site s.instances (key_in s scope serial)) s _ refl
 applied_core (leaves scope) s = refl
 
 all_core : (cs : List Change) (s : State) → (applied_all cs s).core ≡ s.core
 all_core [] s = refl
 all_core (c ∷ cs) s = all_core cs (applied c s) ∙ applied_core c s
 
-handed_serial : {A : Type 0} (s : act.State) (o : Result A Fault) → (handed (s, o)).serial ≡ s.serial
-handed_serial s (Ok v) = refl
-handed_serial s (Err e) = refl
+handed_mark : {A : Type 0} (s : act.State) (o : Result A Fault) → mark (handed (s, o)) ≡ mark s
+handed_mark s (Ok v) = refl
+handed_mark s (Err e) = refl
 
-followed_serial : {A : Type 0} (r : Run A) (s : State) → (followed r s).core.serial ≡ r.0.serial
-followed_serial r s = ap (λ (c : act.State). c.serial) (all_core (handed r).changes (without_changes (with_core (handed r) s))) ∙ handed_serial r.0 r.1
+pub changed_core : (s : State) → mark (changed s).core ≡ mark s.core
+changed_core s = ap mark (all_core s.core.changes (without_changes s))
 
-started_rises : (scope : ℕ) (p : Trees) (s : State) → s.core.serial ≤ (started scope p s).core.serial
-started_rises scope p s =
-    let r = program_run scope p s.core in
-    subst (λ (n : ℕ). s.core.serial ≤ n) (sym (followed_serial r s)) (program_rises scope p s.core)
+-- what follows a run leaves its number of registration and its paths
+pub followed_mark : {A : Type 0} (r : Run A) (s : State) → mark (followed r s).core ≡ mark r.0
+followed_mark r s = changed_core (with_core (handed r) s) ∙ handed_mark r.0 r.1
+
+started_rises : (scope : ℕ) (p : Trees) (g : Linking) → Rises (mark g.state.core) (mark (started scope p g).state.core)
+started_rises scope p g =
+    let r = program_run scope p g.state.core in
+    subst (λ (m : Mark). Rises (mark g.state.core) m) (sym (followed_mark r g.state)) (program_rises scope p g.state.core)
+
+step_rises : (scope : ℕ) (x : LinkStep) (g : Linking) → Rises (mark g.state.core) (mark (step_linked scope x g).state.core)
+step_rises scope makes g = rises-refl (mark g.state.core)
+step_rises scope (starts p) g = started_rises scope p g
+step_rises scope registers g = (omega arith, refl)
+
+pub steps_rises : (scope : ℕ) (xs : List LinkStep) (g : Linking) → Rises (mark g.state.core) (mark (steps_linked scope xs g).state.core)
+steps_rises scope [] g = rises-refl (mark g.state.core)
+steps_rises scope (x ∷ xs) g =
+    let h : Linking = step_linked scope x g in
+    rises-trans (mark g.state.core) (mark h.state.core) (mark (steps_linked scope xs h).state.core) (step_rises scope x g) (steps_rises scope xs h)
+
+-- no step links anything
+step_instances : (scope : ℕ) (x : LinkStep) (g : Linking) → (step_linked scope x g).state.instances ≡ g.state.instances
+step_instances scope makes g = refl
+step_instances scope (starts p) g = followed_linked (program_run scope p g.state.core) g.state
+step_instances scope registers g = refl
+
+pub steps_instances : (scope : ℕ) (xs : List LinkStep) (g : Linking) → (steps_linked scope xs g).state.instances ≡ g.state.instances
+steps_instances scope [] g = refl
+steps_instances scope (x ∷ xs) g = steps_instances scope xs (step_linked scope x g) ∙ step_instances scope x g
 
 -- the numbers so far rise, and are below the next one
 pub record Numbered (g : Linking) : Type 0 where
@@ -67,7 +96,7 @@ rising_push (k ∷ ks) n o h = (all_push (λ y. nat_cmp k y ≡ Less) ks n o.0 (
 
 one_numbered : (scope : ℕ) (x : LinkStep) (g : Linking) → Numbered g → Numbered (step_linked scope x g)
 one_numbered scope makes g h = h
-one_numbered scope (starts p) g h = record { rising = h.rising; below = all_more g.state.core.serial (started scope p g.state).core.serial g.serials (started_rises scope p g.state) h.below }
+one_numbered scope (starts p) g h = record { rising = h.rising; below = all_more g.state.core.serial (started scope p g).state.core.serial g.serials (started_rises scope p g).0 h.below }
 one_numbered scope registers g h =
     let n : ℕ = g.state.core.serial in
     record {
@@ -97,3 +126,10 @@ numbers-more scope (registers ∷ xs) g =
 
 pub linking_counted : (scope : ℕ) (xs : List LinkStep) (s : State) → length (steps_linked scope xs (begins_linking s)).serials ≡ site_count xs
 linking_counted scope xs s = let h = numbers-more scope xs (begins_linking s) in omega (arith, h)
+
+-- what a linking leaves of the table of instances, and of the paths of the scopes
+pub linking_instances : (scope : ℕ) (xs : List LinkStep) (s : State) (g : Linking) → g ≡ steps_linked scope xs (begins_linking s) → g.state.instances ≡ s.instances
+linking_instances scope xs s g e = ap (λ (h : Linking). h.state.instances) e ∙ steps_instances scope xs (begins_linking s)
+
+pub linking_paths : (scope : ℕ) (xs : List LinkStep) (s : State) (g : Linking) → g ≡ steps_linked scope xs (begins_linking s) → paths_of g.state.core.scopes ≡ paths_of s.core.scopes
+linking_paths scope xs s g e = ap (λ (h : Linking). paths_of h.state.core.scopes) e ∙ (steps_rises scope xs (begins_linking s)).1

@@ -1,5 +1,5 @@
 -- The watchers stand in key order, whatever programs and a linking leave for them.
-use Rattle.std.proofs.Common.{Bool, true, false, List, [], ◌∷◌, cond}
+use Rattle.std.proofs.Common.{◌-◌, Bool, true, false, List, [], ◌∷◌, Some, cond}
 use Rattle.std.specs.BTreeMap.{insert_entry}
 use Rattle.std.specs.List.Sorted.{IsStrictlySortedBy}
 use Rattle.std.specs.Map.{keys_of, remove_entry}
@@ -9,16 +9,25 @@ use Rattle.ng_base.specs.declared.fault.Fault.{Fault}
 use Rattle.ng_base.specs.declared.path.Key.{Key}
 use Rattle.ng_behaviour.specs.Scopes.{path_at, object_at, live_at}
 use Rattle.ng_drawing.specs.Nodes.{node_limit}
-use Rattle.ng_drawing.specs.Template.{Site, Template}
-use Rattle.ng_fire.proofs.Sorted.{insert_sorted, filter_sorted, remove_sorted}
+use Rattle.ng_base.specs.Views.{ViewTree}
+use Rattle.ng_act.specs.Actions.{buried}
+use Rattle.ng_act.specs.State as act
+use Rattle.ng_drawing.specs.Looks.{is_kept_true}
+use Rattle.ng_drawing.specs.Template.{Filling, body_if, Fragment, Site}
+use Rattle.ng_template.specs.Kept.{fragments_in}
+use Rattle.ng_link.proofs.Sorted.{insert_sorted, filter_sorted, remove_sorted}
 use Rattle.ng_fire.specs.Changes.{applied, applied_all, changed, without_changes}
-use Rattle.ng_fire.specs.Links.{Linking, begins_linking, step_linked, steps_linked, link_by, link_on}
-use Rattle.ng_fire.specs.Runs.{program_run, followed}
-use Rattle.ng_link.specs.Calls.{with_core, declared_at, undeclared_at, left_at, placed_on}
+use Rattle.ng_fire.specs.Links.{Linking, begins_linking, step_linked, steps_linked, link_by, link_at}
+use Rattle.ng_fire.specs.Blocks.{Firing, begins_firing, gone, all_gone, child_run, linked_then, body_made, filled, has_bodies, outlet_fired, outlets_fired, site_fired}
+use Rattle.ng_fire.specs.Runs.{program_run, followed, destroy_run}
+use Rattle.ng_link.specs.Calls.{Place, in_outlet, with_core, declared_at, undeclared_at, left_at, placed_on, unlinked_at}
+use Rattle.ng_link.specs.Due.{Due, all_due}
+use Rattle.ng_link.specs.Events.{scope_in}
+use Rattle.ng_link.specs.Instances.{Body, is_site, linked_at}
 use Rattle.ng_link.specs.Linking.{LinkStep, makes, starts, registers, steps, steps_within}
 use Rattle.ng_link.specs.Rows.{watching_site, with_sites}
 use Rattle.ng_link.specs.Shape.{key_on, linked}
-use Rattle.ng_link.specs.State.{State, Listening, is_site}
+use Rattle.ng_link.specs.State.{State, Listening, live_nodes}
 use Rattle.ng_watch.specs.Keys.{key_cmp, key_cmp_total, is_key, begins}
 use Rattle.ng_watch.specs.Seen.{Watching, Watcher}
 use Rattle.ng_watch.specs.Table.{Table, with_watch, without_watch}
@@ -37,12 +46,12 @@ either false s t h k = k
 
 declared_ordered : (k : Key) (w : Watching) (l : Listening) (s : State) → IsOrdered s → IsOrdered (declared_at k w l s)
 declared_ordered k w l s h =
-    either (is_site s.linked k) s (record s { watchers = with_watch k w s.watchers; declared = insert_entry key_cmp s.declared k l }) h
+    either (is_site s.instances k) s (record s { watchers = with_watch k w s.watchers; declared = insert_entry key_cmp s.declared k l }) h
     (insert_sorted key_cmp key_cmp_total k (record { watch = w; kept = None }) s.watchers h)
 
 undeclared_ordered : (k : Key) (s : State) → IsOrdered s → IsOrdered (undeclared_at k s)
 undeclared_ordered k s h =
-    either (is_site s.linked k) s (record s { watchers = without_watch k s.watchers; declared = remove_entry (is_key k) s.declared }) h
+    either (is_site s.instances k) s (record s { watchers = without_watch k s.watchers; declared = remove_entry (is_key k) s.declared }) h
     (remove_sorted key_cmp key_cmp_total (is_key k) s.watchers h)
 
 pub left_ordered : (p : List ℕ) (s : State) → IsOrdered s → IsOrdered (left_at p s)
@@ -54,8 +63,8 @@ sites_ordered path object (n ∷ ns) [] t h = h
 sites_ordered path object (n ∷ ns) (x ∷ xs) t h =
     sites_ordered path object ns xs (with_watch (key_on path n) (watching_site object x) t) (insert_sorted key_cmp key_cmp_total (key_on path n) (record { watch = watching_site object x; kept = None }) t h)
 
-pub placed_ordered : (number scope : ℕ) (t : Template) (serials : List ℕ) (s : State) → IsOrdered s → IsOrdered (placed_on number scope t serials s)
-placed_ordered number scope t serials s h = sites_ordered (path_at s.core.scopes scope) (object_at s.core.scopes scope) serials t.own.sites s.watchers h
+pub placed_ordered : (place : Place) (which : ℕ × ℕ) (scope : ℕ) (f : Fragment) (serials : List ℕ) (s : State) → IsOrdered s → IsOrdered (placed_on place which scope f serials s)
+placed_ordered place which scope f serials s h = sites_ordered (path_at s.core.scopes scope) (object_at s.core.scopes scope) serials f.sites s.watchers h
 
 -- ---- what programs leave
 
@@ -85,13 +94,59 @@ pub steps_ordered : (scope : ℕ) (xs : List LinkStep) (g : Linking) → IsOrder
 steps_ordered scope [] g h = h
 steps_ordered scope (x ∷ xs) g h = steps_ordered scope xs (step_linked scope x g) (step_ordered scope x g h)
 
-by_ordered : (number scope : ℕ) (t : Template) (r : Result (Unit {0}) Fault) (s : State) → IsOrdered s → IsOrdered (link_by number scope t r s)
-by_ordered number scope t (Ok u) s h =
-    let g : Linking = steps_linked scope (steps t.own.parts) (begins_linking s) in
-    let p : State = placed_on number scope t g.serials g.state in
-    let k : IsOrdered p = placed_ordered number scope t g.serials g.state (steps_ordered scope (steps t.own.parts) (begins_linking s) h) in
+by_ordered : (place : Place) (which : ℕ × ℕ) (scope : ℕ) (f : Fragment) (r : Result (Unit {0}) Fault) (s : State) → IsOrdered s → IsOrdered (link_by place which scope f r s).state
+by_ordered place which scope f (Ok u) s h =
+    let g : Linking = steps_linked scope (steps f.parts) (begins_linking s) in
+    let p : State = placed_on place which scope f g.serials g.state in
+    let k : IsOrdered p = placed_ordered place which scope f g.serials g.state (steps_ordered scope (steps f.parts) (begins_linking s) h) in
     either (live_at p.core.scopes scope) p (left_at (path_at p.core.scopes scope) p) k (left_ordered (path_at p.core.scopes scope) p k)
-by_ordered number scope t (Err f) s h = steps_ordered scope (steps_within node_limit (steps t.own.parts)) (begins_linking s) h
+by_ordered place which scope f (Err e) s h = steps_ordered scope (steps_within (node_limit - live_nodes s) (steps f.parts)) (begins_linking s) h
 
-pub link_ordered : (number scope : ℕ) (t : Template) (s : State) → IsOrdered s → IsOrdered (link_on number scope t s)
-link_ordered number scope t s h = by_ordered number scope t (linked 0 t.own.parts) s h
+pub link_ordered : (place : Place) (which : ℕ × ℕ) (scope : ℕ) (f : Fragment) (s : State) → IsOrdered s → IsOrdered (link_at place which scope f s).state
+link_ordered place which scope f s h = by_ordered place which scope f (linked (live_nodes s) f.parts) s h
+
+-- ---- the fire of a block
+
+pub unlinked_ordered : (holder p : List ℕ) (s : State) → IsOrdered s → IsOrdered (unlinked_at holder p s)
+unlinked_ordered holder p s h = left_ordered p s h
+
+gone_ordered : (holder : List ℕ) (b : Body) (g : Firing) → IsOrdered g.state → IsOrdered (gone holder b g).state
+gone_ordered holder b g h =
+    let r = destroy_run (scope_in (linked_at b.path g.state.instances)) g.state.core in
+    unlinked_ordered holder b.path (followed r g.state) (followed_ordered r g.state h)
+
+all_gone_ordered : (holder : List ℕ) (bs : List Body) (g : Firing) → IsOrdered g.state → IsOrdered (all_gone holder bs g).state
+all_gone_ordered holder [] g h = h
+all_gone_ordered holder (b ∷ bs) g h = all_gone_ordered holder bs (gone holder b g) (gone_ordered holder b g h)
+
+then_ordered : (scope : ℕ) (r : Result (Unit {0}) Fault) (l : Linking) (g : Firing) → IsOrdered l.state → IsOrdered (linked_then scope r l g).state
+then_ordered scope (Ok u) l g h = h
+then_ordered scope (Err e) l g h = changed_ordered (with_core (buried scope l.state.core) l.state) h
+
+made_ordered : (holder : List ℕ) (o : ℕ) (which : ℕ × ℕ) (f : Fragment) (c : act.State) (r : Result ℕ Fault) (g : Firing) → IsOrdered g.state → IsOrdered (body_made holder o which f c r g).state
+made_ordered holder o which f c (Err e) g h = h
+made_ordered holder o which f c (Ok child) g h =
+    let s : State = with_core c g.state in
+    then_ordered child (linked (live_nodes s) f.parts) (link_at (in_outlet holder o) which child f s) g (link_ordered (in_outlet holder o) which child f s h)
+
+filled_ordered : (holder : List ℕ) (scope o : ℕ) (which : ℕ × ℕ) (g : Firing) → IsOrdered g.state → IsOrdered (filled holder scope o which g).state
+filled_ordered holder scope o which g h =
+    let r = child_run scope g.state.core in
+    made_ordered holder o which (fragments_in g.state.templates which.0 which.1) r.0 r.1 g h
+
+firing_either : (b : Bool) (g k : Firing) → IsOrdered g.state → IsOrdered k.state → IsOrdered (cond b g k).state
+firing_either true g k h j = h
+firing_either false g k h j = j
+
+outlet_ordered : (holder : List ℕ) (scope : ℕ) (v : ViewTree) (d : Due) (x : Filling) (g : Firing) → IsOrdered g.state → IsOrdered (outlet_fired holder scope v d x g).state
+outlet_ordered holder scope v d (body_if body) g h =
+    let full : Firing = filled holder scope d.outlet (d.template, body) g in
+    firing_either (is_kept_true (Some v)) (cond (has_bodies d.bodies) g full) (all_gone holder d.bodies g)
+    (firing_either (has_bodies d.bodies) g full h (filled_ordered holder scope d.outlet (d.template, body) g h)) (all_gone_ordered holder d.bodies g h)
+
+outlets_ordered : (holder : List ℕ) (scope : ℕ) (v : ViewTree) (ds : List Due) (g : Firing) → IsOrdered g.state → IsOrdered (outlets_fired holder scope v ds g).state
+outlets_ordered holder scope v [] g h = h
+outlets_ordered holder scope v (d ∷ ds) g h = outlets_ordered holder scope v ds (outlet_fired holder scope v d d.filling g) (outlet_ordered holder scope v d d.filling g h)
+
+pub site_ordered : (k : Key) (v : ViewTree) (s : State) → IsOrdered s → IsOrdered (site_fired k v s).state
+site_ordered k v s h = outlets_ordered k.path (scope_in (linked_at k.path s.instances)) v (all_due k.serial.0 (linked_at k.path s.instances)) (begins_firing s) h

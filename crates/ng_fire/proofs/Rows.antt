@@ -1,5 +1,5 @@
 -- What holds of each entry of a list holds after entries come and go.
-use Rattle.std.proofs.Common.{◌≡◌, ◌≤◌, ◌<◌, ℕ, Bool, true, false, cond, List, [], ◌∷◌, Option, Some, None, refl, subst}
+use Rattle.std.proofs.Common.{◌≡◌, ◌≤◌, ◌<◌, ℕ, Bool, true, false, cond, List, [], ◌∷◌, Option, Some, None, refl, sym, subst, arith}
 use Rattle.std.specs.Prelude.{option_and_then, Result, Ok, Err, IfOk}
 use Rattle.std.specs.BTreeMap.{insert_entry}
 use Rattle.std.specs.List.{AllByRecursion, filter}
@@ -11,7 +11,8 @@ use Rattle.ng_base.specs.Views.{ViewTree}
 use Rattle.ng_base.specs.declared.path.Key.{Key}
 use Rattle.ng_fire.specs.Whole.{KeptStands, ListenersStand, RowStands, RowsStand}
 use Rattle.ng_link.proofs.Keys.{key_is}
-use Rattle.ng_link.specs.State.{Linked, Listening, Declared, is_site}
+use Rattle.ng_link.specs.Instances.{Instances, is_site}
+use Rattle.ng_link.specs.State.{Listening, Declared}
 use Rattle.ng_watch.specs.Keys.{key_cmp, is_key}
 use Rattle.ng_watch.specs.Seen.{Watching, Watcher}
 use Rattle.ng_watch.specs.Table.{Table, found, keeping, kept_at, with_kept, with_watch}
@@ -52,9 +53,28 @@ row_more : (m n : ℕ) → m ≤ n → (b : Bool) (s : Option ViewTree) → RowS
 row_more m n le true s h = tt
 row_more m n le false s h = kept_more m n le s h
 
-pub rows_more : (m n : ℕ) → m ≤ n → (l : Option Linked) (t : Table) → RowsStand m l t → RowsStand n l t
-rows_more m n le l [] h = tt
-rows_more m n le l (e ∷ es) h = (row_more m n le (is_site l e.0) e.1.kept h.0, rows_more m n le l es h.1)
+pub rows_more : (m n : ℕ) → m ≤ n → (is : Instances) (t : Table) → RowsStand m is t → RowsStand n is t
+rows_more m n le is [] h = tt
+rows_more m n le is (e ∷ es) h = (row_more m n le (is_site is e.0) e.1.kept h.0, rows_more m n le is es h.1)
+
+-- where no site is lost
+row_wider : (n : ℕ) (b c : Bool) (s : Option ViewTree) → (b ≡ true → c ≡ true) → RowStands n b s → RowStands n c s
+row_wider n b true s more h = tt
+row_wider n true false s more h = absurd (let no : false ≡ true = more refl in cc)
+row_wider n false false s more h = h
+
+pub rows_wider : (n : ℕ) (old new : Instances) (t : Table) → ((k : Key) → is_site old k ≡ true → is_site new k ≡ true) → RowsStand n old t → RowsStand n new t
+rows_wider n old new [] more h = tt
+rows_wider n old new (e ∷ es) more h = (row_wider n (is_site old e.0) (is_site new e.0) e.1.kept (more e.0) h.0, rows_wider n old new es more h.1)
+
+-- where the keys that pass a test stay sites
+pub rows_filtered : (n : ℕ) (old new : Instances) (test : Key → Bool) (t : Table) → ((k : Key) → test k ≡ true → is_site new k ≡ is_site old k) → RowsStand n old t → RowsStand n new (filter (λ (e : Key × Watcher). test e.0) t)
+rows_filtered n old new test [] same h = tt
+rows_filtered n old new test (e ∷ es) same h = by_test (test e.0) refl (rows_filtered n old new test es same h.1)
+  where
+    by_test : (b : Bool) → test e.0 ≡ b → RowsStand n new (filter (λ (x : Key × Watcher). test x.0) es) → RowsStand n new (cond b (e ∷ filter (λ (x : Key × Watcher). test x.0) es) (filter (λ (x : Key × Watcher). test x.0) es))
+    by_test true stays more = (subst (λ (b : Bool). RowStands n b e.1.kept) (sym (same e.0 stays)) h.0, more)
+    by_test false stays more = more
 
 -- what has kept nothing stands
 row_unset : (n : ℕ) (b : Bool) → RowStands n b None
@@ -62,31 +82,31 @@ row_unset n true = tt
 row_unset n false = tt
 
 -- a watch more, which has kept nothing
-pub rows_watched : (n : ℕ) (l : Option Linked) (k : Key) (w : Watching) (t : Table) → RowsStand n l t → RowsStand n l (with_watch k w t)
-rows_watched n l k w t h = all_inserted (λ (e : Key × Watcher). RowStands n (is_site l e.0) e.1.kept) key_cmp t k (record { watch = w; kept = None }) h (λ q. row_unset n (is_site l q))
+pub rows_watched : (n : ℕ) (is : Instances) (k : Key) (w : Watching) (t : Table) → RowsStand n is t → RowsStand n is (with_watch k w t)
+rows_watched n is k w t h = all_inserted (λ (e : Key × Watcher). RowStands n (is_site is e.0) e.1.kept) key_cmp t k (record { watch = w; kept = None }) h (λ q. row_unset n (is_site is q))
 
 -- the watcher of a key keeps a snapshot, or none
-pub rows_keeping : (n : ℕ) (l : Option Linked) (k : Key) (s : Option ViewTree) (t : Table) → RowStands n (is_site l k) s → RowsStand n l t → RowsStand n l (with_kept k s t)
-rows_keeping n l k s [] one h = tt
-rows_keeping n l k s (e ∷ es) one h = by_test (is_key k e.0) refl (rows_keeping n l k s es one h.1)
+pub rows_keeping : (n : ℕ) (is : Instances) (k : Key) (s : Option ViewTree) (t : Table) → RowStands n (is_site is k) s → RowsStand n is t → RowsStand n is (with_kept k s t)
+rows_keeping n is k s [] one h = tt
+rows_keeping n is k s (e ∷ es) one h = by_test (is_key k e.0) refl (rows_keeping n is k s es one h.1)
   where
-    by_test : (b : Bool) → is_key k e.0 ≡ b → RowsStand n l (with_kept k s es) → RowsStand n l (cond b ((e.0, keeping s e.1) ∷ es) (e ∷ with_kept k s es))
-    by_test true is more = (subst (λ (q : Key). RowStands n (is_site l q) s) (key_is k e.0 is) one, h.1)
-    by_test false is more = (h.0, more)
+    by_test : (b : Bool) → is_key k e.0 ≡ b → RowsStand n is (with_kept k s es) → RowsStand n is (cond b ((e.0, keeping s e.1) ∷ es) (e ∷ with_kept k s es))
+    by_test true same more = (subst (λ (q : Key). RowStands n (is_site is q) s) (key_is k e.0 same) one, h.1)
+    by_test false same more = (h.0, more)
 
-pub rows_unset : (n : ℕ) (l : Option Linked) (k : Key) (t : Table) → RowsStand n l t → RowsStand n l (with_kept k None t)
-rows_unset n l k t h = rows_keeping n l k None t (row_unset n (is_site l k)) h
+pub rows_unset : (n : ℕ) (is : Instances) (k : Key) (t : Table) → RowsStand n is t → RowsStand n is (with_kept k None t)
+rows_unset n is k t h = rows_keeping n is k None t (row_unset n (is_site is k)) h
 
 -- what the watcher of a key that is no site's has kept stands
-pub rows_found : (n : ℕ) (l : Option Linked) (k : Key) (t : Table) → is_site l k ≡ false → RowsStand n l t → KeptStands n (kept_at k t)
-rows_found n l k [] off h = tt
-rows_found n l k (e ∷ es) off h = by_test (is_key k e.0) refl (rows_found n l k es off h.1)
+pub rows_found : (n : ℕ) (is : Instances) (k : Key) (t : Table) → is_site is k ≡ false → RowsStand n is t → KeptStands n (kept_at k t)
+rows_found n is k [] off h = tt
+rows_found n is k (e ∷ es) off h = by_test (is_key k e.0) refl (rows_found n is k es off h.1)
   where
     by_test : (b : Bool) → is_key k e.0 ≡ b → KeptStands n (kept_at k es) → KeptStands n (option_and_then (λ (w : Watcher). w.kept) (cond b (Some e.1) (found k es)))
-    by_test true is more =
-        let out : is_site l e.0 ≡ false = subst (λ (q : Key). is_site l q ≡ false) (key_is k e.0 is) off in
+    by_test true same more =
+        let out : is_site is e.0 ≡ false = subst (λ (q : Key). is_site is q ≡ false) (key_is k e.0 same) off in
         subst (λ (b : Bool). RowStands n b e.1.kept) out h.0
-    by_test false is more = more
+    by_test false same more = more
 
 -- the listener of a key runs on one of the scopes
 pub listener_found : (n : ℕ) (test : Key → Bool) (d : Declared) → ListenersStand n d → (l : Listening) → lookup test d ≡ Some l → l.scope < n
@@ -96,6 +116,11 @@ listener_found n test (x ∷ xs) h l e = by_test (test x.0) (listener_found n te
     by_test : (b : Bool) → (lookup test xs ≡ Some l → l.scope < n) → cond b (Some x.1) (lookup test xs) ≡ Some l → l.scope < n
     by_test true more e = let same : x.1 ≡ l = cc in subst (λ (y : Listening). y.scope < n) same h.0
     by_test false more e = more e
+
+-- more scopes stand
+pub listeners_more : (m n : ℕ) → m ≤ n → (d : Declared) → ListenersStand m d → ListenersStand n d
+listeners_more m n le [] h = tt
+listeners_more m n le (e ∷ es) h = (omega (arith, le, h.0), listeners_more m n le es h.1)
 
 -- where a call answered Ok, what follows from what holds of its value
 pub if_ok : {T E : Type 0} {P Q : T → Type 0} (r : Result T E) → IfOk r P → ((v : T) → P v → Q v) → IfOk r Q

@@ -1,14 +1,15 @@
 -- What a run as a value leaves, and what it comes to.
-use Rattle.std.proofs.Common.{◌≡◌, ◌≤◌, ◌-◌, ℕ, [], refl, sym, subst}
+use Rattle.std.proofs.Common.{◌≡◌, ◌-◌, ℕ, [], refl, sym, subst}
 use Rattle.std.specs.Prelude.{Result, Ok, Err, is_err}
-use Rattle.ng_act.specs.Actions.{Asked, does, nothing, programmed}
+use Rattle.ng_act.specs.Actions.{Asked, destroys, does, nothing, programmed}
 use Rattle.ng_act.specs.Running.{as_value_run}
 use Rattle.ng_act.specs.State.{State, Run, handed, with_locals}
 use Rattle.ng_base.specs.Views.{ViewTree}
 use Rattle.ng_base.specs.declared.fault.Fault.{Fault}
 use Rattle.ng_language.specs.Trees.{Trees}
+use Rattle.ng_fire.proofs.Rising.{mark, Rises, destroys-rises}
 use Rattle.ng_fire.proofs.RisingPrograms.{does-rises, statements-rises}
-use Rattle.ng_fire.specs.Runs.{asked_first, program_run}
+use Rattle.ng_fire.specs.Runs.{asked_first, program_run, destroyed}
 
 value_state : (s : State) (o : Result ViewTree Fault) → (as_value_run (s, o)).0 ≡ s
 value_state s (Ok v) = refl
@@ -32,8 +33,8 @@ value_handed s (Err e) = refl
 pub value_run_handed : (r : Run ViewTree) → handed (as_value_run r) ≡ handed r
 value_run_handed r = value_handed r.0 r.1
 
--- what is asked first lowers no number of registration
-pub asked_rises : (a : Asked) (s : State) → s.serial ≤ (asked_first a s).0.serial
+-- what is asked first lowers no number of registration, and changes no path
+pub asked_rises : (a : Asked) (s : State) → Rises (mark s) (mark (asked_first a s).0)
 unfolding asked_first
 asked_rises a s = does-rises 64 a s
 
@@ -42,9 +43,18 @@ unfolding asked_first
 asked_is a s n e = subst (λ (k : ℕ). does (64 - k) a s ≡ does 64 a s) (sym e) refl
 
 -- nor does a program that is run on a scope
-pub program_rises : (scope : ℕ) (p : Trees) (c : State) → c.serial ≤ (program_run scope p c).0.serial
+pub program_rises : (scope : ℕ) (p : Trees) (c : State) → Rises (mark c) (mark (program_run scope p c).0)
 unfolding program_run
 program_rises scope p c =
     let d : State = with_locals [] c in
     let r : Run ViewTree = programmed (does 64) scope p d in
-    subst (λ (s : State). c.serial ≤ s.serial) (sym (value_run_state r)) (statements-rises (does 64) (does-rises 64) scope nothing p d)
+    subst (λ (s : State). Rises (mark c) (mark s)) (sym (value_run_state r)) (statements-rises (does 64) (does-rises 64) scope nothing p d)
+
+-- nor does the death of a scope
+pub destroyed_rises : (scope : ℕ) (c : State) → Rises (mark c) (mark (destroyed scope c))
+unfolding destroyed
+destroyed_rises scope c = destroys-rises (does 64) (does-rises 64) scope c
+
+pub destroyed_is : (scope : ℕ) (c : State) (n : ℕ) → n ≡ 0 → destroys (does (64 - n)) scope c ≡ destroyed scope c
+unfolding destroyed
+destroyed_is scope c n e = subst (λ (k : ℕ). destroys (does (64 - k)) scope c ≡ destroys (does 64) scope c) (sym e) refl

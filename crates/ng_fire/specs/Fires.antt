@@ -12,7 +12,9 @@ use Rattle.ng_base.specs.declared.path.Key.{Key}
 use Rattle.ng_fire.specs.Changes.{has_additions}
 use Rattle.ng_fire.specs.Runs.{asked_first, followed}
 use Rattle.ng_link.specs.Calls.{keeping_at}
-use Rattle.ng_link.specs.State.{State, Listening, is_site}
+use Rattle.ng_fire.specs.Blocks.{Firing, site_fired}
+use Rattle.ng_link.specs.Instances.{is_site}
+use Rattle.ng_link.specs.State.{State, Listening}
 use Rattle.ng_view.specs.Evaluation.{Local}
 use Rattle.ng_watch.specs.Keys.{is_key}
 use Rattle.ng_watch.specs.Now.{value_now}
@@ -48,7 +50,7 @@ value_at s k = value_of s (found k s.watchers)
 
 -- the program of the declared watch of a key; the site of a template has none, and only shows what it keeps
 abbrev pub listener_at : State → Key → Option Listening
-listener_at s k = if is_site s.linked k then None else lookup (is_key k) s.declared
+listener_at s k = if is_site s.instances k then None else lookup (is_key k) s.declared
 
 -- the test of a watcher was dirty, and this is the snapshot of now
 abbrev pub IsDirtyWith : ViewTree → State → Key → Type 0
@@ -73,10 +75,16 @@ abbrev pub adds_by : Option (Run ViewTree) → Bool
 adds_by None = false
 adds_by (Some r) = has_additions r.0.changes
 
--- the fire of a dirty watcher: it keeps the snapshot of now, and its program runs
+-- The fire of a dirty watcher: it keeps the snapshot of now. Then its program runs, or the outlets that the site fills get what the value
+-- calls for.
+abbrev pub fire_of_site : Firing → State × Bool
+fire_of_site g = (g.state, g.faulted)
+
 abbrev pub fired : Key → ViewTree → State → State × Bool
-fired k now s = fired_by (fire_run k s) (keeping_at k now s)
+fired k now s =
+    if is_site s.instances k then fire_of_site (site_fired k now (keeping_at k now s))
+    else fired_by (fire_run k s) (keeping_at k now s)
 
 -- whether the fire leaves a watcher more
-abbrev pub fire_adds : Key → State → Bool
-fire_adds k s = adds_by (fire_run k s)
+abbrev pub fire_adds : Key → ViewTree → State → Bool
+fire_adds k now s = if is_site s.instances k then (site_fired k now (keeping_at k now s)).added else adds_by (fire_run k s)

@@ -1,7 +1,10 @@
 pub mod Changes
 pub mod Runs
 pub mod Links
+pub mod Blocks
 pub mod LinkingOf
+pub mod FiringOf
 pub mod Fires
 pub mod Settling
 pub mod Whole
+pub mod Serving

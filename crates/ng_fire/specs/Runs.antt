@@ -1,6 +1,6 @@
 -- Programs that run while no body and no event is open: that of a declared watch, of a task, of a command.
-use Rattle.std.specs.Prelude.{ℕ, Bool, true, false, List, [], ◌∷◌}
-use Rattle.ng_act.specs.Actions.{Asked, a_body, does}
+use Rattle.std.specs.Prelude.{ℕ, Bool, true, false, List, [], ◌∷◌, Ok}
+use Rattle.ng_act.specs.Actions.{Asked, a_body, does, destroys}
 use Rattle.ng_act.specs.State as act
 use Rattle.ng_act.specs.Running.{act_run}
 use Rattle.ng_act.specs.State.{Run, Task, handed, with_locals}
@@ -46,3 +46,10 @@ back c r = (with_locals c.locals r.0, r.1)
 -- a program runs on a scope while no body and no event is open
 unfoldable pub program_run : ℕ → Trees → act.State → Run Value
 program_run scope p c = back c (act_run 64 scope [] p c)
+
+-- a scope is destroyed then
+unfoldable pub destroyed : ℕ → act.State → act.State
+destroyed scope c = destroys (does 64) scope c
+
+abbrev pub destroy_run : ℕ → act.State → Run (Unit {0})
+destroy_run scope c = (destroyed scope c, Ok tt)

@@ -1,15 +1,19 @@
 -- What holds of the works of a page between two calls.
-use Rattle.std.specs.Prelude.{ℕ, ◌<◌, ◌≡◌, Bool, true, false, length, Option, Some, None, Result, Ok, Err}
+use Rattle.std.specs.Prelude.{ℕ, ◌<◌, ◌≡◌, Bool, true, false, List, length, Option, Some, None, IsSome, Result, Ok, Err}
 use Rattle.std.specs.List.{AllByRecursion}
 use Rattle.ng_act.specs.Frames.{IsSound}
 use Rattle.ng_base.specs.Faults.{is_memory}
 use Rattle.ng_base.specs.Views.{ViewTree}
 use Rattle.ng_base.specs.declared.fault.Fault.{Fault}
 use Rattle.ng_base.specs.declared.path.Key.{Key}
+use Rattle.ng_behaviour.specs.Scopes.{Scope, path_at}
+use Rattle.ng_drawing.specs.Template.{Filling, body_if}
 use Rattle.ng_language.specs.Views.{ViewStands}
 use Rattle.ng_link.specs.Standing.{IsStanding}
-use Rattle.ng_link.specs.State.{Linked, Listening, Declared, is_site, state_of}
+use Rattle.ng_link.specs.Instances.{OutletState, Linked, Instances, is_site}
+use Rattle.ng_link.specs.State.{Listening, Declared, state_of}
 use Rattle.ng_link.specs.declared.works.Works.{Works}
+use Rattle.ng_template.specs.Kept.{Named, fragment_in}
 use Rattle.ng_watch.specs.Seen.{Watcher}
 use Rattle.ng_watch.specs.Table.{Table}
 
@@ -27,8 +31,23 @@ abbrev pub RowStands : ℕ → Bool → Option ViewTree → Type 0
 RowStands count true kept = Unit {0}
 RowStands count false kept = KeptStands count kept
 
-abbrev pub RowsStand : ℕ → Option Linked → Table → Type 0
-RowsStand count l t = AllByRecursion (λ (e : Key × Watcher). RowStands count (is_site l e.0) e.1.kept) t
+abbrev pub RowsStand : ℕ → Instances → Table → Type 0
+RowsStand count is t = AllByRecursion (λ (e : Key × Watcher). RowStands count (is_site is e.0) e.1.kept) t
+
+-- an instance is noted under the path of its scope, which is one of the scopes
+pub record HasScope (scopes : List Scope) (p : List ℕ) (l : Linked) : Type 0 where
+  pub scope : l.page.scope < length scopes
+  pub path : path_at scopes l.page.scope ≡ p
+
+abbrev pub HaveScopes : List Scope → Instances → Type 0
+HaveScopes scopes is = AllByRecursion (λ (e : List ℕ × Linked). HasScope scopes e.0 e.1) is
+
+-- the body that may fill an outlet is one of its template's fragments
+abbrev pub HasBody : List Named → ℕ → Filling → Type 0
+HasBody all template (body_if b) = IsSome (fragment_in all template b)
+
+abbrev pub HaveBodies : List Named → Instances → Type 0
+HaveBodies all is = AllByRecursion (λ (e : List ℕ × Linked). AllByRecursion (λ (x : OutletState). HasBody all x.template x.filling) e.1.page.outlets) is
 
 pub record IsWhole (w : Works) : Type 0 where
   pub sound : IsSound w.core
@@ -37,7 +56,9 @@ pub record IsWhole (w : Works) : Type 0 where
   pub root : 0 < length w.core.scopes
   pub standing : IsStanding w
   pub listeners : ListenersStand (length w.core.scopes) (state_of w).declared
-  pub kept : RowsStand (length w.core.store) (state_of w).linked (state_of w).watchers
+  pub kept : RowsStand (length w.core.store) (state_of w).instances (state_of w).watchers
+  pub scopes : HaveScopes w.core.scopes (state_of w).instances
+  pub bodies : HaveBodies (state_of w).templates (state_of w).instances
 
 -- a call that wanted memory leaves nothing to be said
 abbrev pub Unless : {A : Type 0} → Result A Fault → Type 0 → Type 0

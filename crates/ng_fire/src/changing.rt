@@ -118,7 +118,7 @@ fn apply_all(works: &mut Works, changes: Vec<WatchChange>) -> Result<(), Memory>
     ensures state { OnOk result (state_of works.new ≡ applied_all (map change_of changes.items) (state_of works.old)) }
     ensures whole { OnOk result (IsWhole works.new) }
     ensures core { OnOk result (works.new.core ≡ works.old.core) }
-    ensures linked { OnOk result ((state_of works.new).linked ≡ (state_of works.old).linked) }
+    ensures linked { OnOk result ((state_of works.new).instances ≡ (state_of works.old).instances) }
     ensures templates { templates_of works.new ≡ templates_of works.old }
 {
     for change in changes {
@@ -134,7 +134,7 @@ pub fn apply_changes(works: &mut Works, alloc: Global) -> Result<bool, Memory>
     ensures added { IfOk result (λ added. added ≡ has_additions (state_of works.old).core.changes) }
     ensures whole { OnOk result (IsWhole works.new) }
     ensures scopes { OnOk result (works.new.core.scopes ≡ works.old.core.scopes) }
-    ensures linked { OnOk result ((state_of works.new).linked ≡ (state_of works.old).linked) }
+    ensures linked { OnOk result ((state_of works.new).instances ≡ (state_of works.old).instances) }
     ensures templates { templates_of works.new ≡ templates_of works.old }
 {
     let changes = take_changes(works, alloc);

@@ -8,12 +8,14 @@ ghost use Rattle.ng_fire.specs.Fires.{fired, fired_by, fire_adds, adds_by, liste
 ghost use Rattle.ng_fire.specs.Whole.{IsWhole, KeptStands};
 ghost use Rattle.ng_language.specs.Views.{ViewStands};
 ghost use Rattle.ng_link.specs.Calls.{keeping_at};
-ghost use Rattle.ng_link.specs.State.{state_of, templates_of, listening_of, is_site};
+ghost use Rattle.ng_link.specs.State.{state_of, templates_of, listening_of};
+ghost use Rattle.ng_link.specs.Instances.{is_site};
 ghost use Rattle.ng_value.specs.Snaps.{snap_of};
 ghost use Rattle.ng_watch.specs.Now.{value_now};
 ghost use Rattle.ng_watch.specs.Seen.{watching_of};
 ghost use Rattle.ng_watch.specs.Table.{found, kept_at};
 
+use crate::blocks::fire_site;
 use crate::following::{Followed, follow};
 use crate::listening::run_listener;
 use ng_base::fault::{Fault, Memory};
@@ -22,6 +24,7 @@ use ng_base::path::Key;
 use ng_base::view::View;
 use ng_link::works::{Listener, Works};
 use ng_store::store::Store;
+use ng_value::operators::truthy;
 use ng_value::snapshot::Snap;
 use ng_view::view;
 use ng_watch::watch::Watch;
@@ -76,7 +79,7 @@ fn keep_declared(works: &mut Works, key: &Key, snapshot: Snap) -> Result<Option<
     requires whole { IsWhole works.old }
     requires there { IsSome (found key.now (state_of works.old).watchers) }
     requires stands { ViewStands (length works.old.core.store) (snap_of snapshot) }
-    requires declared { is_site (state_of works.old).linked key.now ≡ false }
+    requires declared { is_site (state_of works.old).instances key.now ≡ false }
     ensures state { OnOk result (state_of works.new ≡ keeping_at key.now (snap_of snapshot) (state_of works.old)) }
     ensures former { IfOk result (λ f. option_map snap_of f ≡ kept_at key.now (state_of works.old).watchers) }
     ensures stands { IfOk result (λ f. KeptStands (length works.old.core.store) (option_map snap_of f)) }
@@ -91,13 +94,33 @@ fn keep_declared(works: &mut Works, key: &Key, snapshot: Snap) -> Result<Option<
 fn keep_site(works: &mut Works, key: &Key, snapshot: Snap) -> Result<(), Memory>
     requires whole { IsWhole works.old }
     requires there { IsSome (found key.now (state_of works.old).watchers) }
-    requires site { is_site (state_of works.old).linked key.now ≡ true }
+    requires site { is_site (state_of works.old).instances key.now ≡ true }
     ensures state { OnOk result (state_of works.new ≡ keeping_at key.now (snap_of snapshot) (state_of works.old)) }
     ensures whole { OnOk result (IsWhole works.new) }
     ensures templates { templates_of works.new ≡ templates_of works.old }
 {
     let _ = works.keep(key, snapshot)?;
     Ok(())
+}
+
+/// The fire of a site: it keeps the snapshot and shows it, and each outlet that it fills gets what the value calls for.
+fn fire_drawn(
+    works: &mut Works,
+    alloc: Global,
+    key: &Key,
+    snapshot: Snap,
+) -> Result<Followed, Memory>
+    requires whole { IsWhole works.old }
+    requires there { IsSome (found key.now (state_of works.old).watchers) }
+    requires site { is_site (state_of works.old).instances key.now ≡ true }
+    ensures state { IfOk result (λ f. (state_of works.new, f.faulted) ≡ fired key.now (snap_of snapshot) (state_of works.old)) }
+    ensures added { IfOk result (λ f. f.added ≡ fire_adds key.now (snap_of snapshot) (state_of works.old)) }
+    ensures whole { OnOk result (IsWhole works.new) }
+    ensures templates { templates_of works.new ≡ templates_of works.old }
+{
+    let truth = truthy(snapshot.view());
+    keep_site(works, key, snapshot)?;
+    fire_site(works, alloc, key, truth)
 }
 
 /// The program of a declared watch runs, and what comes after it is done.
@@ -115,7 +138,6 @@ fn run_declared(
     ensures state { IfOk result (λ f. (state_of works.new, f.faulted) ≡ fired_by (Some (listener_run (listening_of listener.now) (option_map snap_of former) (view_of value.now) (state_of works.old).core)) (state_of works.old)) }
     ensures added { IfOk result (λ f. f.added ≡ adds_by (Some (listener_run (listening_of listener.now) (option_map snap_of former) (view_of value.now) (state_of works.old).core))) }
     ensures whole { OnOk result (IsWhole works.new) }
-    ensures linked { OnOk result ((state_of works.new).linked ≡ (state_of works.old).linked) }
     ensures templates { templates_of works.new ≡ templates_of works.old }
 {
     let end = run_listener(&mut works.core, alloc, listener, former, value);
@@ -132,11 +154,10 @@ fn fire_declared(
     requires whole { IsWhole works.old }
     requires there { IsSome (found key.now (state_of works.old).watchers) }
     requires dirty { IsDirtyWith (snap_of snapshot) (state_of works.old) key.now }
-    requires declared { is_site (state_of works.old).linked key.now ≡ false }
+    requires declared { is_site (state_of works.old).instances key.now ≡ false }
     ensures state { IfOk result (λ f. (state_of works.new, f.faulted) ≡ fired key.now (snap_of snapshot) (state_of works.old)) }
-    ensures added { IfOk result (λ f. f.added ≡ fire_adds key.now (state_of works.old)) }
+    ensures added { IfOk result (λ f. f.added ≡ fire_adds key.now (snap_of snapshot) (state_of works.old)) }
     ensures whole { OnOk result (IsWhole works.new) }
-    ensures linked { OnOk result ((state_of works.new).linked ≡ (state_of works.old).linked) }
     ensures templates { templates_of works.new ≡ templates_of works.old }
 {
     let value = dirty_value(alloc, works, key)?;
@@ -166,14 +187,12 @@ pub fn fire(works: &mut Works, alloc: Global, key: &Key, snapshot: Snap) -> Resu
     requires there { IsSome (found key.now (state_of works.old).watchers) }
     requires dirty { IsDirtyWith (snap_of snapshot) (state_of works.old) key.now }
     ensures state { IfOk result (λ f. (state_of works.new, f.faulted) ≡ fired key.now (snap_of snapshot) (state_of works.old)) }
-    ensures added { IfOk result (λ f. f.added ≡ fire_adds key.now (state_of works.old)) }
+    ensures added { IfOk result (λ f. f.added ≡ fire_adds key.now (snap_of snapshot) (state_of works.old)) }
     ensures whole { OnOk result (IsWhole works.new) }
-    ensures linked { OnOk result ((state_of works.new).linked ≡ (state_of works.old).linked) }
     ensures templates { templates_of works.new ≡ templates_of works.old }
 {
     if works.is_site(key) {
-        keep_site(works, key, snapshot)?;
-        return Ok(quiet());
+        return fire_drawn(works, alloc, key, snapshot);
     }
     fire_declared(works, alloc, key, snapshot)
 }

@@ -33,7 +33,7 @@ fn done(works: &mut Works, alloc: Global, faulted: bool) -> Result<Followed, Mem
     ensures added { IfOk result (λ f. f.added ≡ has_additions (state_of works.old).core.changes) }
     ensures whole { OnOk result (IsWhole works.new) }
     ensures scopes { OnOk result (works.new.core.scopes ≡ works.old.core.scopes) }
-    ensures linked { OnOk result ((state_of works.new).linked ≡ (state_of works.old).linked) }
+    ensures linked { OnOk result ((state_of works.new).instances ≡ (state_of works.old).instances) }
     ensures templates { templates_of works.new ≡ templates_of works.old }
 {
     let added = apply_changes(works, alloc)?;
@@ -62,7 +62,7 @@ pub fn follow(
     ensures added { IfOk result (λ f. (r : Run Given) → Acts same end (cores.state_of works.old.core) r → f.added ≡ has_additions r.0.changes) }
     ensures whole { OnOk result (IsWhole works.new) }
     ensures scopes { OnOk result (works.new.core.scopes ≡ works.old.core.scopes) }
-    ensures linked { OnOk result ((state_of works.new).linked ≡ (state_of works.old).linked) }
+    ensures linked { OnOk result ((state_of works.new).instances ≡ (state_of works.old).instances) }
     ensures templates { templates_of works.new ≡ templates_of works.old }
 {
     match end {

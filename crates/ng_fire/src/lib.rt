@@ -4,10 +4,11 @@
 //! The works of `ng_link` are a core, watchers and a document. A program that runs on the core leaves there what the watchers
 //! are to become, and its fault is handed over. This crate runs the programs that a linking and a digest run, and does what they leave:
 //!
-//! - `link`: a template becomes the page's. Its programs run and its sites get their numbers of registration in link order, and then it
-//!   stands;
-//! - `fire`: a dirty watcher keeps its snapshot of now. The site of a template shows it, and that is all; a declared watch runs
-//!   its program with the locals `value` and `old`;
+//! - `link_at`: a fragment is linked on a scope, the page's own at the top or a block's body in an outlet. Its programs run and its sites get
+//!   their numbers of registration in link order, and then it stands;
+//! - `fire`: a dirty watcher keeps its snapshot of now. The site of a template shows it, or, where it is a block's, makes the body that the
+//!   value calls for on a new child scope, or destroys the scope of the one that stands and takes it out; a declared watch runs its program
+//!   with the locals `value` and `old`;
 //! - `run_task`: the first task that waits runs;
 //! - `settle`: once the rounds are over, watchers whose fire faulted keep nothing, one-time bindings whose value is there end,
 //!   and probes are evaluated, in this order; `give_up` does the first alone;
@@ -17,12 +18,14 @@
 //! alone apart, and `IsWhole` of `specs/Whole.antt` holds of the works after it as before.
 //!
 //! In reading order: `changing` does what programs leave for the watchers, `following` hands a fault over before that, `programs` runs a
-//! program on a scope, `linking` links a template, `listening` runs the program of a declared watch, `firing` is the fire, `tasks` the tasks, `settling` what comes last.
+//! program on a scope, `linking` links a fragment, `listening` runs the program of a declared watch, `blocks` has the fire of a block's site, `firing`
+//! every fire, `tasks` the tasks, `settling` what comes last.
 //!
 //! Not here: which watcher is tested when (`ng_digest`, `ng_page`), what a program does (`ng_act`), and how nodes and watchers
 //! hang together (`ng_link`).
 #![tactic(auto)]
 
+mod blocks;
 pub mod changing;
 pub mod firing;
 pub mod following;

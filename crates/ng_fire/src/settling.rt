@@ -119,7 +119,7 @@ pub fn give_up(works: &mut Works, faulted: &BTreeSet<Key>)
     requires { IsWhole works.old }
     ensures state { state_of works.new ≡ given_up faulted.now.keys (state_of works.old) }
     ensures whole { IsWhole works.new }
-    ensures linked { (state_of works.new).linked ≡ (state_of works.old).linked }
+    ensures linked { (state_of works.new).instances ≡ (state_of works.old).instances }
     ensures core { works.new.core ≡ works.old.core }
     ensures templates { templates_of works.new ≡ templates_of works.old }
 {
@@ -132,7 +132,7 @@ pub fn settle(works: &mut Works, alloc: Global, faulted: &BTreeSet<Key>) -> Resu
     requires { IsWhole works.old }
     ensures state { IfOk result (λ ws. (state_of works.new, ws) ≡ settled faulted.now.keys (state_of works.old)) }
     ensures whole { OnOk result (IsWhole works.new) }
-    ensures linked { OnOk result ((state_of works.new).linked ≡ (state_of works.old).linked) }
+    ensures linked { OnOk result ((state_of works.new).instances ≡ (state_of works.old).instances) }
     ensures templates { templates_of works.new ≡ templates_of works.old }
 {
     give_up(works, faulted);

@@ -69,7 +69,7 @@ fn run_alone(
     requires scope { scope.0 < length works.old.core.scopes }
     ensures state { OnOk result (state_of works.new ≡ followed (asked_first (a_body scope.0 [] (program p.now)) (state_of works.old).core) (state_of works.old)) }
     ensures whole { OnOk result (IsWhole works.new) }
-    ensures linked { OnOk result ((state_of works.new).linked ≡ (state_of works.old).linked) }
+    ensures linked { OnOk result ((state_of works.new).instances ≡ (state_of works.old).instances) }
     ensures templates { templates_of works.new ≡ templates_of works.old }
 {
     let end = run_first(&mut works.core, alloc, scope, Locals::new(alloc), p);
@@ -82,7 +82,7 @@ pub fn run_task(works: &mut Works, alloc: Global) -> Result<bool, Memory>
     ensures state { OnOk result (state_of works.new ≡ ran (state_of works.old)) }
     ensures answer { IfOk result (λ waited. waited ≡ any_waits (state_of works.old).core.tasks) }
     ensures whole { OnOk result (IsWhole works.new) }
-    ensures linked { OnOk result ((state_of works.new).linked ≡ (state_of works.old).linked) }
+    ensures linked { OnOk result ((state_of works.new).instances ≡ (state_of works.old).instances) }
     ensures templates { templates_of works.new ≡ templates_of works.old }
 {
     match take_task(works) {

@@ -9,18 +9,20 @@ use Rattle.ng_base.specs.Views.{ViewTree}
 use Rattle.ng_base.specs.declared.fault.Fault.{Fault}
 use Rattle.ng_base.specs.declared.path.Key.{Key}
 use Rattle.ng_drawing.specs.Template.{Template}
-use Rattle.ng_fire.proofs.Ordered.{InKeys, IsOrdered, either, changed_ordered, followed_ordered, link_ordered}
-use Rattle.ng_fire.proofs.Sorted.{none_in_order, filter_sorted}
-use Rattle.ng_fire.specs.Fires.{fired as fires, fire_run, fired_by}
-use Rattle.ng_fire.specs.Links.{link_on}
-use Rattle.ng_fire.specs.Runs.{task_run, without_task, ran_of, program_run}
+use Rattle.ng_fire.proofs.Ordered.{InKeys, IsOrdered, either, changed_ordered, followed_ordered, link_ordered, site_ordered}
+use Rattle.ng_fire.specs.Blocks.{site_fired}
+use Rattle.ng_fire.specs.Fires.{fired as fires, fire_of_site, fire_run, fired_by}
+use Rattle.ng_fire.specs.Links.{link_at}
+use Rattle.ng_fire.specs.Runs.{task_run, without_task, ran_of, program_run, destroyed}
 use Rattle.ng_fire.specs.Settling as settling
-use Rattle.ng_link.specs.Calls.{blank, with_core, keeping_at, unset_at, ended_at}
+use Rattle.ng_link.specs.Calls.{blank, with_core, keeping_at, unset_at, ended_at, is_drawn, at_top}
+use Rattle.ng_link.specs.Instances.{is_site}
+use Rattle.ng_link.proofs.Sorted.{none_in_order, filter_sorted}
 use Rattle.ng_link.specs.Shape.{linked}
-use Rattle.ng_link.specs.State.{State, is_site}
+use Rattle.ng_link.specs.State.{State, live_nodes}
 use Rattle.ng_app.specs.Installing.{installed}
 use Rattle.ng_page.specs.Answered.{ready_place}
-use Rattle.ng_page.specs.Commands.{Asked, applies, queues, probes, digests, destroys_scope, emits, broadcasts, begun, destroyed, emit_run, broadcast_run, asked_run}
+use Rattle.ng_page.specs.Commands.{Asked, applies, queues, probes, digests, destroys_scope, emits, broadcasts, begun, emit_run, broadcast_run, asked_run}
 use Rattle.ng_page.specs.Opening.{prepared, linked_by, opening}
 use Rattle.ng_page.specs.PageLaws.{by_test, page_laws}
 use Rattle.ng_page.specs.PageMachine as page
@@ -45,7 +47,7 @@ kept_ordered : (k : Key) (v : Option ViewTree) (t : Table) → InKeys t → InKe
 kept_ordered k v t h = subst (λ ks. IsStrictlySortedBy key_cmp ks) (sym (kept_keys k v t)) h
 
 unset_ordered : (k : Key) (s : State) → IsOrdered s → IsOrdered (unset_at k s)
-unset_ordered k s h = either (is_site s.linked k) s (record s { watchers = with_kept k None s.watchers }) h (kept_ordered k None s.watchers h)
+unset_ordered k s h = either (is_drawn s k) s (record s { watchers = with_kept k None s.watchers }) h (kept_ordered k None s.watchers h)
 
 ended_ordered : (s : State) → IsOrdered s → IsOrdered (ended_at s)
 ended_ordered s h = filter_sorted key_cmp page_laws.total (λ (e : Key × Watcher). not (is_over s.core.objects e.1)) s.watchers h
@@ -61,7 +63,17 @@ fired_ordered None s h = h
 fired_ordered (Some r) s h = followed_ordered r s h
 
 fires_ordered : (k : Key) (now : ViewTree) (s : State) → IsOrdered s → IsOrdered (fires k now s).0
-fires_ordered k now s h = fired_ordered (fire_run k s) (keeping_at k now s) (kept_ordered k (Some now) s.watchers h)
+fires_ordered k now s h = by (is_site s.instances k)
+  where
+    t : State
+    t = keeping_at k now s
+
+    kept : IsOrdered t
+    kept = kept_ordered k (Some now) s.watchers h
+
+    by : (b : Bool) → IsOrdered (cond b (fire_of_site (site_fired k now t)) (fired_by (fire_run k s) t)).0
+    by true = site_ordered k now t kept
+    by false = fired_ordered (fire_run k s) t kept
 
 unset_all_ordered : (ks : List Key) (s : State) → IsOrdered s → IsOrdered (settling.unset_all ks s)
 unset_all_ordered [] s h = h
@@ -99,15 +111,17 @@ page_ends s h = short_ends page_machine page_laws.total IsGood (λ t g. g) teste
 
 -- ---- the opening
 
-prepared_ordered : (f : Facts) → IsOrdered (prepared f)
-prepared_ordered f = followed_ordered (program_run 0 f.run (installed f)) (blank (installed f)) (none_in_order key_cmp)
+prepared_ordered : (u : Template) (f : Facts) → IsOrdered (prepared u f)
+prepared_ordered u f = followed_ordered (program_run 0 f.run (installed f)) (blank ((None, u) ∷ []) (installed f)) (none_in_order key_cmp)
 
 by_ordered : (r : Result (Unit {0}) Fault) (s : State) → IsOrdered s → IsOrdered (linked_by r s)
 by_ordered (Ok u) s h = h
 by_ordered (Err f) s h = h
 
 pub opening_ordered : (f : Facts) (t : Template) → IsOrdered (opening f t)
-opening_ordered f t = by_ordered (linked 0 t.own.parts) (link_on 0 0 t (prepared f)) (link_ordered 0 0 t (prepared f) (prepared_ordered f))
+opening_ordered f t =
+    let s : State = prepared t f in
+    by_ordered (linked (live_nodes s) t.own.parts) (link_at at_top (0, 0) 0 t.own s).state (link_ordered at_top (0, 0) 0 t.own s (prepared_ordered t f))
 
 -- ---- the commands
 

@@ -1,13 +1,13 @@
 -- Sites that are numbered have numbers below the one after them.
-use Rattle.std.proofs.Common.{◌≡◌, ◌≤◌, ◌<◌, ◌+◌, ℕ, Bool, true, false, List, [], ◌∷◌, Some, refl, length, arith}
+use Rattle.std.proofs.Common.{◌≡◌, ◌≤◌, ◌<◌, ◌+◌, ℕ, Bool, true, false, List, [], ◌∷◌, Some, refl, arith}
 use Rattle.std.specs.Prelude.{◌==◌, ◌&&◌, not, nat_le, nat_lt}
 use Rattle.std.specs.List.{list_all}
 use Rattle.std.proofs.lemmas.Bool.Decides.{nat_tests}
 use Rattle.ng_drawing.specs.Template as template
-use Rattle.ng_drawing.specs.Template.{word, hole, while_true, while_false, PartClass, PartValue, always, unless_empty, flag, classes, PartAttributes, Part, Contents, Parts, text_part, comment_part, element_part, anchor_part, children, bound, no_parts, part_then, Fragment}
-use Rattle.ng_template.specs.Numbering.{after_pieces, after_own, after_contents, after_part, after_parts, is_within, is_apart, is_piece_drawn, is_hiding_drawn, is_class_drawn, is_value_drawn, are_drawn, is_whole}
+use Rattle.ng_drawing.specs.Template.{word, hole, while_true, while_false, PartClass, PartValue, always, unless_empty, flag, classes, PartAttributes, Part, Contents, Parts, text_part, comment_part, element_part, anchor_part, children, bound, no_parts, part_then}
+use Rattle.ng_template.specs.Numbering.{after_pieces, after_own, after_contents, after_part, after_parts, is_within, is_apart, is_piece_drawn, is_hiding_drawn, is_class_drawn, is_value_drawn, are_drawn}
 use Rattle.ng_link.specs.Holes.{PiecesBelow, SitesBelow, HidingsBelow, ClassBelow, ValueBelow, ValuesBelow, PartBelow, ContentsBelow, HolesBelow}
-use Rattle.ng_link.proofs.Numbers.{both_true, first_then, whole_count, next_own, next_hole, contents_children, contents_bound, counted_own, counted_contents, counted}
+use Rattle.ng_link.proofs.Numbers.{both_true, first_then, next_own, next_hole, contents_children, contents_bound, counted_own, counted_contents, counted}
 
 -- a number that is within bounds
 pub within : (n c k : ℕ) → is_within n c k ≡ true → (n ≤ k) × (k < c)
@@ -80,7 +80,7 @@ mutual
       let last = counted_contents n h.0 0 c ats p h.2 in
       let more = contents_below n h.0 c b ats p h.2 le in
       (own_below n h.0 b own h.1 (omega (arith, last, le)), more.0, more.1)
-  part_below n c b (anchor_part o own starts) e le = own_below n c b own e le
+  part_below n c b (anchor_part outlet own starts) e le = own_below n c b own e le
 
   contents_below : (n d c b : ℕ) (ats : PartAttributes) (p : Contents) → after_contents n d ats p ≡ Some c → c ≤ b → ValuesBelow b ats × ContentsBelow b p
   contents_below n d c b ats (children ps) e le =
@@ -92,7 +92,7 @@ mutual
       let lt = (within n d x h.0).1 in
       (drawn_values b (is_apart x n d) (λ k g. let to = (within n d k (apart x n d k g).0).1 in omega (arith, h.2, to, le)) ats h.1, omega (arith, h.2, lt, le))
 
-  parts_below : (n c b : ℕ) (ps : Parts) → after_parts n ps ≡ Some c → c ≤ b → HolesBelow b ps
+  pub parts_below : (n c b : ℕ) (ps : Parts) → after_parts n ps ≡ Some c → c ≤ b → HolesBelow b ps
   parts_below n c b no_parts e le = tt
   parts_below n c b (part_then p ps) e le =
       let h = first_then (after_part n p) (λ k. after_parts k ps) c e in
@@ -100,5 +100,5 @@ mutual
       (part_below n h.0 b p h.1 (omega (arith, rest, le)), parts_below h.0 c b ps h.2 le)
 
 -- the sites of a fragment have numbers below their count
-pub whole_below : (bodies : ℕ) (f : Fragment) → is_whole bodies f ≡ true → HolesBelow (length f.sites) f.parts
-whole_below bodies f e = parts_below 0 (length f.sites) (length f.sites) f.parts (whole_count bodies f e) (omega arith)
+pub all_below : (count : ℕ) (ps : Parts) → after_parts 0 ps ≡ Some count → HolesBelow count ps
+all_below count ps e = parts_below 0 count count ps e (omega arith)

@@ -62,5 +62,5 @@ by_room : (b : Bool) → ◌≡◌ {A = Result (Unit {0}) Fault} (if b then Err 
 by_room true e = absurd (cc)
 by_room false e = refl
 
-pub room_for_nodes : (ps : Parts) → linked 0 ps ≡ Ok tt → 0 + nodes ps ≤ node_limit
-room_for_nodes ps e = let h : nat_lt node_limit (0 + nodes ps) ≡ false = by_room (nat_lt node_limit (0 + nodes ps)) e in grind (arith, nat_tests)
+pub room_for_nodes : (live : ℕ) (ps : Parts) → linked live ps ≡ Ok tt → live + nodes ps ≤ node_limit
+room_for_nodes live ps e = let h : nat_lt node_limit (live + nodes ps) ≡ false = by_room (nat_lt node_limit (live + nodes ps)) e in grind (arith, nat_tests)

@@ -1,28 +1,36 @@
--- A page that stands displays the drawing of its template with what its instance has kept.
-use Rattle.std.proofs.Common.{◌≡◌, ◌<◌, ℕ, Bool, List, [], ◌∷◌, ◌++◌, Option, Some, None, refl, ap, ◌∙◌, sym, subst, length, slice_get, slice_index_or}
+-- What is linked displays the drawing of its instance, with what that has kept.
+use Rattle.std.proofs.Common.{◌≡◌, ◌<◌, ℕ, zero, suc, Bool, List, [], ◌∷◌, ◌++◌, Option, Some, refl, ap, ◌∙◌, sym, subst, map, length, slice_get, slice_index_or, arith}
 use Rattle.std.specs.Prelude.{◌||◌, option_map}
 use Rattle.std.proofs.lemmas.Option.{slice_get-map, slice_get-get_or}
 use Rattle.std.specs.List.{flat_map, list_any}
 use Rattle.ng_base.specs.Views.{ViewTree}
+use Rattle.ng_base.specs.declared.path.Key.{Key}
 use Rattle.ng_markup.specs.Attributes.{if_any, word_if, with_value, class_value}
 use Rattle.ng_markup.specs.Forest.{Attributes, Forest, element, text, comment, no_nodes, node}
 use Rattle.ng_dom.specs.Document.{Shows}
-use Rattle.ng_dom.specs.Drawing.{Stands, shows}
-use Rattle.ng_dom.specs.Nodes.{plain}
+use Rattle.ng_dom.specs.Drawing as standing
+use Rattle.ng_dom.specs.Drawing.{Stands, none_stand, shows, show_bodies}
+use Rattle.ng_dom.specs.Laws.{CountsNodes}
+use Rattle.ng_dom.specs.Nodes as named
+use Rattle.ng_dom.specs.Nodes.{all_names, plain, plain_groups}
+use Rattle.ng_dom.proofs.Counting.{names_are_counted}
 use Rattle.ng_drawing.specs.Drawing.{Look, Groups, draw_pieces, is_hiding, class_words, draw_class, draw_value, draw_attributes, followed_by, draw_part, draw_contents, draw}
 use Rattle.ng_drawing.specs.Instance as instances
-use Rattle.ng_drawing.specs.Instance.{state_kept, kept_by, no_outlets}
+use Rattle.ng_drawing.specs.Instance.{Instance, instances_from, outlets_from, state_kept, kept_by}
 use Rattle.ng_drawing.specs.Looks.{kept_text, kept_words, is_kept_true, is_kept_false}
+use Rattle.ng_drawing.specs.Nodes.{forest_count}
 use Rattle.ng_drawing.specs.Template.{Piece, word, hole, Hiding, while_true, while_false, PartClass, PartValue, always, unless_empty, flag, classes, PartAttributes, Part, Contents, Parts, text_part, comment_part, element_part, anchor_part, children, bound, no_parts, part_then}
 use Rattle.ng_watch.specs.Table.{Table}
-use Rattle.ng_link.specs.Events.{stands_in}
 use Rattle.ng_link.specs.Holes.{PiecesBelow, SitesBelow, HidingsBelow, ClassBelow, ValueBelow, ValuesBelow, PartBelow, ContentsBelow, HolesBelow}
+use Rattle.ng_link.specs.Instances.{Page, Linked, Instances, keys_of, bodies_from, groups_from, stands_join, stands_at}
 use Rattle.ng_link.specs.Laws.{PageDisplaysInstance, PageHasItsNames}
-use Rattle.ng_link.specs.Shape.{key_on, unfilled}
-use Rattle.ng_link.specs.Standing.{HasShape, IsPage, Standing, Displays}
-use Rattle.ng_link.specs.State.{Page, Linked, Resting, keys_of, state_of, kept_in, looks_in, site_state, site_states, shown_in}
+use Rattle.ng_link.specs.Shape.{key_on}
+use Rattle.ng_link.specs.Standing.{IsPlaced, ArePlaced, Standing}
+use Rattle.ng_link.specs.State.{State, Resting, look_of, kept_in, looks_in, site_state, site_states, nothing_linked, instance_join, instance_at, shown, live_nodes, places_of, state_of}
 use Rattle.ng_link.specs.declared.works.Works.{Works}
-use Rattle.ng_link.proofs.Shapes.{shape_draws}
+use Rattle.ng_link.proofs.Below.{all_below}
+use Rattle.ng_link.proofs.ReadAlike.{Alike, read_alike}
+use Rattle.ng_link.proofs.Shapes.{same_followed, shape_draws}
 
 -- what is kept alike of each site, and stands alike in each outlet, is drawn alike
 module _ (look same : Look) (groups others : Groups) (count : ℕ) (agree : (n : ℕ) → n < count → look n ≡ same n) (alike : (o : ℕ) → groups o ≡ others o) where
@@ -90,39 +98,62 @@ state_at t r p j lt =
     let state = λ (n : ℕ). site_state t r p.scope (key_on p.path n) in
     slice_get-map state p.serials j ∙ ap (option_map state) (slice_get-get_or p.serials j 0 lt)
 
--- what is linked
-shaped : (w : Works) (ts : Stands) (l : Linked) → Standing w ts → HasShape l.template l.page ts → Displays w (shown_in (state_of w).watchers (state_of w).resting (Some l))
-shaped w ts l g h =
-    let t = (state_of w).watchers in
-    let r = (state_of w).resting in
-    let p : Page = l.page in
-    record {
-      forest = shows (looks_in (state_of w)) ts;
-      shown = g.shown;
-      plain =
-          ap (λ (s : Stands). plain (shows (looks_in (state_of w)) s)) h.shape
-          ∙ (shape_draws (keys_of p) (kept_in t r) unfilled p.node l.template.own.parts
-          ∙ same_parts (λ n. kept_in t r (keys_of p n)) (kept_by (site_states t r p)) (λ o. no_nodes) (λ o. slice_index_or (instances.shown_in no_outlets) o no_nodes) (length p.serials)
-          (λ n lt. sym (ap state_kept (state_at t r p n lt))) (λ o. refl) l.template.own.parts h.holes);
-    }
+-- what stands is drawn as the instance that is read off, with what its sites have kept
+module _ (t : Table) (r : Resting) (places : Key → Option ℕ) (next : ℕ) where
+  abbrev seen : Key → standing.Look
+  seen k = look_of (kept_in t r k)
 
-displays_linked : (w : Works) (ts : Stands) (o : Option Linked) → Standing w ts → IsPage o w.dom ts → Displays w (shown_in (state_of w).watchers (state_of w).resting o)
-displays_linked w ts None g h = record {
-  forest = shows (looks_in (state_of w)) ts;
-  shown = g.shown;
-  plain = ap (λ (s : Stands). plain (shows (looks_in (state_of w)) s)) h.stands;
-}
-displays_linked w ts (Some l) g h = shaped w ts l g h
+  abbrev IsDrawn : Stands → Instance → Type 0
+  IsDrawn ts i = plain (shows seen ts) ≡ instances.shown i
+
+  bodies_drawn : (tss : List Stands) (is : List Instance) → Alike IsDrawn tss is → plain_groups (show_bodies seen (bodies_from tss)) ≡ instances.shown_all (instances_from is)
+  bodies_drawn [] [] h = refl
+  bodies_drawn [] (i ∷ is) h = absurd h
+  bodies_drawn (ts ∷ tss) [] h = absurd h
+  bodies_drawn (ts ∷ tss) (i ∷ is) h =
+      ap (λ (f : Forest). named.followed_by f (plain_groups (show_bodies seen (bodies_from tss)))) h.0
+      ∙ (ap (λ (f : Forest). named.followed_by (instances.shown i) f) (bodies_drawn tss is h.1) ∙ same_followed (instances.shown i) (instances.shown_all (instances_from is)))
+
+  groups_drawn : (tsss : List (List Stands)) (iss : List (List Instance)) → Alike (Alike IsDrawn) tsss iss → (o : ℕ)
+      → plain_groups (show_bodies seen (groups_from tsss o)) ≡ slice_index_or (instances.shown_in (outlets_from (map instances_from iss))) o no_nodes
+  groups_drawn [] [] h o = refl
+  groups_drawn [] (is ∷ iss) h o = absurd h
+  groups_drawn (tss ∷ tsss) [] h o = absurd h
+  groups_drawn (tss ∷ tsss) (is ∷ iss) h zero = bodies_drawn tss is h.0
+  groups_drawn (tss ∷ tsss) (is ∷ iss) h (suc o) = groups_drawn tsss iss h.1 o
+
+  joins_drawn : (p : List ℕ) (l : Linked) (tsss : List (List Stands)) (iss : List (List Instance)) → IsPlaced places next p l → Alike (Alike IsDrawn) tsss iss → IsDrawn (stands_join l tsss) (instance_join t r l iss)
+  joins_drawn p l tsss iss placed h =
+      let parts = l.fragment.parts in
+      shape_draws (keys_of l.page) (kept_in t r) (groups_from tsss) l.page.node parts
+      ∙ same_parts (λ n. kept_in t r (keys_of l.page n)) (kept_by (site_states t r l.page)) (λ o. plain_groups (show_bodies seen (groups_from tsss o)))
+      (λ o. slice_index_or (instances.shown_in (outlets_from (map instances_from iss))) o no_nodes) (length l.fragment.sites)
+      (λ n lt. sym (ap state_kept (state_at t r l.page n (let count = placed.count in omega (arith, lt, count))))) (groups_drawn tsss iss h) parts
+      (all_below (length l.fragment.sites) parts placed.numbered)
+
+  read_drawn : (is : Instances) → ArePlaced places next is → (p : List ℕ) → plain (shows seen (stands_at is p)) ≡ instances.shown (instance_at t r is p)
+  read_drawn is placed p = read_alike IsDrawn none_stand nothing_linked stands_join (instance_join t r) (IsPlaced places next) refl joins_drawn is placed p
+
+drawn_plain : (w : Works) (ts : Stands) → Standing w ts → plain (shows (looks_in (state_of w)) ts) ≡ shown (state_of w)
+drawn_plain w ts g =
+    let s : State = state_of w in
+    ap (λ (x : Stands). plain (shows (looks_in s) x)) g.built.stands ∙ read_drawn s.watchers s.resting (places_of w) s.next_node s.instances g.built.each []
 
 pub page_displays : PageDisplaysInstance
-page_displays w ts g = displays_linked w ts (state_of w).linked g g.page
+page_displays w ts g = record { forest = shows (looks_in (state_of w)) ts; shown = g.built.holds.shows; plain = drawn_plain w ts g }
 
 -- the document has the names that what is linked says
-named_linked : (w : Works) (ts : Stands) (o : Option Linked) → IsPage o w.dom ts → ts ≡ stands_in o
-named_linked w ts None h = h.stands
-named_linked w ts (Some l) h = h.shape
-
 pub page_names : PageHasItsNames
-page_names w ts g =
-    let F : Stands → Type 0 = λ s. Shows w.dom (shows (looks_in (state_of w)) s) in
-    subst F (named_linked w ts (state_of w).linked g.page) g.shown
+page_names w ts g = subst (λ (x : Stands). Shows w.dom (shows (looks_in (state_of w)) x)) g.built.stands g.built.holds.shows
+
+-- there are as many nodes as are shown
+counts_nodes : CountsNodes forest_count
+counts_nodes = record {
+  none = refl;
+  text = λ t f. refl;
+  comment = λ t f. refl;
+  element = λ e ats g f. refl;
+}
+
+pub names_live : (w : Works) (ts : Stands) → Standing w ts → length (all_names (shows (looks_in (state_of w)) ts)) ≡ live_nodes (state_of w)
+names_live w ts g = sym (names_are_counted forest_count (shows (looks_in (state_of w)) ts) counts_nodes) ∙ ap forest_count (drawn_plain w ts g)

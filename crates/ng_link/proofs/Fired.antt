@@ -1,34 +1,33 @@
 -- The node of a site shows what is kept now.
-use Rattle.std.proofs.Common.{◌≡◌, ℕ, List, ◌∷◌, Option, Some, None, refl, ap, ◌∙◌, sym, subst, length}
+use Rattle.std.proofs.Common.{◌≡◌, ℕ, List, ◌∷◌, Option, Some, None, refl, ap, ◌∙◌, sym, subst, inl, length}
 use Rattle.std.specs.Map.{lookup}
-use Rattle.std.proofs.Math.Path.{fun_ext}
 use Rattle.std.specs.Prelude.{option_map}
 use Rattle.ng_base.specs.Views.{ViewTree}
 use Rattle.ng_base.specs.declared.path.Key.{Key}
-use Rattle.ng_dom.specs.Document.{rooms, next_name, Shows, Becomes, Stays}
+use Rattle.ng_dom.specs.Document.{rooms, next_name, Shows, Becomes, Stays, Fewer}
 use Rattle.ng_dom.specs.Drawing.{Look, Stand, Stands, text_stands, comment_stands, element_stands, block_stands, none_stand, stand_then, Source, of_text, of_comment, of_element, show, shows, HeldAll, DifferAt, joined, drawn_attributes}
 use Rattle.ng_dom.specs.Editing.{changed_in, with_text, with_attributes}
 use Rattle.ng_dom.specs.Nodes.{NamedForest, name_of, names_of}
 use Rattle.ng_dom.specs.Rooms.{ReadsIn}
 use Rattle.ng_dom.specs.declared.dom.Dom.{Dom}
 use Rattle.ng_dom.proofs.Focus.{text_written, attributes_written}
-use Rattle.ng_template.specs.Kept.{Named}
 use Rattle.ng_watch.specs.Keys.{is_key}
 use Rattle.ng_watch.specs.Seen.{Watcher}
 use Rattle.ng_watch.specs.Table.{Table, watchers_of, with_kept}
 use Rattle.ng_watch.specs.declared.watched.Watched.{Watched}
 use Rattle.ng_link.specs.Firing.{Redraw, nothing_new, a_text, on_element, drawn_anew, Tells, WritesAt}
 use Rattle.ng_link.specs.Sources.{sources, source_of}
-use Rattle.ng_link.specs.Standing.{IsPage, Standing}
-use Rattle.ng_link.specs.State.{Resting, kept_or, linked_of, state_of, templates_of, look_of, looks_of, looks_in, spot_in, places_of}
-use Rattle.ng_link.specs.declared.works.Linked.{Linked}
+use Rattle.ng_link.specs.Standing.{Standing}
+use Rattle.ng_link.specs.State.{Resting, kept_or, state_of, look_of, looks_of, looks_in, spot_in, places_of}
 use Rattle.ng_link.specs.declared.works.Works.{Works}
 use Rattle.ng_link.proofs.Agree.{IsDrawn, Agree, all_agree}
+use Rattle.ng_link.proofs.BuiltSame.{built_told}
+use Rattle.ng_link.proofs.Held.{built_held}
 use Rattle.ng_link.proofs.Tables.{kept-other}
 use Rattle.ng_link.proofs.Watched.{stand_kept}
 
 -- what is shown differs at the key at most
-kept_differs : (k : Key) (s : Option ViewTree) (t : Table) (r : Resting) → DifferAt k (looks_of t r) (looks_of (with_kept k s t) r)
+pub kept_differs : (k : Key) (s : Option ViewTree) (t : Table) (r : Resting) → DifferAt k (looks_of t r) (looks_of (with_kept k s t) r)
 kept_differs k s t r q ne = ap (λ (o : Option Watcher). look_of (kept_or o (lookup (is_key q) r))) (sym (kept-other k q s t ne))
 
 -- what stands has the same names whatever it shows
@@ -79,28 +78,6 @@ module _ (site : Key → Option ℕ) (d e : Dom) (k : Key) (v w : Key → Look) 
   written_shows None is told = unwritten (nowhere is) told
   written_shows (Some n) is told = tells_shows n (sources d n) refl is told
 
--- where nothing is linked, nothing is written
-page_still : (all : List Named) (o : Option Linked) (k : Key) (v : Key → Look) (d e : Dom) (ts : Stands) → WritesAt v (spot_in o k) d e → IsPage (linked_of all o) d ts → IsPage (linked_of all o) e ts
-page_still all None k v d e ts told h = let F : Dom → Type 0 = λ x. IsPage None x ts in subst F (sym told) h
-page_still all (Some p) k v d e ts told h = h
-
--- what stood stands, where the watcher of a key keeps something and the node of its site shows it
-pub kept_stands : (w : Works) (ws : List (Key × Watched)) (d : Dom) (k : Key) (s : Option ViewTree) → watchers_of ws ≡ with_kept k s (state_of w).watchers
-    → WritesAt (looks_of (with_kept k s (state_of w).watchers) (state_of w).resting) (spot_in w.page k) w.dom d
-    → (ts : Stands) → Standing w ts → Standing (record w { watchers = ws; dom = d }) ts
-kept_stands w ws d k s is writes ts g =
-    let t = with_kept k s (state_of w).watchers in
-    let r = (state_of w).resting in
-    let shown = written_shows (places_of w) w.dom d k (looks_in (state_of w)) (looks_of t r) ts g.held (kept_differs k s (state_of w).watchers r) g.shown (spot_in w.page k) refl writes in
-    let G : (ℕ → Option Source) → Type 0 = λ f. HeldAll (places_of w) f ts in
-    record {
-      shown = rw is shown.0;
-      held = subst G (fun_ext (λ q. sym (shown.1 q))) g.held;
-      below = g.below;
-      watched = rw is (stand_kept (length (state_of w).core.objects) k s (state_of w).watchers g.watched);
-      page = page_still (templates_of w) w.page k (looks_of t r) w.dom d ts writes g.page;
-    }
-
 -- what is written names no node
 tells_next : (r : Redraw) (n : ℕ) (d e : Dom) → Tells r n d e → next_name e ≡ next_name d
 tells_next nothing_new n d e told = ap (λ (x : Dom). next_name x) told
@@ -110,3 +87,36 @@ tells_next (on_element ats) n d e told = told.1.next
 pub written_next : (v : Key → Look) (o : Option ℕ) (d e : Dom) → WritesAt v o d e → next_name e ≡ next_name d
 written_next v None d e told = ap (λ (x : Dom). next_name x) told
 written_next v (Some n) d e told = tells_next (drawn_anew v (sources d n)) n d e told
+
+-- what is written takes no node away
+stays_fewer : (d e : Dom) → Stays d e → Fewer d e
+stays_fewer d e stays = record { homes = λ q. inl (stays.homes q); next = stays.next }
+
+unchanged_fewer : (d e : Dom) → e ≡ d → Fewer d e
+unchanged_fewer d e same = subst (λ (x : Dom). Fewer d x) (sym same) (record { homes = λ q. inl refl; next = refl })
+
+tells_fewer : (r : Redraw) (n : ℕ) (d e : Dom) → Tells r n d e → Fewer d e
+tells_fewer nothing_new n d e told = unchanged_fewer d e told
+tells_fewer (a_text t) n d e told = stays_fewer d e told.1
+tells_fewer (on_element ats) n d e told = stays_fewer d e told.1
+
+written_fewer : (v : Key → Look) (o : Option ℕ) (d e : Dom) → WritesAt v o d e → Fewer d e
+written_fewer v None d e told = unchanged_fewer d e told
+written_fewer v (Some n) d e told = tells_fewer (drawn_anew v (sources d n)) n d e told
+
+-- what stood stands, where the watcher of a key keeps something and the node of its site shows it
+pub kept_stands : (w : Works) (ws : List (Key × Watched)) (d : Dom) (k : Key) (s : Option ViewTree) → watchers_of ws ≡ with_kept k s (state_of w).watchers
+    → WritesAt (looks_of (with_kept k s (state_of w).watchers) (state_of w).resting) (spot_in w.instances.entries k) w.dom d
+    → (ts : Stands) → Standing w ts → Standing (record w { watchers = ws; dom = d }) ts
+kept_stands w ws d k s is writes ts g =
+    let t = with_kept k s (state_of w).watchers in
+    let r = (state_of w).resting in
+    let v = looks_in (state_of w) in
+    let o = spot_in w.instances.entries k in
+    let is_held = built_held (places_of w) v w.dom (state_of w).instances ts g.built in
+    let shown = written_shows (places_of w) w.dom d k v (looks_of t r) ts is_held (kept_differs k s (state_of w).watchers r) g.built.holds.shows o refl writes in
+    record {
+      built = rw is (built_told (places_of w) v (looks_of t r) w.dom d (state_of w).instances ts (written_fewer (looks_of t r) o w.dom d writes) shown.0 shown.1 g.built);
+      below = g.below;
+      watched = rw is (stand_kept (length (state_of w).core.objects) k s (state_of w).watchers g.watched);
+    }

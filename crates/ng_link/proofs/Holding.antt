@@ -69,7 +69,7 @@ module _ (site : Key → Option ℕ) (home : ℕ → Option Source) (keys : ℕ 
   bound_at : (m b k : ℕ) (o : Option ℕ) → o ≡ Some (own_node m (bound b) k) → (k == b) ≡ false → o ≡ Some m
   bound_at m b k o e ne = e ∙ ap Some (rw ne refl)
 
-  -- whatever fills the outlets
+  -- what stands of a fragment, where what fills its outlets is held
   module _ (groups : ℕ → Bodies) (inside : (o : ℕ) → HomedBodies home (groups o) → HeldBodies site home (groups o)) where
     mutual
       part_held : (n m c : ℕ) (p : Part) → after_part n p ≡ Some c → AllAt site keys n (part_holes m p) → Homed home (part_shape keys m groups p) → Held site home (part_shape keys m groups p)
@@ -81,7 +81,7 @@ module _ (site : Key → Option ℕ) (home : ℕ → Option Source) (keys : ℕ 
           let both = at_append site keys n two.0 (map (own_node m p) own) (content_holes (m + 1) p) many h in
           let more = contents_held n two.0 m c ats p two.2 (own_at (own_node m p) n two.0 own two.1 both.0) both.1 g.1 in
           (g.0, more.0, more.1)
-      part_held n m c (anchor_part o own starts) e h g = (g.0, inside o g.1)
+      part_held n m c (anchor_part outlet own starts) e h g = (g.0, inside outlet g.1)
 
       contents_held : (n d m c : ℕ) (ats : PartAttributes) (p : Contents) → after_contents n d ats p ≡ Some c → ((k : ℕ) → n ≤ k → k < d → site (keys k) ≡ Some (own_node m p k))
           → AllAt site keys d (content_holes (m + 1) p) → HomedAll home (content_shape keys (m + 1) groups p) → AttributesAt site m (linked_values keys ats) × HeldAll site home (content_shape keys (m + 1) groups p)

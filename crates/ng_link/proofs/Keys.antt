@@ -36,7 +36,3 @@ other_key k q ne = by_test (is_key k q) refl
     by_test : (b : Bool) → is_key k q ≡ b → b ≡ false
     by_test true e = absurd (ne (sym (key_is k q e)))
     by_test false e = refl
-
--- keys of other numbers are other keys
-pub other_number : (path : List ℕ) (m n : ℕ) → (m ≡ n → ⊥) → is_key (key_on path m) (key_on path n) ≡ false
-other_number path m n ne = other_key (key_on path m) (key_on path n) (λ e. ne (let t : n ≡ m = ap (λ (k : Key). k.serial.0) e in sym t))

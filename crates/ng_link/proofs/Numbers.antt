@@ -1,13 +1,13 @@
 -- Sites that are numbered in document order: how many there are.
 use Rattle.std.proofs.Common.{◌≡◌, ◌+◌, ℕ, Bool, true, false, cond, List, [], ◌∷◌, Option, Some, None, refl, ap, map, length, arith, length-append}
-use Rattle.std.specs.List.{list_all}
 use Rattle.std.specs.Prelude.{◌==◌, ◌&&◌, option_and_then}
+use Rattle.std.specs.List.{list_all}
 use Rattle.std.proofs.lemmas.Bool.{eqb-true}
 use Rattle.std.proofs.lemmas.List.{length-map}
 use Rattle.ng_drawing.specs.Nodes.{part_nodes}
 use Rattle.ng_drawing.specs.Template as template
-use Rattle.ng_drawing.specs.Template.{word, hole, PartAttributes, Part, Contents, Parts, text_part, comment_part, element_part, anchor_part, children, bound, no_parts, part_then, Fragment, Template}
-use Rattle.ng_template.specs.Numbering.{after_pieces, after_own, after_contents, after_part, after_parts, after_outlets, is_within, is_apart, are_drawn, is_number, is_outlet, is_whole, is_regular}
+use Rattle.ng_drawing.specs.Template.{word, hole, PartAttributes, Part, Contents, Parts, text_part, comment_part, element_part, anchor_part, children, bound, no_parts, part_then, Fragment}
+use Rattle.ng_template.specs.Numbering.{after_pieces, after_own, after_contents, after_part, after_parts, is_within, is_apart, after_outlets, are_drawn, is_number, is_outlet, is_whole}
 use Rattle.ng_link.specs.Shape.{own_node, piece_holes, part_holes, content_holes, holes}
 
 pub both_true : (b c : Bool) → (b && c) ≡ true → (b ≡ true) × (c ≡ true)
@@ -24,19 +24,22 @@ pub first_then : {A B : Type 0} (o : Option A) (f : A → Option B) (y : B) → 
 first_then None f y e = absurd (cc)
 first_then (Some x) f y e = (x, refl, e)
 
--- the number after all sites of a fragment whose sites are numbered
-pub whole_count : (bodies : ℕ) (f : Fragment) → is_whole bodies f ≡ true → after_parts 0 f.parts ≡ Some (length f.sites)
-whole_count bodies f e =
-    let outlets = is_number (length f.outlets) (after_outlets 0 f.parts) && list_all (is_outlet (length f.sites) bodies) f.outlets in
-    by_count (after_parts 0 f.parts) (both_true (is_number (length f.sites) (after_parts 0 f.parts)) outlets e).0
-  where
-    by_count : (o : Option ℕ) → is_number (length f.sites) o ≡ true → o ≡ Some (length f.sites)
-    by_count None g = absurd (cc)
-    by_count (Some k) g = ap Some (eqb-true k (length f.sites) g)
+number_is : (n : ℕ) (o : Option ℕ) → is_number n o ≡ true → o ≡ Some n
+number_is n None e = absurd (cc)
+number_is n (Some k) e = ap Some (eqb-true k n e)
 
--- those of a regular template's own fragment are
-pub own_whole : (t : Template) → is_regular t ≡ true → is_whole (length t.bodies) t.own ≡ true
-own_whole t e = (both_true (is_whole (length t.bodies) t.own) (list_all (is_whole (length t.bodies)) t.bodies) e).0
+-- the numbers after all sites, and after all outlets, of a fragment as the compiler makes it
+module _ (bodies : ℕ) (f : Fragment) (e : is_whole bodies f ≡ true) where
+  both_counts : (is_number (length f.sites) (after_parts 0 f.parts) ≡ true) × ((is_number (length f.outlets) (after_outlets 0 f.parts) && list_all (is_outlet (length f.sites) bodies) f.outlets) ≡ true)
+  both_counts = both_true (is_number (length f.sites) (after_parts 0 f.parts)) (is_number (length f.outlets) (after_outlets 0 f.parts) && list_all (is_outlet (length f.sites) bodies) f.outlets) e
+
+  pub whole_count : after_parts 0 f.parts ≡ Some (length f.sites)
+  whole_count = number_is (length f.sites) (after_parts 0 f.parts) both_counts.0
+
+  pub whole_outlets : after_outlets 0 f.parts ≡ Some (length f.outlets)
+  whole_outlets =
+      number_is (length f.outlets) (after_outlets 0 f.parts)
+      (both_true (is_number (length f.outlets) (after_outlets 0 f.parts)) (list_all (is_outlet (length f.sites) bodies) f.outlets) both_counts.1).0
 
 -- one number more
 pub next_own : (n k : ℕ) (ks : List ℕ) (c : ℕ) → after_own n (k ∷ ks) ≡ Some c → (k ≡ n) × (after_own (n + 1) ks ≡ Some c)
@@ -74,7 +77,7 @@ mutual
       let first = counted_own n h.0 own h.1 in
       let rest = counted_contents n h.0 (m + 1) c ats p h.2 in
       omega (arith, first, rest, length-map own (own_node m p), length-append (map (own_node m p) own) (content_holes (m + 1) p))
-  counted_part n m c (anchor_part o own starts) e = let all = counted_own n c own e in omega (arith, all, length-map own (λ (_ : ℕ). m))
+  counted_part n m c (anchor_part outlet own starts) e = let first = counted_own n c own e in omega (arith, first, length-map own (λ (k : ℕ). m))
 
   pub counted_contents : (n d m c : ℕ) (ats : PartAttributes) (p : Contents) → after_contents n d ats p ≡ Some c → c ≡ d + length (content_holes m p)
   counted_contents n d m c ats (children ps) e = counted d m c ps (contents_children n d c ats ps e).1

@@ -15,7 +15,8 @@ use Rattle.ng_watch.specs.Keys.{key_cmp, is_key}
 use Rattle.ng_watch.specs.Seen.{Watcher}
 use Rattle.ng_watch.specs.Table.{Table, found}
 use Rattle.ng_link.specs.Calls.{rested}
-use Rattle.ng_link.specs.State.{Linked, Resting, is_site, kept_or, kept_in, resting_of}
+use Rattle.ng_link.specs.Instances.{Instances, is_site}
+use Rattle.ng_link.specs.State.{Resting, kept_or, kept_in, resting_of}
 use Rattle.ng_link.proofs.Keys.{key_is, same_key}
 use Rattle.ng_link.proofs.Tables.{put-other, put-same, first_alone, passed, found_filtered, ordered_filtered}
 
@@ -25,10 +26,10 @@ rest_or None r = r
 rest_or (Some w) r = Some w.kept
 
 -- one watcher that was taken out
-abbrev put : Option Linked → Key × Watcher → Resting → Resting
+abbrev put : Instances → Key × Watcher → Resting → Resting
 put l e r = if is_site l e.0 then insert_entry key_cmp r e.0 e.1.kept else r
 
-put_apart : (l : Option Linked) (e : Key × Watcher) (r : Resting) (q : Key) → is_key q e.0 ≡ false → lookup (is_key q) (put l e r) ≡ lookup (is_key q) r
+put_apart : (l : Instances) (e : Key × Watcher) (r : Resting) (q : Key) → is_key q e.0 ≡ false → lookup (is_key q) (put l e r) ≡ lookup (is_key q) r
 put_apart l e r q off = by_site (is_site l e.0)
   where
     apart : q ≡ e.0 → ⊥
@@ -38,7 +39,7 @@ put_apart l e r q off = by_site (is_site l e.0)
     by_site true = put-other e.0 q e.1.kept r apart
     by_site false = refl
 
-rested_found : (l : Option Linked) (es : Table) (r : Resting) (q : Key) → IsStrictlySortedBy key_cmp (keys_of es) → is_site l q ≡ true → lookup (is_key q) (rested l es r) ≡ rest_or (found q es) (lookup (is_key q) r)
+rested_found : (l : Instances) (es : Table) (r : Resting) (q : Key) → IsStrictlySortedBy key_cmp (keys_of es) → is_site l q ≡ true → lookup (is_key q) (rested l es r) ≡ rest_or (found q es) (lookup (is_key q) r)
 rested_found l [] r q o site = refl
 rested_found l (e ∷ es) r q o site = by_key (is_key q e.0) refl (rested_found l es (put l e r) q (sorted_tail key_cmp e.0 (keys_of es) o) site)
   where
@@ -61,7 +62,7 @@ shown_still p q (Some w) r = by_pass (p (q, w))
     by_pass true = refl
     by_pass false = refl
 
-pub kept_rested : (l : Option Linked) (p : Key × Watcher → Bool) (t : Table) (r : Resting) (q : Key) → IsStrictlySortedBy key_cmp (keys_of t) → is_site l q ≡ true
+pub kept_rested : (l : Instances) (p : Key × Watcher → Bool) (t : Table) (r : Resting) (q : Key) → IsStrictlySortedBy key_cmp (keys_of t) → is_site l q ≡ true
     → kept_in (filter (λ e. not (p e)) t) (rested l (filter p t) r) q ≡ kept_in t r q
 kept_rested l p t r q o site =
     let out : found q (filter p t) ≡ passed p q (found q t) = found_filtered p q t o in

@@ -16,15 +16,15 @@ use Rattle.ng_link.proofs.Serials.{first_apart}
 use Rattle.ng_link.proofs.Tables.{put-other, put-same}
 
 -- the watcher of a site that was linked just now
-abbrev pub fresh : ℕ → Site → Watcher
-fresh object x = record { watch = watching_site object x; kept = None }
+abbrev pub fresh_watcher : ℕ → Site → Watcher
+fresh_watcher object x = record { watch = watching_site object x; kept = None }
 
 -- at a key that is none of theirs, the same is found
 pub sites_other : (path : List ℕ) (o : ℕ) (ss : List ℕ) (xs : List Site) (t : Table) (k : Key) → ((j s : ℕ) → slice_get ss j ≡ Some s → k ≡ key_on path s → ⊥) → found k (with_sites path o ss xs t) ≡ found k t
 sites_other path o [] xs t k apart = refl
 sites_other path o (s ∷ ss) [] t k apart = refl
 sites_other path o (s ∷ ss) (x ∷ xs) t k apart =
-    sites_other path o ss xs (insert_entry key_cmp t (key_on path s) (fresh o x)) k (λ j n at e. apart (suc j) n at e) ∙ put-other (key_on path s) k (fresh o x) t (λ e. apart 0 s refl e)
+    sites_other path o ss xs (insert_entry key_cmp t (key_on path s) (fresh_watcher o x)) k (λ j n at e. apart (suc j) n at e) ∙ put-other (key_on path s) k (fresh_watcher o x) t (λ e. apart 0 s refl e)
 
 -- numbers of one path's keys
 number_of : (path : List ℕ) (m n : ℕ) → key_on path m ≡ key_on path n → m ≡ n
@@ -32,18 +32,18 @@ number_of path m n e = ap (λ (k : Key). k.serial.0) e
 
 -- each is found under its number
 pub sites_found : (path : List ℕ) (o : ℕ) (ss : List ℕ) (xs : List Site) (t : Table) (j s : ℕ) (x : Site) → IsStrictlySortedBy nat_cmp ss → slice_get ss j ≡ Some s → slice_get xs j ≡ Some x
-    → found (key_on path s) (with_sites path o ss xs t) ≡ Some (fresh o x)
+    → found (key_on path s) (with_sites path o ss xs t) ≡ Some (fresh_watcher o x)
 sites_found path o [] xs t j s x r at is = absurd (cc)
 sites_found path o (n ∷ ns) [] t j s x r at is = absurd (cc)
 sites_found path o (n ∷ ns) (y ∷ ys) t zero s x r at is =
     let one : s ≡ n = cc in
     let two : y ≡ x = cc in
-    let put : Table = insert_entry key_cmp t (key_on path n) (fresh o y) in
+    let put : Table = insert_entry key_cmp t (key_on path n) (fresh_watcher o y) in
     ap (λ (m : ℕ). found (key_on path m) (with_sites path o ns ys put)) one
     ∙ (sites_other path o ns ys put (key_on path n) (λ j m there e. first_apart n ns j m r there (number_of path n m e))
-    ∙ (put-same (key_on path n) (fresh o y) t ∙ ap (λ (z : Site). Some (fresh o z)) two))
+    ∙ (put-same (key_on path n) (fresh_watcher o y) t ∙ ap (λ (z : Site). Some (fresh_watcher o z)) two))
 sites_found path o (n ∷ ns) (y ∷ ys) t (suc j) s x r at is =
-    sites_found path o ns ys (insert_entry key_cmp t (key_on path n) (fresh o y)) j s x (sorted_tail nat_cmp n ns r) at is
+    sites_found path o ns ys (insert_entry key_cmp t (key_on path n) (fresh_watcher o y)) j s x (sorted_tail nat_cmp n ns r) at is
 
 -- places at rising keys
 pub all_at : (site : Key → Option ℕ) (keys : ℕ → Key) (n : ℕ) (xs : List ℕ) → ((j x : ℕ) → slice_get xs j ≡ Some x → site (keys (n + j)) ≡ Some x) → AllAt site keys n xs

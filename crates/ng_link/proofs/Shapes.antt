@@ -21,7 +21,7 @@ use Rattle.ng_link.specs.State.{look_of}
 use Rattle.ng_link.specs.Building.{Homed, HomedAll}
 
 -- one forest after another
-same_followed : (f g : Forest) → followed_by f g ≡ drawing.followed_by f g
+pub same_followed : (f g : Forest) → followed_by f g ≡ drawing.followed_by f g
 same_followed no_nodes g = refl
 same_followed (node x f) g = ap (λ (h : Forest). node x h) (same_followed f g)
 

@@ -2,10 +2,11 @@
 use Rattle.std.specs.Prelude.{ℕ, ◌≡◌, ◌+◌, ◌<◌, List, [], ◌∷◌, Option, None, Some, option_map}
 use Rattle.ng_base.specs.declared.name.NodeId.{NodeId}
 use Rattle.ng_base.specs.declared.path.Key.{Key}
-use Rattle.ng_dom.specs.Document.{rooms, homes, top, next_name, live_count, IsLive, Remains}
+use Rattle.ng_dom.specs.Document.{rooms, homes, top, next_name, live_count, IsLive, Shows, Becomes, Remains, Stays, Keeps}
 use Rattle.ng_link.specs.Sources.{sources}
 pub use Rattle.ng_dom.specs.Drawing.{Homed, HomedAll}
 use Rattle.ng_dom.specs.Drawing.{Look, Stands, shows}
+use Rattle.ng_dom.specs.Editing.{changed_in, with_groups, group_inserted}
 use Rattle.ng_dom.specs.Nodes.{NamedNode, named_then, nothing_named}
 use Rattle.ng_dom.specs.Rooms.{Rooms, ReadsIn}
 use Rattle.ng_dom.specs.Nodes.{NamedForest}
@@ -47,3 +48,14 @@ pub record Builds (p : Option ℕ) (ts : Stands) (count : ℕ) (d e : Dom) : Typ
 abbrev pub AllAt : (Key → Option ℕ) → (ℕ → Key) → ℕ → List ℕ → Type 0
 AllAt site keys n [] = Unit {0}
 AllAt site keys n (x ∷ xs) = (site (keys n) ≡ Some x) × AllAt site keys (n + 1) xs
+
+-- what was built apart becomes the whole document, or a group of an anchor before the i-th
+abbrev pub IsPut : Option ℕ → ℕ → Stands → Dom → Dom → Type 0
+IsPut None i ts d e = Shows e (shows unset ts) × Keeps d e
+IsPut (Some a) i ts d e = Becomes d e (changed_in a (with_groups (group_inserted i (shows unset ts)))) × Stays d e
+
+-- what stands is built apart for a parent or the top, in so many nodes of the next names, and put there
+pub record IsStood (p : Option ℕ) (i : ℕ) (ts : Stands) (count : ℕ) (d e : Dom) : Type 0 where
+  pub apart : Dom
+  pub builds : Builds p ts count d apart
+  pub put : IsPut p i ts apart e

@@ -1,25 +1,29 @@
 -- What the calls on the works of a page come to.
-use Rattle.std.specs.Prelude.{ℕ, ◌+◌, List, [], ◌∷◌, Option, Some, None, not, if◌then◌else◌}
+use Rattle.std.specs.Prelude.{ℕ, ◌+◌, ◌&&◌, Bool, false, List, [], ◌∷◌, Option, None, not, Some, slice_index_or, if◌then◌else◌}
 use Rattle.std.specs.BTreeMap.{insert_entry}
-use Rattle.std.specs.List.{filter}
+use Rattle.std.specs.List.{filter, list_any}
+use Rattle.std.specs.Ordering.{nat_cmp}
 use Rattle.std.specs.Map.{remove_entry}
 use Rattle.ng_act.specs.State as act
 use Rattle.ng_base.specs.Views.{ViewTree}
 use Rattle.ng_base.specs.declared.path.Key.{Key}
 use Rattle.ng_behaviour.specs.Scopes.{path_at, object_at}
 use Rattle.ng_drawing.specs.Nodes.{nodes}
-use Rattle.ng_drawing.specs.Template.{Template}
+use Rattle.ng_drawing.specs.Template.{Outlet, Fragment}
+use Rattle.ng_template.specs.Kept.{Named}
 use Rattle.ng_watch.specs.Ended.{over, without_over}
 use Rattle.ng_watch.specs.Keys.{key_cmp, is_key, begins}
 use Rattle.ng_watch.specs.Seen.{Watching}
 use Rattle.ng_watch.specs.Table.{Table, with_kept, with_watch, without_watch, under, without_under}
 use Rattle.ng_link.specs.Handlers.{handled}
 use Rattle.ng_link.specs.Rows.{with_sites}
-use Rattle.ng_link.specs.State.{Page, Linked, Listening, Resting, State, is_site}
+use Rattle.ng_link.specs.Instances.{OutletState, Page, Linked, Instances, linked_at, is_site_of, is_site, is_filled_by, with_instance, outlets_changed, body_added, unlinked, owners_without}
+use Rattle.ng_link.specs.Shape.{anchors}
+use Rattle.ng_link.specs.State.{Listening, Resting, State}
 
 -- nothing is watched and nothing is linked yet
-abbrev pub blank : act.State → State
-blank c = record { core = c; watchers = []; resting = []; declared = []; linked = None; next_node = 0 }
+abbrev pub blank : List Named → act.State → State
+blank all c = record { core = c; templates = all; watchers = []; resting = []; declared = []; instances = []; owners = []; next_node = 0 }
 
 abbrev pub with_core : act.State → State → State
 with_core c s = record s { core = c }
@@ -28,28 +32,39 @@ with_core c s = record s { core = c }
 abbrev pub keeping_at : Key → ViewTree → State → State
 keeping_at k v s = record s { watchers = with_kept k (Some v) s.watchers }
 
--- A declared watch keeps nothing any more. The fire of a site that is drawn never faults.
+-- whether the site of a key is drawn: one that fills outlets is not
+abbrev pub fills_any : ℕ → List OutletState → Bool
+fills_any serial os = list_any (is_filled_by serial) os
+
+abbrev pub is_drawn_in : Option Linked → Key → Bool
+is_drawn_in None k = false
+is_drawn_in (Some l) k = is_site_of l.page k.serial.0 && not (fills_any k.serial.0 l.page.outlets)
+
+abbrev pub is_drawn : State → Key → Bool
+is_drawn s k = is_drawn_in (linked_at k.path s.instances) k
+
+-- A declared watch, or a site that fills outlets, keeps nothing any more. The fire of a site that is drawn never faults.
 abbrev pub unset_at : Key → State → State
-unset_at k s = if is_site s.linked k then s else record s { watchers = with_kept k None s.watchers }
+unset_at k s = if is_drawn s k then s else record s { watchers = with_kept k None s.watchers }
 
 -- a watch is declared, under a key that is no site's
 abbrev pub declared_at : Key → Watching → Listening → State → State
-declared_at k w l s = if is_site s.linked k then s else record s { watchers = with_watch k w s.watchers; declared = insert_entry key_cmp s.declared k l }
+declared_at k w l s = if is_site s.instances k then s else record s { watchers = with_watch k w s.watchers; declared = insert_entry key_cmp s.declared k l }
 
 -- a declared watch is taken out
 abbrev pub undeclared_at : Key → State → State
-undeclared_at k s = if is_site s.linked k then s else record s { watchers = without_watch k s.watchers; declared = remove_entry (is_key k) s.declared }
+undeclared_at k s = if is_site s.instances k then s else record s { watchers = without_watch k s.watchers; declared = remove_entry (is_key k) s.declared }
 
 -- sites whose watchers are taken out rest with what they have kept; what is no site's is gone
-abbrev pub rested : Option Linked → Table → Resting → Resting
-rested l [] r = r
-rested l (e ∷ es) r = rested l es (if is_site l e.0 then insert_entry key_cmp r e.0 e.1.kept else r)
+abbrev pub rested : Instances → Table → Resting → Resting
+rested is [] r = r
+rested is (e ∷ es) r = rested is es (if is_site is e.0 then insert_entry key_cmp r e.0 e.1.kept else r)
 
 -- the watchers of a scope and of those below it are taken out: its sites rest, and its declared watches are no more
 abbrev pub left_at : List ℕ → State → State
 left_at p s = record s {
   watchers = without_under p s.watchers;
-  resting = rested s.linked (under p s.watchers) s.resting;
+  resting = rested s.instances (under p s.watchers) s.resting;
   declared = filter (λ e. not (begins p e.0.path)) s.declared;
 }
 
@@ -57,26 +72,65 @@ left_at p s = record s {
 abbrev pub ended_at : State → State
 ended_at s = record s {
   watchers = without_over s.core.objects s.watchers;
-  resting = rested s.linked (over s.core.objects s.watchers) s.resting;
+  resting = rested s.instances (over s.core.objects s.watchers) s.resting;
 }
 
--- the instance of a template, by its number, on a scope: its sites have these numbers of registration, its nodes the names from the
--- next one on, and its handlers are entered with these
-abbrev pub page_on : ℕ → ℕ → Template → List ℕ → State → Page
-page_on number scope t serials s = record {
-  template = number;
+-- the outlets of a template's fragment whose sites have these numbers of registration, at anchors of these names; nothing fills them yet
+abbrev pub outlet_on : ℕ → List ℕ → Outlet → ℕ → OutletState
+outlet_on template serials o a = record { serial = slice_index_or serials o.site 0; template = template; filling = o.filling; anchor = a; bodies = [] }
+
+abbrev pub outlets_on : ℕ → List ℕ → List Outlet → List ℕ → List OutletState
+outlets_on template serials [] names = []
+outlets_on template serials (o ∷ os) [] = []
+outlets_on template serials (o ∷ os) (a ∷ names) = outlet_on template serials o a ∷ outlets_on template serials os names
+
+-- the instance of a fragment, by its numbers, on a scope of a path: its sites have these numbers of registration, its nodes the names
+-- from one on, and its handlers and anchors are entered with these
+abbrev pub page_on : ℕ × ℕ → ℕ → List ℕ → Fragment → List ℕ → ℕ → Page
+page_on which scope path f serials node = record {
+  template = which.0;
+  fragment = which.1;
   scope = scope;
-  path = path_at s.core.scopes scope;
+  path = path;
   serials = serials;
-  node = s.next_node;
-  handlers = handled s.next_node t.own.parts [];
+  node = node;
+  handlers = handled node f.parts [];
+  outlets = outlets_on which.0 serials f.outlets (anchors node f.parts);
 }
 
--- A template, by its number, stands on a scope: its sites are watched, each under its number of registration, its nodes are the
--- document, and its instance is the page's.
-abbrev pub placed_on : ℕ → ℕ → Template → List ℕ → State → State
-placed_on number scope t serials s = record s {
-  watchers = with_sites (path_at s.core.scopes scope) (object_at s.core.scopes scope) serials t.own.sites s.watchers;
-  linked = Some (record { template = t; page = page_on number scope t serials s });
-  next_node = s.next_node + nodes t.own.parts;
+abbrev pub linked_on : ℕ × ℕ → ℕ → List ℕ → Fragment → List ℕ → ℕ → Linked
+linked_on which scope path f serials node = record { fragment = f; page = page_on which scope path f serials node }
+
+-- where an instance stands: it is the page's, or a body in an outlet of another instance
+pub data Place : Type 0 where
+  at_top : Place
+  in_outlet : (holder : List ℕ) → (outlet : ℕ) → Place
+
+abbrev pub taken_in : Place → List ℕ → Instances → Instances
+taken_in at_top p is = is
+taken_in (in_outlet holder o) p is = outlets_changed holder (body_added o (record { path = p })) is
+
+-- A fragment, by its numbers, stands at a place on a scope of a path: its sites are watched over the scope's object, each under its
+-- number of registration, its nodes stand, and its instance is noted.
+abbrev pub placed_under : Place → List ℕ → ℕ → ℕ × ℕ → ℕ → Fragment → List ℕ → State → State
+placed_under place path object which scope f serials s = record s {
+  watchers = with_sites path object serials f.sites s.watchers;
+  instances = taken_in place path (with_instance path (linked_on which scope path f serials s.next_node) s.instances);
+  owners = insert_entry nat_cmp s.owners s.next_node path;
+  next_node = s.next_node + nodes f.parts;
 }
+
+abbrev pub placed_on : Place → ℕ × ℕ → ℕ → Fragment → List ℕ → State → State
+placed_on place which scope f serials s = placed_under place (path_at s.core.scopes scope) (object_at s.core.scopes scope) which scope f serials s
+
+-- the instances of a body and of those in it are gone, and nothing of them rests
+abbrev pub cut_at : List ℕ → List ℕ → State → State
+cut_at holder p s = record s {
+  resting = filter (λ e. not (begins p e.0.path)) s.resting;
+  instances = unlinked holder p s.instances;
+  owners = owners_without p s.instances s.owners;
+}
+
+-- A body that an instance holds is taken out, with those in it: nothing of them is watched or declared, rests, or stands any more.
+abbrev pub unlinked_at : List ℕ → List ℕ → State → State
+unlinked_at holder p s = cut_at holder p (left_at p s)

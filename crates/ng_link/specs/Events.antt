@@ -1,20 +1,23 @@
 -- The document of a page with the names of its nodes, and what handles its events there.
-use Rattle.std.specs.Prelude.{ℕ, Bool, List, [], Option, Some, None}
-use Rattle.ng_dom.specs.Drawing.{Stands, none_stand, shows}
+use Rattle.std.specs.Prelude.{ℕ, Bool, List, [], Option, Some, None, option_and_then}
+use Rattle.ng_dom.specs.Drawing.{Stands, shows}
 use Rattle.ng_dom.specs.Nodes.{NamedForest}
 use Rattle.ng_language.specs.Trees.{Trees}
 use Rattle.ng_link.specs.Handlers.{Handled, programs_at, is_entered}
-use Rattle.ng_link.specs.Shape.{shape, unfilled}
-use Rattle.ng_link.specs.State.{Linked, State, keys_of, looks_in}
+use Rattle.ng_link.specs.Instances.{Linked, linked_at, stands_at, owner_of}
+use Rattle.ng_link.specs.State.{State, looks_in}
 
 -- what stands of what is linked
-abbrev pub stands_in : Option Linked → Stands
-stands_in None = none_stand
-stands_in (Some l) = shape (keys_of l.page) l.page.node unfilled l.template.own.parts
+abbrev pub stands_in : State → Stands
+stands_in s = stands_at s.instances []
 
 -- the document that a page shows, with the names of its nodes
 abbrev pub named : State → NamedForest
-named s = shows (looks_in s) (stands_in s.linked)
+named s = shows (looks_in s) (stands_in s)
+
+-- the instance to which a node belongs
+abbrev pub instance_of_node : State → ℕ → Option Linked
+instance_of_node s n = option_and_then (λ p. linked_at p s.instances) (owner_of n s.owners)
 
 abbrev pub handled_in : Option Linked → Handled
 handled_in None = []
@@ -26,12 +29,12 @@ scope_in (Some l) = l.page.scope
 
 -- the programs that handle an event at a node, in order; none where no such node stands
 abbrev pub handlers_at : State → ℕ → List ℕ → List Trees
-handlers_at s n e = programs_at n e (handled_in s.linked)
+handlers_at s n e = programs_at n e (handled_in (instance_of_node s n))
 
 -- a node that has a handler stands
 abbrev pub is_handling : State → ℕ → Bool
-is_handling s n = is_entered n (handled_in s.linked)
+is_handling s n = is_entered n (handled_in (instance_of_node s n))
 
--- The scope of a node: the one that its template is linked on.
+-- The scope of a node: that of the instance to which it belongs.
 abbrev pub scope_of : State → ℕ → ℕ
-scope_of s n = scope_in s.linked
+scope_of s n = scope_in (instance_of_node s n)

@@ -1,18 +1,22 @@
 -- What is proved of what stands.
-use Rattle.std.specs.Prelude.{ℕ, ◌≡◌, ◌≤◌, Option, length}
+use Rattle.std.specs.Prelude.{ℕ, ◌≡◌, ◌≤◌, List, Option, Some, length, slice_get}
+use Rattle.std.specs.List.Sorted.{IsStrictlySortedBy}
+use Rattle.std.specs.Map.{keys_of as map_keys}
 use Rattle.ng_act.specs.declared.core_state.Core.{Core}
+use Rattle.ng_base.specs.Order.{path_cmp}
 use Rattle.ng_base.specs.Views.{ViewTree}
 use Rattle.ng_base.specs.declared.path.Key.{Key}
 use Rattle.ng_dom.specs.Document.{Shows}
-use Rattle.ng_dom.specs.Drawing.{Stands, Bodies, shows, show_bodies}
+use Rattle.ng_dom.specs.Drawing.{Stands, Bodies, shows, show_bodies, at_block_all}
 use Rattle.ng_dom.specs.Nodes.{plain, plain_groups}
 use Rattle.ng_drawing.specs.Drawing.{draw}
 use Rattle.ng_drawing.specs.Template.{Parts}
 use Rattle.ng_watch.specs.Table.{Table, AllStand}
 use Rattle.ng_link.specs.Events.{named}
-use Rattle.ng_link.specs.Shape.{shape}
+use Rattle.ng_link.specs.Instances.{OutletState, Linked, Instances, linked_at, read_bodies, groups_from, stands_at, outlets_changed}
+use Rattle.ng_link.specs.Shape.{shape, anchors}
 use Rattle.ng_link.specs.State.{look_of, state_of, shown}
-use Rattle.ng_link.specs.Standing.{WatchersStand, Standing, Displays}
+use Rattle.ng_link.specs.Standing.{AreIn, ArePlaced, AreApart, WatchersStand, Standing, Displays}
 use Rattle.ng_link.specs.declared.works.Works.{Works}
 
 -- what stands of parts is drawn as the parts are, whatever their sites have kept and whatever fills their outlets
@@ -20,6 +24,16 @@ abbrev pub ShapeDrawsParts : Type 0
 ShapeDrawsParts =
     (keys : ℕ → Key) (v : Key → Option ViewTree) (n : ℕ) (groups : ℕ → Bodies) (ps : Parts)
     → plain (shows (λ k. look_of (v k)) (shape keys n groups ps)) ≡ draw (λ k. v (keys k)) (λ o. plain_groups (show_bodies (λ k. look_of (v k)) (groups o))) ps
+
+-- The bodies of an outlet change, and with them what stands at its anchor: one law for each kind of block.
+abbrev pub BodiesChanged : Type 0
+BodiesChanged =
+    (places : Key → Option ℕ) (next : ℕ) (is : Instances) (p : List ℕ) (l : Linked) (o a : ℕ) (f : List OutletState → List OutletState) (h : Bodies → Bodies)
+    → IsStrictlySortedBy path_cmp (map_keys is) → ArePlaced places next is → AreApart is
+    → linked_at p is ≡ Some l → slice_get (anchors l.page.node l.fragment.parts) o ≡ Some a → AreIn p (f l.page.outlets)
+    → (groups_from (read_bodies (stands_at is) (f l.page.outlets)) o ≡ h (groups_from (read_bodies (stands_at is) l.page.outlets) o))
+    × ((x : ℕ) → (x ≡ o → ⊥) → groups_from (read_bodies (stands_at is) (f l.page.outlets)) x ≡ groups_from (read_bodies (stands_at is) l.page.outlets) x)
+    → (q : List ℕ) → stands_at (outlets_changed p f is) q ≡ at_block_all a h (stands_at is q)
 
 -- a page that stands displays the drawing of its template with what its instance has kept, and nothing where none is linked
 abbrev pub PageDisplaysInstance : Type 0

@@ -7,9 +7,14 @@ pub mod Building
 pub mod Handlers
 pub mod Linking
 pub mod StepOf
+pub mod Instances
+pub mod Unlinking
 pub mod State
 pub mod Events
 pub mod Calls
+pub mod Placing
+pub mod PlaceOf
+pub mod Due
 pub mod Standing
 pub mod Firing
 pub mod Laws

@@ -68,6 +68,22 @@ abbrev mutual
 abbrev pub unfilled : ℕ → Bodies
 unfilled o = no_bodies
 
+-- the names of the anchors in document order, which is that of their outlets
+abbrev mutual
+  pub part_anchors : ℕ → Part → List ℕ
+  part_anchors n (text_part ps) = []
+  part_anchors n (comment_part t) = []
+  part_anchors n (element_part e own acts ats c) = content_anchors (n + 1) c
+  part_anchors n (anchor_part outlet own starts) = n ∷ []
+
+  pub content_anchors : ℕ → Contents → List ℕ
+  content_anchors n (children ps) = anchors n ps
+  content_anchors n (bound k) = []
+
+  pub anchors : ℕ → Parts → List ℕ
+  anchors n no_parts = []
+  anchors n (part_then p ps) = part_anchors n p ++ anchors (n + part_nodes p) ps
+
 -- An element's own site is drawn in it, but for the one whose text its contents are. That of an anchor is said to be in it, too.
 abbrev pub own_node : ℕ → Contents → ℕ → ℕ
 own_node n (children ps) k = n

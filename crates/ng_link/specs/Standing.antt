@@ -1,50 +1,100 @@
 -- When works stand for what stands of a template.
-use Rattle.std.specs.Prelude.{ℕ, ◌≡◌, ◌<◌, length, Option, None, Some, IsSome}
+use Rattle.std.specs.Prelude.{ℕ, ◌≡◌, ◌+◌, ◌<◌, ◌≤◌, ◌⊎◌, List, [], ◌∷◌, ◌++◌, map, length, Option, Some, IsSome, if◌then◌else◌}
 use Rattle.std.specs.List.{AllByRecursion}
+use Rattle.std.specs.List.Sorted.{IsStrictlySortedBy}
+use Rattle.std.specs.Map.{keys_of as map_keys}
+use Rattle.ng_base.specs.Order.{path_cmp}
 use Rattle.ng_base.specs.declared.path.Key.{Key}
-use Rattle.ng_dom.specs.Document.{rooms, live_count, Shows}
-use Rattle.ng_dom.specs.Drawing.{Stands, none_stand, HeldAll, shows}
+use Rattle.ng_dom.specs.Document.{next_name, Shows, Holds}
+use Rattle.ng_dom.specs.Drawing.{Look, Stands, shows}
 use Rattle.ng_dom.specs.Nodes.{NamedForest, plain}
 use Rattle.ng_dom.specs.declared.dom.Dom.{Dom}
-use Rattle.ng_drawing.specs.Template.{Template}
+use Rattle.ng_drawing.specs.Nodes.{nodes}
 use Rattle.ng_markup.specs.Forest.{Forest}
+use Rattle.ng_template.specs.Numbering.{after_parts, after_outlets}
 use Rattle.ng_watch.specs.Seen.{WatchStands}
 use Rattle.ng_watch.specs.Table.{Table}
-use Rattle.ng_link.specs.Holes.{HolesBelow}
-use Rattle.ng_link.specs.Shape.{shape, unfilled}
+use Rattle.ng_link.specs.Building.{HomedAll, AllAt}
+use Rattle.ng_link.specs.Instances.{Body, OutletState, Linked, Instances, keys_of, is_path, linked_at, stands_at}
+use Rattle.ng_link.specs.Shape.{key_on, holes, anchors}
 use Rattle.ng_link.specs.Sources.{sources}
-use Rattle.ng_link.specs.State.{Page, keys_of, Linked, state_of, places_of, looks_in}
+use Rattle.ng_link.specs.State.{State, state_of, places_of, looks_in}
 use Rattle.ng_link.specs.declared.works.Works.{Works}
 
--- a template's parts stand with the keys of an instance, from its first node on
-pub record HasShape (t : Template) (p : Page) (ts : Stands) : Type 0 where
-  pub shape : ts ≡ shape (keys_of p) p.node unfilled t.own.parts
-  pub count : length p.serials ≡ length t.own.sites
-  pub holes : HolesBelow (length p.serials) t.own.parts
+-- the path of a body is that of the instance it is in, and one number more
+abbrev pub IsIn : List ℕ → Body → Type 0
+IsIn p b = (n : ℕ) × (b.path ≡ p ++ n ∷ [])
 
--- nothing stands, and the document has no node
-pub record NothingStands (d : Dom) (ts : Stands) : Type 0 where
-  pub stands : ts ≡ none_stand
-  pub rooms : (q : ℕ) → rooms d q ≡ None
-  pub live : live_count d ≡ 0
+abbrev pub AreIn : List ℕ → List OutletState → Type 0
+AreIn p os = AllByRecursion (λ (o : OutletState). AllByRecursion (IsIn p) o.bodies) os
 
--- what stands is the template that is linked; or nothing, where none is
-abbrev pub IsPage : Option Linked → Dom → Stands → Type 0
-IsPage None d ts = NothingStands d ts
-IsPage (Some l) d ts = HasShape l.template l.page ts
+-- the site of each outlet is known to be in its anchor
+abbrev pub AreAnchored : (Key → Option ℕ) → List ℕ → List OutletState → Type 0
+AreAnchored places p os = AllByRecursion (λ (o : OutletState). places (key_on p o.serial) ≡ Some o.anchor) os
+
+-- how many bodies are on a path
+abbrev pub body_count : List ℕ → List Body → ℕ
+body_count p [] = 0
+body_count p (b ∷ bs) = (if is_path p b.path then 1 else 0) + body_count p bs
+
+abbrev pub held_count : List ℕ → List OutletState → ℕ
+held_count p [] = 0
+held_count p (o ∷ os) = body_count p o.bodies + held_count p os
+
+-- What holds of an instance that stands on a path, where its sites are known to be drawn in nodes: its sites and outlets are numbered in document
+-- order, each site is drawn in its node, each outlet has its anchor, where its site is said to be drawn, and no path is that of two bodies.
+pub record IsPlaced (places : Key → Option ℕ) (next : ℕ) (p : List ℕ) (l : Linked) : Type 0 where
+  pub path : l.page.path ≡ p
+  pub numbered : after_parts 0 l.fragment.parts ≡ Some (length l.fragment.sites)
+  pub outlets : after_outlets 0 l.fragment.parts ≡ Some (length l.fragment.outlets)
+  pub count : length l.page.serials ≡ length l.fragment.sites
+  pub sites : AllAt places (keys_of l.page) 0 (holes l.page.node l.fragment.parts)
+  pub anchors : map (λ (o : OutletState). o.anchor) l.page.outlets ≡ anchors l.page.node l.fragment.parts
+  pub filled : AreAnchored places p l.page.outlets
+  pub bodies : AreIn p l.page.outlets
+  pub once : (q : List ℕ) → held_count q l.page.outlets ≤ 1
+  pub end : l.page.node + nodes l.fragment.parts ≤ next
+
+abbrev pub ArePlaced : (Key → Option ℕ) → ℕ → Instances → Type 0
+ArePlaced places next is = AllByRecursion (λ (e : List ℕ × Linked). IsPlaced places next e.0 e.1) is
+
+-- two instances have no node in common
+abbrev pub Apart : Linked → Linked → Type 0
+Apart l m = (l.page.node + nodes l.fragment.parts ≤ m.page.node) ⊎ (m.page.node + nodes m.fragment.parts ≤ l.page.node)
+
+abbrev pub AreApart : Instances → Type 0
+AreApart [] = Unit {0}
+AreApart (e ∷ es) = AllByRecursion (λ (x : List ℕ × Linked). Apart e.1 x.1) es × AreApart es
+
+-- an instance holds a body on a path
+abbrev pub IsHeldIn : List ℕ → List ℕ → Instances → Type 0
+IsHeldIn holder p is = (l : Linked) × (linked_at holder is ≡ Some l) × (0 < held_count p l.page.outlets)
+
+-- each body that an instance holds is linked, and each instance but the page's is a body that another holds
+pub record AreHeld (is : Instances) : Type 0 where
+  pub linked : (holder p : List ℕ) → IsHeldIn holder p is → IsSome (linked_at p is)
+  pub held : (p : List ℕ) → IsSome (linked_at p is) → (p ≡ []) ⊎ ((holder : List ℕ) × IsHeldIn holder p is)
+
+-- What stands of instances is built: the document shows it and has no other node, for each node it is known what it is drawn from, and for
+-- each site in which node it is drawn.
+pub record IsBuilt (places : Key → Option ℕ) (looks : Key → Look) (d : Dom) (is : Instances) (ts : Stands) : Type 0 where
+  pub holds : Holds d (shows looks ts)
+  pub stands : ts ≡ stands_at is []
+  pub homed : HomedAll (sources d) ts
+  pub ordered : IsStrictlySortedBy path_cmp (map_keys is)
+  pub each : ArePlaced places (next_name d) is
+  pub apart : AreApart is
+  pub bodies : AreHeld is
 
 -- the objects that watchers name are among so many
 abbrev pub WatchersStand : ℕ → Table → Type 0
 WatchersStand count t = AllByRecursion (λ e. WatchStands count e.1.watch) t
 
--- The document shows what stands, with what its sites have kept. For each node it is known what it is drawn from, and for each
--- site in which node it is drawn. The numbers of sites are below the next number of registration, and the objects that watchers name are there.
+-- What is linked is built. The numbers of sites are below the next number of registration, and the objects that watchers name are there.
 pub record Standing (w : Works) (ts : Stands) : Type 0 where
-  pub shown : Shows w.dom (shows (looks_in (state_of w)) ts)
-  pub held : HeldAll (places_of w) (sources w.dom) ts
+  pub built : IsBuilt (places_of w) (looks_in (state_of w)) w.dom (state_of w).instances ts
   pub below : (k : Key) → IsSome (places_of w k) → k.serial.0 < (state_of w).core.serial
   pub watched : WatchersStand (length (state_of w).core.objects) (state_of w).watchers
-  pub page : IsPage (state_of w).linked w.dom ts
 
 -- works stand for what stands of some template
 abbrev pub IsStanding : Works → Type 0
@@ -55,3 +105,7 @@ pub record Displays (w : Works) (f : Forest) : Type 0 where
   pub forest : NamedForest
   pub shown : Shows w.dom forest
   pub plain : plain forest ≡ f
+
+-- an instance holds a body on this path
+abbrev pub IsHeld : List ℕ → List ℕ → State → Type 0
+IsHeld holder p s = IsHeldIn holder p s.instances

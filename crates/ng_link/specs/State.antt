@@ -1,10 +1,8 @@
 -- The state of a page, as contracts see its works.
-use Rattle.std.specs.Prelude.{ℕ, ◌&&◌, Bool, false, List, [], Option, Some, None, map, option_map, unwrap_or, slice_get, not, is_some, if◌then◌else◌}
+use Rattle.std.specs.Prelude.{ℕ, List, [], Option, Some, None, map, option_map, option_and_then, slice_get, not, is_some}
 use Rattle.std.specs.BTreeMap.{is_at}
-use Rattle.std.specs.List.{list_any}
 use Rattle.std.specs.Ordering.{nat_cmp}
 use Rattle.std.specs.Map.{lookup, keys_of as map_keys}
-use Rattle.std.specs.Str.{bytes_eq}
 use Rattle.std.specs.declared.alloc.Global.{Global}
 use Rattle.std.specs.declared.vec.Vec.{Vec}
 use Rattle.ng_act.specs.Frames as cores
@@ -13,15 +11,17 @@ use Rattle.ng_base.specs.Views.{ViewTree}
 use Rattle.ng_base.specs.declared.path.Key.{Key}
 use Rattle.ng_dom.specs.Document.{next_name}
 use Rattle.ng_dom.specs.Drawing.{Look}
-use Rattle.ng_drawing.specs.Drawing.{Rendered, shown_as}
-use Rattle.ng_drawing.specs.Instance as instances
-use Rattle.ng_drawing.specs.Instance.{SiteState, Instance, instance_with, no_outlets}
+use Rattle.ng_drawing.specs.Drawing.{Rendered}
+use Rattle.ng_drawing.specs.Instance as drawn
+use Rattle.ng_drawing.specs.Instance.{SiteState, Instance, instance_with, no_outlets, instances_from, outlets_from}
 use Rattle.ng_drawing.specs.Looks.{kept_text, kept_words, kept_truth}
+use Rattle.ng_drawing.specs.Nodes.{forest_count}
 use Rattle.ng_drawing.specs.Template.{Template, no_fragment}
 use Rattle.ng_language.specs.Trees.{Trees}
-use Rattle.ng_markup.specs.Forest.{Forest, no_nodes}
+use Rattle.ng_markup.specs.Forest.{Forest}
 use Rattle.ng_parse.specs.ProgramOf.{program}
-use Rattle.ng_template.specs.Kept.{Named}
+use Rattle.ng_template.specs.Kept.{Named, fragments_in}
+use Rattle.ng_template.specs.FragmentOf.{filling_of}
 use Rattle.ng_template.specs.Kept as templates
 use Rattle.ng_template.specs.Seen.{handler_of}
 use Rattle.ng_template.specs.declared.acts.Handler.{Handler}
@@ -31,29 +31,13 @@ use Rattle.ng_watch.specs.Keys.{is_key}
 use Rattle.ng_watch.specs.Seen.{Watcher}
 use Rattle.ng_watch.specs.Table.{Table, watchers_of, found}
 use Rattle.ng_link.specs.Handlers.{Handled}
-use Rattle.ng_link.specs.Shape.{key_on, keys_in}
+use Rattle.ng_link.specs.Instances.{Body, OutletState, Page, Linked, Instances, Owners, is_path, linked_at, read}
+use Rattle.ng_link.specs.Shape.{key_on}
+use Rattle.ng_link.specs.declared.works.Body as code_body
+use Rattle.ng_link.specs.declared.works.OutletState as code_outlet
 use Rattle.ng_link.specs.declared.works.Linked as code
 use Rattle.ng_link.specs.declared.works.Listener.{Listener}
 use Rattle.ng_link.specs.declared.works.Works.{Works}
-
--- an instance that stands: its template and scope by number; the path of its sites' keys, and their numbers of registration in the
--- order of its sites; the name of its first node, and what handles events at its nodes
-pub record Page : Type 0 where
-  pub template : ℕ
-  pub scope : ℕ
-  pub path : List ℕ
-  pub serials : List ℕ
-  pub node : ℕ
-  pub handlers : Handled
-
--- the keys of its sites by number
-abbrev pub keys_of : Page → ℕ → Key
-keys_of p = keys_in p.path p.serials
-
--- a template that is linked, with its scope and the keys of its sites
-pub record Linked : Type 0 where
-  pub template : Template
-  pub page : Page
 
 -- the program that a declared watch runs, and the scope that it runs on
 pub record Listening : Type 0 where
@@ -68,27 +52,18 @@ Resting = List (Key × Option ViewTree)
 abbrev pub Declared : Type 0
 Declared = List (Key × Listening)
 
--- The state of a page: the core; the live watchers, with what they have kept; the sites that rest, with what they had kept; the
--- programs of declared watches; what is linked; and the name of the next node. All lists are in key order.
+-- The state of a page: the core; the templates, each with the name that it is included by; the live watchers, with what they have
+-- kept; the sites that rest, with what they had kept; the programs of declared watches; what is linked; to which instance a node
+-- belongs; and the name of the next node. All lists but that of the templates are in key order.
 pub record State : Type 0 where
   pub core : act.State
+  pub templates : List Named
   pub watchers : Table
   pub resting : Resting
   pub declared : Declared
-  pub linked : Option Linked
+  pub instances : Instances
+  pub owners : Owners
   pub next_node : ℕ
-
--- whether a key is on a path, with one of these numbers
-abbrev pub is_in : List ℕ → List ℕ → Key → Bool
-is_in path serials k = bytes_eq path k.path && list_any (λ n. is_at (nat_cmp k.serial.0) n) serials
-
-abbrev pub is_site_of : Page → Key → Bool
-is_site_of p k = is_in p.path p.serials k
-
--- Whether a key is that of a site of what is linked. Every other watcher is a declared watch.
-abbrev pub is_site : Option Linked → Key → Bool
-is_site None k = false
-is_site (Some l) k = is_site_of l.page k
 
 -- what a watcher has kept, or else what had been kept at rest
 abbrev pub kept_or : Option Watcher → Option (Option ViewTree) → Option ViewTree
@@ -117,33 +92,34 @@ site_state t r scope k = record { key = k; scope = scope; kept = kept_in t r k; 
 abbrev pub site_states : Table → Resting → Page → List SiteState
 site_states t r p = map (λ n. site_state t r p.scope (key_on p.path n)) p.serials
 
--- the instance that stands, in whose outlets there is no body yet
-abbrev pub instance_at : Table → Resting → Linked → Instance
-instance_at t r l = instance_with l.template.own l.page.scope (site_states t r l.page) no_outlets
+-- an instance with the bodies in it
+abbrev pub instance_join : Table → Resting → Linked → List (List Instance) → Instance
+instance_join t r l iss = instance_with l.fragment l.page.scope (site_states t r l.page) (outlets_from (map instances_from iss))
 
-abbrev pub instance_in : Table → Resting → Option Linked → Option Instance
-instance_in t r None = None
-instance_in t r (Some l) = Some (instance_at t r l)
+abbrev pub nothing_linked : Instance
+nothing_linked = instance_with no_fragment 0 [] no_outlets
+
+abbrev pub instance_at : Table → Resting → Instances → List ℕ → Instance
+instance_at t r is p = read nothing_linked (instance_join t r) is p
+
+abbrev pub instance_in : Table → Resting → Instances → Option Instance
+instance_in t r is = option_map (λ l. instance_at t r is []) (linked_at [] is)
 
 -- the page's instance; there is none where the opening link met a fault
 abbrev pub instance : State → Option Instance
-instance s = instance_in s.watchers s.resting s.linked
+instance s = instance_in s.watchers s.resting s.instances
 
-abbrev pub shown_in : Table → Resting → Option Linked → Forest
-shown_in t r None = no_nodes
-shown_in t r (Some l) = instances.shown (instance_at t r l)
-
--- the document that a page shows: the drawing with what its sites have kept
+-- the document that a page shows: the drawing with what its sites have kept; without an instance it is empty
 abbrev pub shown : State → Forest
-shown s = shown_in s.watchers s.resting s.linked
+shown s = drawn.shown (instance_at s.watchers s.resting s.instances [])
 
-abbrev pub rendering_in : act.State → Table → Resting → Option Linked → Rendered Forest
-rendering_in c t r None = shown_as no_nodes
-rendering_in c t r (Some l) = instances.rendering c.objects c.scopes (instance_at t r l)
-
--- The rendering: the document computed afresh over data and scopes. Without an instance it is empty.
+-- The rendering: the document computed afresh over data and scopes.
 abbrev pub rendering : State → Rendered Forest
-rendering s = rendering_in s.core s.watchers s.resting s.linked
+rendering s = drawn.rendering s.core.objects s.core.scopes (instance_at s.watchers s.resting s.instances [])
+
+-- how many nodes stand
+abbrev pub live_nodes : State → ℕ
+live_nodes s = forest_count (shown s)
 
 -- the templates, and the name that each is included by
 abbrev pub templates_of : Works → List Named
@@ -152,29 +128,33 @@ templates_of w = templates.templates_of w.templates
 abbrev pub template_at : List Named → ℕ → Option Template
 template_at all n = option_map (λ k. k.1) (slice_get all n)
 
--- the template of a number, or an empty one
-abbrev pub template_or : List Named → ℕ → Template
-template_or all n = unwrap_or (template_at all n) (record { own = no_fragment; bodies = [] })
-
 abbrev pub handled_of : List (ℕ × Vec Handler Global) → Handled
 handled_of t = map (λ e. (e.0, map handler_of e.1.items)) t
 
+abbrev pub body_of : code_body.Body → Body
+body_of b = record { path = b.path }
+
+abbrev pub outlet_of : code_outlet.OutletState → OutletState
+outlet_of o = record { serial = o.serial; template = o.template.0; filling = filling_of o.filling; anchor = o.anchor; bodies = map body_of o.bodies.items }
+
 -- an instance keeps under the number of each site the node that it is drawn in
-abbrev pub page_of : code.Linked → Page
-page_of i = record {
+abbrev pub page_of : List ℕ → code.Linked → Page
+page_of path i = record {
   template = i.template.0;
+  fragment = i.fragment;
   scope = i.scope.0;
-  path = i.path;
+  path = path;
   serials = map_keys i.spots.entries;
   node = i.node;
   handlers = handled_of i.handlers.entries;
+  outlets = map outlet_of i.outlets.items;
 }
 
-abbrev pub one_of : List Named → code.Linked → Linked
-one_of all p = record { template = template_or all p.template.0; page = page_of p }
+abbrev pub linked_of : List Named → List ℕ → code.Linked → Linked
+linked_of all path i = record { fragment = fragments_in all i.template.0 i.fragment; page = page_of path i }
 
-abbrev pub linked_of : List Named → Option code.Linked → Option Linked
-linked_of all i = option_map (one_of all) i
+abbrev pub instances_of : List Named → List (List ℕ × code.Linked) → Instances
+instances_of all is = map (λ e. (e.0, linked_of all e.0 e.1)) is
 
 abbrev pub resting_of : List (Key × Option Snap) → Resting
 resting_of r = map (λ e. (e.0, option_map snap_of e.1)) r
@@ -188,21 +168,22 @@ declared_of d = map (λ e. (e.0, listening_of e.1)) d
 abbrev pub state_of : Works → State
 state_of w = record {
   core = cores.state_of w.core;
+  templates = templates_of w;
   watchers = watchers_of w.watchers;
   resting = resting_of w.resting.entries;
   declared = declared_of w.declared.entries;
-  linked = linked_of (templates_of w) w.page;
+  instances = instances_of (templates_of w) w.instances.entries;
+  owners = w.owners.entries;
   next_node = next_name w.dom;
 }
 
 -- the node that the site of a key is drawn in
 abbrev pub spot_at : code.Linked → Key → Option ℕ
-spot_at p k = if bytes_eq p.path k.path then lookup (is_at (nat_cmp k.serial.0)) p.spots.entries else None
+spot_at i k = lookup (is_at (nat_cmp k.serial.0)) i.spots.entries
 
-abbrev pub spot_in : Option code.Linked → Key → Option ℕ
-spot_in None k = None
-spot_in (Some p) k = spot_at p k
+abbrev pub spot_in : List (List ℕ × code.Linked) → Key → Option ℕ
+spot_in is k = option_and_then (λ i. spot_at i k) (lookup (is_path k.path) is)
 
 -- the node that the site of a key is drawn in, among all that stands
 abbrev pub places_of : Works → Key → Option ℕ
-places_of w k = spot_in w.page k
+places_of w k = spot_in w.instances.entries k

@@ -1,5 +1,5 @@
 //! What nodes are drawn from: the pieces of a template with the keys of an instance.
-ghost use Rattle.std.specs.Prelude.{◌≡◌, ◌+◌, ◌++◌, ◌∷◌, [], map, true, IfOk, IfErr};
+ghost use Rattle.std.specs.Prelude.{◌≡◌, ◌++◌, map, true, IfOk, IfErr};
 ghost use Rattle.ng_base.specs.Faults.{is_memory};
 ghost use Rattle.ng_dom.specs.Drawing.{joined};
 ghost use Rattle.ng_template.specs.PieceOf.{piece_of as seen_piece};

@@ -1,5 +1,5 @@
 //! How many nodes parts have.
-ghost use Rattle.std.specs.Prelude.{◌≡◌, ◌-◌, ◌^◌, min, nat_lt};
+ghost use Rattle.std.specs.Prelude.{◌≡◌, ◌+◌, ◌-◌, ◌^◌, min, nat_lt};
 ghost use Rattle.ng_drawing.specs.Nodes.{part_nodes as part_nodes_of, content_nodes as content_nodes_of, nodes, node_limit};
 ghost use Rattle.ng_template.specs.Seen.{part_of, contents_of, parts_of};
 
@@ -44,9 +44,9 @@ fn count_nodes(parts: &Parts) -> u64
     count
 }
 
-/// Whether a page would have too many nodes.
-pub(crate) fn is_too_large(parts: &Parts) -> bool
-    ensures { result ≡ nat_lt node_limit (nodes (parts_of parts.now)) }
+/// Whether a page that has so many nodes would have too many with those of parts.
+pub(crate) fn is_too_large(live: u64, parts: &Parts) -> bool
+    ensures { result ≡ nat_lt node_limit (live + nodes (parts_of parts.now)) }
 {
-    count_nodes(parts) > NODE_LIMIT
+    count_nodes(parts).saturating_add(live) > NODE_LIMIT
 }

@@ -1,25 +1,54 @@
 //! Watches that programs declare come and go.
-ghost use Rattle.std.specs.Prelude.{◌≡◌, length, OnOk, IfErr};
+ghost use Rattle.std.specs.Prelude.{◌≡◌, List, map, length, OnOk, IfErr};
 ghost use Rattle.ng_dom.specs.Drawing.{Stands};
+ghost use Rattle.ng_template.specs.Kept.{Named};
 ghost use Rattle.ng_watch.specs.Seen.{watching_of, WatchStands};
-ghost use Rattle.ng_link.specs.Calls.{unset_at, declared_at, undeclared_at};
+ghost use Rattle.ng_link.specs.Calls.{fills_any, is_drawn_in, unset_at, declared_at, undeclared_at};
+ghost use Rattle.ng_link.specs.Instances.{linked_at};
 ghost use Rattle.ng_link.specs.Standing.{Standing};
-ghost use Rattle.ng_link.specs.State.{listening_of, state_of, templates_of};
+ghost use Rattle.ng_link.specs.State.{outlet_of, instances_of, listening_of, state_of, templates_of};
 
-use crate::works::{Listener, Works};
+use crate::works::{Linked, Listener, OutletState, Works};
 use ng_base::fault::Memory;
-use ng_base::path::Key;
+use ng_base::path::{Key, Path};
 use ng_watch::watch::Watch;
+use std::collections::BTreeMap;
+
+/// Whether a site fills an outlet.
+fn fills_any(outlets: &[OutletState], serial: u64) -> bool
+    ensures { result ≡ fills_any serial (map outlet_of outlets.now) }
+{
+    for outlet in outlets {
+        if outlet.serial == serial {
+            return true;
+        }
+    }
+    false
+}
+
+/// Whether the site of a key is drawn.
+fn is_drawn(instances: &BTreeMap<Path, Linked>, key: &Key) -> bool
+    ensures { (all : List Named) → result ≡ is_drawn_in (linked_at key.now.path (instances_of all instances.now.entries)) key.now }
+{
+    match instances.get(&key.path) {
+        None => false,
+        Some(one) => {
+            one.spots.contains_key(&key.serial.0)
+                && !fills_any(one.outlets.as_slice(), key.serial.0)
+        }
+    }
+}
 
 impl Works {
-    /// A declared watch keeps nothing any more. A site keeps what it has.
+    /// A declared watch, or a site that fills outlets, keeps nothing any more, so that it is dirty again: what is done where its fire met a
+    /// fault. A site that is drawn keeps what it has.
     pub fn unset(&mut self, key: &Key)
         ensures state { state_of self.new ≡ unset_at key.now (state_of self.old) }
         ensures core { self.new.core ≡ self.old.core }
         ensures templates { templates_of self.new ≡ templates_of self.old }
         ensures stands { (ts : Stands) → Standing self.old ts → Standing self.new ts }
     {
-        if self.is_site(key) {
+        if is_drawn(&self.instances, key) {
             return;
         }
         self.watchers.unset(key);

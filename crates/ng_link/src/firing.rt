@@ -119,7 +119,7 @@ impl Works {
         ensures rest { self.new ≡ record self.old { dom = self.new.dom } }
         ensures refused { IfErr result (λ e. e ≡ Memory.Refused) }
     {
-        match spot_in(&self.page, key) {
+        match spot_in(&self.instances, key) {
             None => Ok(()),
             Some(n) => self.draw_anew(n),
         }

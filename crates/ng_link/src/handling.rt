@@ -1,12 +1,14 @@
 //! Which programs handle the events of the document, by node (API: ngClick).
-ghost use Rattle.std.specs.Prelude.{◌≡◌, ◌+◌, ℕ, map, IfOk, OnOk};
+ghost use Rattle.std.specs.Prelude.{◌≡◌, ◌+◌, map, option_and_then, option_copied, IfOk, OnOk};
+ghost use Rattle.std.specs.Map.{lookup};
 ghost use Rattle.ng_drawing.specs.Nodes.{part_nodes, content_nodes, nodes};
 ghost use Rattle.ng_drawing.specs.Template.{parts_from};
 ghost use Rattle.ng_parse.specs.ProgramOf.{program};
 ghost use Rattle.ng_template.specs.Seen.{handler_of, part_of, contents_of};
 ghost use Rattle.ng_link.specs.Events.{handlers_at, is_handling, scope_of};
 ghost use Rattle.ng_link.specs.Handlers.{with_handlers, part_handled, contents_handled, handled, for_event, programs_at, is_entered};
-ghost use Rattle.ng_link.specs.State.{handled_of, page_of, state_of};
+ghost use Rattle.ng_link.specs.Instances.{is_path, owner_of};
+ghost use Rattle.ng_link.specs.State.{handled_of, state_of};
 
 use crate::works::{Linked, Works};
 use ng_base::fault::Memory;
@@ -140,7 +142,7 @@ fn for_event(alloc: Global, handlers: &[Handler], event: &Txt) -> Result<Vec<Pro
 impl Linked {
     /// The programs that handle an event at a node, in order.
     fn handlers(&self, alloc: Global, n: u64, event: &Txt) -> Result<Vec<Program>, Memory>
-        ensures { IfOk result (λ ps. map program ps.items ≡ programs_at n event.now (page_of self.now).handlers) }
+        ensures { IfOk result (λ ps. map program ps.items ≡ programs_at n event.now (handled_of self.now.handlers.entries)) }
     {
         match self.handlers.get(&n) {
             None => Ok(Vec::new(alloc)),
@@ -150,30 +152,40 @@ impl Linked {
 
     /// Whether a node that has a handler stands here.
     fn handles(&self, n: u64) -> bool
-        ensures { result ≡ is_entered n (page_of self.now).handlers }
+        ensures { result ≡ is_entered n (handled_of self.now.handlers.entries) }
     {
         self.handlers.contains_key(&n)
     }
 }
 
 impl Works {
+    /// The instance to which a node belongs: the last that doesn't begin after it.
+    fn instance_of_node(&self, n: u64) -> Option<&Linked>
+        ensures { option_copied result ≡ option_and_then (λ p. lookup (is_path p) self.now.instances.entries) (owner_of n self.now.owners.entries) }
+    {
+        match self.owners.range(..=n).next_back() {
+            None => None,
+            Some((_, path)) => self.instances.get(path),
+        }
+    }
+
     /// The programs that handle an event at a node, in the order of its directives. There is none where no such node stands.
     pub fn handlers(&self, n: u64, event: &Txt) -> Result<Vec<Program>, Memory>
         ensures { IfOk result (λ ps. map program ps.items ≡ handlers_at (state_of self.now) n event.now) }
     {
-        match &self.page {
+        match self.instance_of_node(n) {
             None => Ok(Vec::new(self.alloc)),
-            Some(page) => page.handlers(self.alloc, n, event),
+            Some(one) => one.handlers(self.alloc, n, event),
         }
     }
 
-    /// The scope of a node.
-    pub fn scope_of(&self, _n: u64) -> ScopeId
-        ensures { (n : ℕ) → result.0 ≡ scope_of (state_of self.now) n }
+    /// The scope of a node: that of the instance to which it belongs.
+    pub fn scope_of(&self, n: u64) -> ScopeId
+        ensures { result.0 ≡ scope_of (state_of self.now) n }
     {
-        match &self.page {
+        match self.instance_of_node(n) {
             None => ScopeId(0),
-            Some(page) => page.scope,
+            Some(one) => one.scope,
         }
     }
 
@@ -181,9 +193,9 @@ impl Works {
     pub fn handles(&self, n: u64) -> bool
         ensures { result ≡ is_handling (state_of self.now) n }
     {
-        match &self.page {
+        match self.instance_of_node(n) {
             None => false,
-            Some(page) => page.handles(n),
+            Some(one) => one.handles(n),
         }
     }
 }

@@ -1,17 +1,21 @@
 //! The instance that stands, read off the tables.
-ghost use Rattle.std.specs.Prelude.{◌≡◌, IfOk, option_map};
-ghost use Rattle.ng_drawing.specs.InstanceOf.{state_of as seen_state, instance_of};
-ghost use Rattle.ng_value.specs.Snaps.{snap_of};
-ghost use Rattle.ng_link.specs.State.{kept_in, site_state, instance_at, instance, state_of, one_of, templates_of};
+ghost use Rattle.std.specs.Prelude.{◌≡◌, IfOk, IsSome, map, option_map};
+ghost use Rattle.std.specs.List.{AllByRecursion};
+ghost use Rattle.ng_drawing.specs.Instance.{instances_from};
+ghost use Rattle.ng_drawing.specs.InstanceOf.{state_of as seen_state, instance_of as seen_instance, instances_of as seen_instances};
 ghost use Rattle.ng_template.specs.Kept.{fragments_in};
+ghost use Rattle.ng_value.specs.Snaps.{snap_of};
+ghost use Rattle.ng_link.specs.Instances.{Body as BodyOf, linked_at, read_bodies};
+ghost use Rattle.ng_link.specs.Standing.{IsIn, AreIn, IsStanding};
+ghost use Rattle.ng_link.specs.State.{body_of, outlet_of, page_of, templates_of, kept_in, site_state, site_states, nothing_linked, instance_at, instance, state_of};
 
 use crate::copying::key_on;
 use crate::looks::kept_in;
-use crate::works::{Linked, Works};
+use crate::works::{Body, Linked, OutletState, Works};
 use ng_base::fault::Memory;
-use ng_base::name::ScopeId;
-use ng_base::path::Key;
-use ng_drawing::instance::{Instance, SiteState};
+use ng_base::name::{ScopeId, TplId};
+use ng_base::path::{Key, Path};
+use ng_drawing::instance::{Instance, Instances, SiteState};
 use ng_value::copies::copied;
 use ng_value::snapshot::Snap;
 
@@ -39,32 +43,96 @@ fn site_state(works: &Works, scope: ScopeId, key: Key) -> Result<SiteState, Memo
     })
 }
 
-/// The instance that stands.
-fn instance_of(works: &Works, page: &Linked) -> Result<Instance, Memory>
-    ensures { IfOk result (λ i. instance_of (fragments_in (templates_of works.now)) i ≡ instance_at (state_of works.now).watchers (state_of works.now).resting (one_of (templates_of works.now) page.now)) }
+/// The sites of an instance.
+fn site_states(works: &Works, path: &Path, one: &Linked) -> Result<Vec<SiteState>, Memory>
+    ensures { IfOk result (λ v. map seen_state v.items ≡ site_states (state_of works.now).watchers (state_of works.now).resting (page_of path.now one.now)) }
 {
     let mut sites = Vec::new(works.alloc);
-    for serial in page.spots.keys() {
-        let key = key_on(&page.path, *serial)?;
-        sites.push(site_state(works, page.scope, key)?)?;
+    for serial in one.spots.keys() {
+        let key = key_on(path, *serial)?;
+        sites.push(site_state(works, one.scope, key)?)?;
     }
-    Ok(Instance {
-        template: page.template,
+    Ok(sites)
+}
+
+/// What is read where nothing is linked: an instance of a fragment that no template has.
+fn nothing(works: &Works) -> Instance
+    ensures { seen_instance (fragments_in (templates_of works.now)) result ≡ nothing_linked }
+{
+    Instance {
+        template: TplId(u32::MAX),
         fragment: 0,
-        scope: page.scope,
-        sites,
+        scope: ScopeId(0),
+        sites: Vec::new(works.alloc),
         outlets: Vec::new(works.alloc),
+    }
+}
+
+/// The instance on a path, with the bodies in it, whose paths are longer.
+#[cycle(instance)]
+fn instance_on(works: &Works, path: &Path) -> Result<Instance, Memory>
+    requires { IsStanding works.now }
+    ensures { IfOk result (λ i. seen_instance (fragments_in (templates_of works.now)) i ≡ instance_at (state_of works.now).watchers (state_of works.now).resting (state_of works.now).instances path.now) }
+{
+    let Some(one) = works.instances.get(path) else {
+        return Ok(nothing(works));
+    };
+    let sites = site_states(works, path, one)?;
+    let outlets = outlets_in(works, path, one.outlets.as_slice())?;
+    Ok(Instance {
+        template: one.template,
+        fragment: one.fragment,
+        scope: one.scope,
+        sites,
+        outlets,
     })
 }
 
+/// The bodies in each outlet of an instance.
+#[cycle(instance)]
+fn outlets_in(
+    works: &Works,
+    holder: &Path,
+    outlets: &[OutletState],
+) -> Result<Vec<Instances>, Memory>
+    requires stands { IsStanding works.now }
+    requires there { IsSome (linked_at holder.now (state_of works.now).instances) }
+    requires within { AreIn holder.now (map outlet_of outlets.now) }
+    ensures { IfOk result (λ v. map (seen_instances (fragments_in (templates_of works.now))) v.items ≡ map instances_from (read_bodies (instance_at (state_of works.now).watchers (state_of works.now).resting (state_of works.now).instances) (map outlet_of outlets.now))) }
+{
+    let mut all = Vec::new(works.alloc);
+    for outlet in outlets {
+        all.push(bodies_in(works, holder, outlet.bodies.as_slice())?)?;
+    }
+    Ok(all)
+}
+
+/// The bodies in an outlet of an instance.
+#[cycle(instance)]
+fn bodies_in(works: &Works, holder: &Path, bodies: &[Body]) -> Result<Instances, Memory>
+    requires stands { IsStanding works.now }
+    requires there { IsSome (linked_at holder.now (state_of works.now).instances) }
+    requires within { AllByRecursion (IsIn holder.now) (map body_of bodies.now) }
+    ensures { IfOk result (λ is. seen_instances (fragments_in (templates_of works.now)) is ≡ instances_from (map (λ (b : BodyOf). instance_at (state_of works.now).watchers (state_of works.now).resting (state_of works.now).instances b.path) (map body_of bodies.now))) }
+{
+    let mut items = Vec::new(works.alloc);
+    for body in bodies {
+        items.push(instance_on(works, &body.path)?)?;
+    }
+    Ok(Instances { items })
+}
+
 impl Works {
-    /// The instance that stands, with what its sites have kept. It is read off the tables, and its size is that of the page.
+    /// The instance that stands, with what its sites have kept and the bodies in it. It is read off the tables, and its size is that of
+    /// the page.
     pub fn instance(&self) -> Result<Option<Instance>, Memory>
-        ensures { IfOk result (λ i. option_map (instance_of (fragments_in (templates_of self.now))) i ≡ instance (state_of self.now)) }
+        requires { IsStanding self.now }
+        ensures { IfOk result (λ i. option_map (seen_instance (fragments_in (templates_of self.now))) i ≡ instance (state_of self.now)) }
     {
-        match &self.page {
-            None => Ok(None),
-            Some(page) => Ok(Some(instance_of(self, page)?)),
+        let root = Path::new(self.alloc);
+        if !self.instances.contains_key(&root) {
+            return Ok(None);
         }
+        Ok(Some(instance_on(self, &root)?))
     }
 }

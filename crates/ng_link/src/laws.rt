@@ -1,17 +1,22 @@
 //! The laws of what stands. Each function's contract is the law.
-ghost use Rattle.ng_link.specs.Laws.{PageDisplaysInstance, PageHasItsNames, ShapeDrawsParts, StandingWithCore, WatchersAreFound};
+ghost use Rattle.ng_link.specs.Laws.{BodiesChanged, PageDisplaysInstance, PageHasItsNames, ShapeDrawsParts, StandingWithCore, WatchersAreFound};
 
 /// What stands of parts is drawn as the parts are, whatever their sites show.
 pub fn shape_draws_parts()
     ensures { ShapeDrawsParts }
 {}
 
-/// A page that stands displays the drawing of its template with what its instance has kept, and nothing where none is linked.
+/// The bodies of an outlet change, and with them what stands at its anchor: one law for each kind of block.
+pub fn bodies_changed()
+    ensures { BodiesChanged }
+{}
+
+/// A page that stands displays the drawing of its instance and of the bodies in it, with what they have kept, and nothing where none is linked.
 pub fn page_displays_instance()
     ensures { PageDisplaysInstance }
 {}
 
-/// The document of a page that stands has the names that its instance says.
+/// The document of a page that stands has the names that its instances say.
 pub fn page_has_its_names()
     ensures { PageHasItsNames }
 {}

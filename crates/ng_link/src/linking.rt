@@ -1,51 +1,122 @@
-//! Linking: the order of a template's nodes, programs and numbers of registration, and what stands in the end.
-ghost use Rattle.std.specs.Prelude.{◌≡◌, ◌<◌, ◌+◌, ◌≤◌, length, map, is_ok, None, Some, Ok, true, IfOk, OnOk, IfErr};
+//! Linking: the order of a fragment's nodes, programs and numbers of registration, and what stands in the end.
+ghost use Rattle.std.specs.Prelude.{List, ◌≡◌, ◌<◌, ◌+◌, ◌≤◌, length, map, is_ok, Some, Ok, true, IfOk, OnOk, IfErr, IsSome};
+ghost use Rattle.std.specs.BTreeMap.{insert_entry};
 ghost use Rattle.std.specs.List.{AllByRecursion};
 ghost use Rattle.std.specs.List.Sorted.{IsStrictlySortedBy};
 ghost use Rattle.std.specs.Ordering.{nat_cmp};
 ghost use Rattle.ng_base.specs.Faults.{is_memory};
+ghost use Rattle.ng_base.specs.Order.{path_cmp};
+ghost use Rattle.ng_base.specs.declared.path.Key.{Key};
 ghost use Rattle.ng_behaviour.specs.ScopeObjects.{AreAmong};
-ghost use Rattle.ng_dom.specs.Document.{next_name, live_count, Shows};
-ghost use Rattle.ng_dom.specs.Drawing.{none_stand, shows};
+ghost use Rattle.ng_behaviour.specs.Scopes.{path_at};
+ghost use Rattle.ng_dom.specs.Document.{rooms, next_name, live_count};
+ghost use Rattle.ng_dom.specs.Drawing.{Stands, shows};
+ghost use Rattle.ng_dom.specs.Nodes.{names_of};
+ghost use Rattle.ng_dom.specs.Rooms.{ReadsIn};
 ghost use Rattle.ng_drawing.specs.Nodes.{nodes, node_limit};
-ghost use Rattle.ng_drawing.specs.Template.{Template};
+ghost use Rattle.ng_drawing.specs.Template.{Fragment};
+ghost use Rattle.ng_template.specs.Kept.{Named, fragment_in};
 ghost use Rattle.ng_template.specs.Seen.{parts_of};
-ghost use Rattle.ng_link.specs.Building.{unset, HomedAll};
-ghost use Rattle.ng_link.specs.Calls.{placed_on};
+ghost use Rattle.ng_link.specs.Building.{unset, parent_name, IsThere, IsPut, IsStood};
+ghost use Rattle.ng_link.specs.Calls.{taken_in, placed_on};
 ghost use Rattle.ng_link.specs.Linking.{steps, site_count};
+ghost use Rattle.ng_link.specs.PlaceOf.{place_of, IsFree, spot_for};
+ghost use Rattle.ng_link.specs.Placing.{IsPrepared};
 ghost use Rattle.ng_link.specs.Shape.{keys_in, shape, unfilled, holes, linked};
-ghost use Rattle.ng_link.specs.Sources.{sources};
-ghost use Rattle.ng_link.specs.Standing.{Standing, IsStanding};
-ghost use Rattle.ng_link.specs.State.{state_of, templates_of, template_at};
+ghost use Rattle.ng_link.specs.Standing.{IsStanding};
+ghost use Rattle.ng_link.specs.State.{instances_of, spot_in, state_of, templates_of, live_nodes};
 ghost use Rattle.ng_link.specs.StepOf.{step_of};
 
 use crate::building::build_parts;
 use crate::counting::is_too_large;
 use crate::handling::enter_parts;
 use crate::ordering::{LinkStep, add_parts};
+use crate::outlets::{are_anchored, outlet_in, outlets_of, take_in};
 use crate::placing::{spots_of, watch_all};
 use crate::works::{Linked, Works};
 use ng_base::fault::{Fault, Memory};
-use ng_base::name::{ScopeId, TplId};
+use ng_base::name::{NodeId, ScopeId, Serial, TplId};
 use ng_base::path::Path;
 use ng_dom::dom::Dom;
+use ng_dom::record::Group;
 use ng_template::Parts;
 use std::alloc::Global;
 use std::collections::BTreeMap;
 
-/// Parts become the whole document. The answer is the node of each site.
-fn link_document(
+/// Where an instance stands: it is the page's, or a body in an outlet of the instance on a path.
+#[derive(Drop)]
+pub enum Place {
+    Top,
+    Outlet(Path, usize),
+}
+
+/// Where the nodes of an instance are built: at the top, or under the anchor of an outlet after so many bodies.
+#[derive(Drop)]
+struct Spot {
+    parent: Option<NodeId>,
+    after: u32,
+}
+
+/// The place after as many bodies.
+fn place_after(count: usize) -> Result<u32, Memory>
+    ensures { IfOk result (λ n. n ≡ count) }
+{
+    if count < 4_294_967_295 {
+        Ok(count as u32)
+    } else {
+        Err(Memory::Worn)
+    }
+}
+
+/// Where the nodes of an instance are built.
+fn spot_for(instances: &BTreeMap<Path, Linked>, place: &Place) -> Result<Spot, Memory>
+    ensures { (all : List Named) → IfOk result (λ s. (parent_name s.parent, s.after) ≡ spot_for (place_of place.now) (instances_of all instances.now.entries)) }
+{
+    let found = match place {
+        Place::Top => None,
+        Place::Outlet(holder, outlet) => outlet_in(instances, holder, *outlet),
+    };
+    match found {
+        None => Ok(Spot {
+            parent: None,
+            after: 0,
+        }),
+        Some(state) => Ok(Spot {
+            parent: Some(NodeId {
+                slot: 0,
+                made: Serial(state.anchor),
+            }),
+            after: place_after(state.bodies.len())?,
+        }),
+    }
+}
+
+/// What was built apart stands.
+fn stand_at(dom: &mut Dom, spot: &Spot, group: Group) -> Result<(), Memory>
+    ensures { OnOk result ((ts : Stands) → names_of (shows unset ts) ≡ group.nodes.items → ReadsIn (rooms dom.old) (parent_name spot.now.parent) (shows unset ts) → IsPut (parent_name spot.now.parent) spot.now.after ts dom.old dom.new) }
+{
+    match spot.parent {
+        None => {
+            dom.show(group);
+            Ok(())
+        }
+        Some(anchor) => dom.insert_group(anchor, spot.after, group),
+    }
+}
+
+/// The nodes of parts stand. The answer is the node of each site.
+fn link_nodes(
     alloc: Global,
     dom: &mut Dom,
+    spot: &Spot,
     path: &Path,
     serials: &[u64],
     parts: &Parts,
 ) -> Result<Vec<u64>, Fault>
+    requires there { IsThere dom.old spot.now.parent }
     requires room { live_count dom.old + nodes (parts_of parts.now) ≤ node_limit }
-    ensures shows { OnOk result (Shows dom.new (shows unset (shape (keys_in path.now serials.now) (next_name dom.old) unfilled (parts_of parts.now)))) }
-    ensures homed { OnOk result (HomedAll (sources dom.new) (shape (keys_in path.now serials.now) (next_name dom.old) unfilled (parts_of parts.now))) }
+    ensures stood { OnOk result (IsStood (parent_name spot.now.parent) spot.now.after (shape (keys_in path.now serials.now) (next_name dom.old) unfilled (parts_of parts.now)) (nodes (parts_of parts.now)) dom.old dom.new) }
     ensures holes { IfOk result (λ h. h.items ≡ holes (next_name dom.old) (parts_of parts.now)) }
-    ensures next { OnOk result (next_name dom.new ≡ next_name dom.old + nodes (parts_of parts.now)) }
     ensures faults { IfErr result (λ e. is_memory e ≡ true) }
 {
     let mut spots = Vec::new(alloc);
@@ -55,77 +126,154 @@ fn link_document(
         path,
         serials,
         &mut spots,
-        None,
+        spot.parent,
         parts.as_slice(),
     )?;
-    dom.show(group);
+    stand_at(dom, spot, group)?;
     Ok(spots)
 }
 
 impl Works {
-    /// The order in which a template is linked.
-    pub fn link_order(&self, t: TplId) -> Result<Vec<LinkStep>, Memory>
-        requires template { t.0 < length (templates_of self.now) }
-        ensures { (tpl : Template) → template_at (templates_of self.now) t.0 ≡ Some tpl → IfOk result (λ v. map step_of v.items ≡ steps tpl.own.parts) }
+    /// The order in which a fragment is linked.
+    pub fn link_order(&self, t: TplId, n: u32) -> Result<Vec<LinkStep>, Memory>
+        ensures { (f : Fragment) → fragment_in (templates_of self.now) t.0 n ≡ Some f → IfOk result (λ v. map step_of v.items ≡ steps f.parts) }
     {
         let mut order = Vec::new(self.alloc);
-        let own = self.templates.get(t).own();
-        add_parts(&mut order, self.alloc, own.parts().as_slice())?;
+        if let Some(fragment) = self.templates.fragment(t, n) {
+            add_parts(&mut order, self.alloc, fragment.parts().as_slice())?;
+        }
         Ok(order)
     }
 
-    /// Whether the nodes of a template find room.
-    pub fn has_room(&self, t: TplId) -> bool
-        requires template { t.0 < length (templates_of self.now) }
-        ensures { (tpl : Template) → template_at (templates_of self.now) t.0 ≡ Some tpl → is_ok (linked 0 tpl.own.parts) ≡ result }
+    /// How many nodes stand.
+    pub fn live_nodes(&self) -> usize
+        requires stands { IsStanding self.now }
+        ensures { result ≡ live_nodes (state_of self.now) }
     {
-        !is_too_large(self.templates.get(t).own().parts())
+        self.dom.live()
     }
 
-    /// A template whose sites have these numbers of registration becomes the page's on a scope: its sites are watched, its nodes are
-    /// the document, and its instance is the page's (guide: HTML Compiler, "How directives are compiled"). Whatever is linked is
-    /// linked at the top of an empty document today.
-    pub fn place(&mut self, t: TplId, scope: ScopeId, serials: &[u64]) -> Result<(), Fault>
-        requires template { t.0 < length (templates_of self.old) }
+    /// Whether the nodes of a fragment find room beside those that stand.
+    pub fn has_room(&self, t: TplId, n: u32) -> bool
+        requires stands { IsStanding self.now }
+        ensures { (f : Fragment) → fragment_in (templates_of self.now) t.0 n ≡ Some f → is_ok (linked (live_nodes (state_of self.now)) f.parts) ≡ result }
+    {
+        match self.templates.fragment(t, n) {
+            None => true,
+            Some(fragment) => !is_too_large(self.live_nodes() as u64, fragment.parts()),
+        }
+    }
+
+    /// A fragment whose sites have these numbers of registration stands at a place on a scope: its sites are watched, its nodes stand, and
+    /// its instance is noted (guide: HTML Compiler, "How directives are compiled").
+    pub fn place(
+        &mut self,
+        place: &Place,
+        t: TplId,
+        n: u32,
+        scope: ScopeId,
+        serials: &[u64],
+    ) -> Result<(), Fault>
+        requires template { IsSome (fragment_in (templates_of self.old) t.0 n) }
         requires scope { scope.0 < length (state_of self.old).core.scopes }
         requires objects { AreAmong (length (state_of self.old).core.objects) (state_of self.old).core.scopes }
-        requires bare { (state_of self.old).linked ≡ None }
-        requires stands { Standing self.old none_stand }
-        requires room { (tpl : Template) → template_at (templates_of self.old) t.0 ≡ Some tpl → linked 0 tpl.own.parts ≡ Ok tt }
+        requires free { IsFree (place_of place.now) (path_at (state_of self.old).core.scopes scope.0) (state_of self.old) }
+        requires stands { IsStanding self.old }
+        requires room { (f : Fragment) → fragment_in (templates_of self.old) t.0 n ≡ Some f → linked (live_nodes (state_of self.old)) f.parts ≡ Ok tt }
         requires rising { IsStrictlySortedBy nat_cmp serials.now }
         requires below { AllByRecursion (λ n. n < (state_of self.old).core.serial) serials.now }
-        requires count { (tpl : Template) → template_at (templates_of self.old) t.0 ≡ Some tpl → length serials.now ≡ site_count (steps tpl.own.parts) }
-        ensures state { OnOk result ((tpl : Template) → template_at (templates_of self.old) t.0 ≡ Some tpl → state_of self.new ≡ placed_on t.0 scope.0 tpl serials.now (state_of self.old)) }
+        requires count { (f : Fragment) → fragment_in (templates_of self.old) t.0 n ≡ Some f → length serials.now ≡ site_count (steps f.parts) }
+        ensures state { OnOk result ((f : Fragment) → fragment_in (templates_of self.old) t.0 n ≡ Some f → state_of self.new ≡ placed_on (place_of place.now) (t.0, n) scope.0 f serials.now (state_of self.old)) }
         ensures core { OnOk result (self.new.core ≡ self.old.core) }
         ensures stands { OnOk result (IsStanding self.new) }
         ensures templates { templates_of self.new ≡ templates_of self.old }
         ensures faults { IfErr result (λ e. is_memory e ≡ true) }
     {
-        let tpl = self.templates.get(t);
-        let own = tpl.own();
+        let _all_stand = self.dom.live();
         let path = self.core.scopes.path(scope).copied()?;
-        let object = self.core.scopes.object(scope);
+        let spot = spot_for(&self.instances, place)?;
+        let one = self.build(&spot, t, n, scope, &path, serials)?;
+        self.note(place, path, one)?;
+        Ok(())
+    }
+
+    /// The nodes of a fragment stand, and its sites are watched. The answer is its instance, which is to be noted.
+    fn build(
+        &mut self,
+        spot: &Spot,
+        t: TplId,
+        n: u32,
+        scope: ScopeId,
+        path: &Path,
+        serials: &[u64],
+    ) -> Result<Linked, Fault>
+        requires template { IsSome (fragment_in (templates_of self.old) t.0 n) }
+        requires scope { scope.0 < length (state_of self.old).core.scopes }
+        requires there { IsThere self.old.dom spot.now.parent }
+        requires room { (f : Fragment) → fragment_in (templates_of self.old) t.0 n ≡ Some f → live_count self.old.dom + nodes f.parts ≤ node_limit }
+        requires rising { IsStrictlySortedBy nat_cmp serials.now }
+        requires count { (f : Fragment) → fragment_in (templates_of self.old) t.0 n ≡ Some f → length serials.now ≡ site_count (steps f.parts) }
+        ensures built { IfOk result (λ i. (f : Fragment) → fragment_in (templates_of self.old) t.0 n ≡ Some f → IsPrepared (t.0, n) scope.0 path.now serials.now f (parent_name spot.now.parent, spot.now.after) self.old self.new i) }
+        ensures rest { self.new ≡ record self.old { dom = self.new.dom; watchers = self.new.watchers } }
+        ensures faults { IfErr result (λ e. is_memory e ≡ true) }
+    {
+        let tpl = self.templates.get(t);
+        let _in_order = tpl.own();
+        let Some(fragment) = tpl.fragment(n) else {
+            unreachable!();
+        };
         let node = self.dom.next_name();
         let mut handlers = BTreeMap::new(self.alloc);
-        enter_parts(self.alloc, &mut handlers, node, own.parts().as_slice())?;
-        let nodes = link_document(self.alloc, &mut self.dom, &path, serials, own.parts())?;
+        enter_parts(self.alloc, &mut handlers, node, fragment.parts().as_slice())?;
+        let outlets = outlets_of(self.alloc, t, serials, fragment, node)?;
+        let nodes = link_nodes(
+            self.alloc,
+            &mut self.dom,
+            spot,
+            path,
+            serials,
+            fragment.parts(),
+        )?;
+        let object = self.core.scopes.object(scope);
         watch_all(
             &mut self.watchers,
             self.alloc,
-            &path,
+            path,
             object,
             serials,
-            own.sites(),
+            fragment.sites(),
         )?;
         let spots = spots_of(self.alloc, serials, nodes.as_slice())?;
-        self.page = Some(Linked {
+        if !are_anchored(outlets.as_slice(), &spots) {
+            return Err(Fault::Memory(Memory::Worn));
+        }
+        Ok(Linked {
             template: t,
+            fragment: n,
             scope,
-            path,
             spots,
             node,
             handlers,
-        });
-        Ok(())
+            outlets,
+        })
+    }
+
+    /// An instance is noted under its path, and its path under the name of its first node; a body stands in its outlet.
+    fn note(&mut self, place: &Place, path: Path, one: Linked) -> Result<(), Fault>
+        ensures instances { OnOk result ((all : List Named) → instances_of all self.new.instances.entries ≡ taken_in (place_of place.now) path (instances_of all (insert_entry path_cmp self.old.instances.entries path one))) }
+        ensures spots { OnOk result ((k : Key) → spot_in self.new.instances.entries k ≡ spot_in (insert_entry path_cmp self.old.instances.entries path one) k) }
+        ensures owners { OnOk result (self.new.owners.entries ≡ insert_entry nat_cmp self.old.owners.entries one.node path) }
+        ensures rest { self.new ≡ record self.old { instances = self.new.instances; owners = self.new.owners } }
+        ensures faults { IfErr result (λ e. is_memory e ≡ true) }
+    {
+        let _ = self.owners.insert(one.node, path.copied()?)?;
+        let copy = path.copied()?;
+        let _ = self.instances.insert(path, one)?;
+        match place {
+            Place::Top => Ok(()),
+            Place::Outlet(holder, outlet) => {
+                Ok(take_in(&mut self.instances, holder, *outlet, copy)?)
+            }
+        }
     }
 }

@@ -1,5 +1,5 @@
 //! The order of linking.
-ghost use Rattle.std.specs.Prelude.{◌≡◌, ◌++◌, map, IfOk, OnOk};
+ghost use Rattle.std.specs.Prelude.{◌≡◌, ◌++◌, map, OnOk};
 ghost use Rattle.ng_drawing.specs.Template.{parts_from};
 ghost use Rattle.ng_parse.specs.ProgramOf.{program};
 ghost use Rattle.ng_template.specs.PieceOf.{piece_of as seen_piece};

@@ -6,7 +6,8 @@ ghost use Rattle.ng_template.specs.SiteOf.{site_of};
 ghost use Rattle.ng_watch.specs.Seen.{watching_of};
 ghost use Rattle.ng_watch.specs.Table.{watchers_of, with_watch};
 ghost use Rattle.ng_link.specs.Rows.{watch_kind, watching_site, with_sites, spots_by};
-ghost use Rattle.ng_link.specs.State.{page_of, linked_of, is_site_of, is_site, spot_at, spot_in};
+ghost use Rattle.ng_link.specs.Instances.{is_site};
+ghost use Rattle.ng_link.specs.State.{instances_of, spot_in};
 
 use crate::copying::key_on;
 use crate::works::Linked;
@@ -20,47 +21,26 @@ use ng_watch::watchers::Watchers;
 use std::alloc::Global;
 use std::collections::BTreeMap;
 
-impl Linked {
-    /// Whether a key is that of one of these sites.
-    pub(crate) fn has(&self, key: &Key) -> bool
-        ensures { result ≡ is_site_of (page_of self.now) key.now }
-    {
-        self.path == key.path && self.spots.contains_key(&key.serial.0)
-    }
-
-    /// The node that the site of a key is drawn in.
-    fn spot(&self, key: &Key) -> Option<NodeId>
-        ensures { option_map (λ n. n.made.0) result ≡ spot_at self.now key.now }
-    {
-        if self.path != key.path {
-            return None;
-        }
-        let n = self.spots.get(&key.serial.0)?;
-        Some(NodeId {
-            slot: 0,
-            made: Serial(*n),
-        })
-    }
-}
-
 /// Whether a key is that of a site of what is linked.
-pub(crate) fn is_site(page: &Option<Linked>, key: &Key) -> bool
-    ensures { (all : List Named) → result ≡ is_site (linked_of all page.now) key.now }
+pub(crate) fn is_site(instances: &BTreeMap<Path, Linked>, key: &Key) -> bool
+    ensures { (all : List Named) → result ≡ is_site (instances_of all instances.now.entries) key.now }
 {
-    match page {
+    match instances.get(&key.path) {
         None => false,
-        Some(p) => p.has(key),
+        Some(one) => one.spots.contains_key(&key.serial.0),
     }
 }
 
 /// The node that the site of a key is drawn in, where it is one of what is linked.
-pub(crate) fn spot_in(page: &Option<Linked>, key: &Key) -> Option<NodeId>
-    ensures { option_map (λ n. n.made.0) result ≡ spot_in page.now key.now }
+pub(crate) fn spot_in(instances: &BTreeMap<Path, Linked>, key: &Key) -> Option<NodeId>
+    ensures { option_map (λ n. n.made.0) result ≡ spot_in instances.now.entries key.now }
 {
-    match page {
-        None => None,
-        Some(p) => p.spot(key),
-    }
+    let one = instances.get(&key.path)?;
+    let n = one.spots.get(&key.serial.0)?;
+    Some(NodeId {
+        slot: 0,
+        made: Serial(*n),
+    })
 }
 
 /// What a watcher keeps of the value of a site.

@@ -8,9 +8,10 @@ ghost use Rattle.ng_template.specs.Kept.{Named};
 ghost use Rattle.ng_value.specs.Snaps.{snap_of};
 ghost use Rattle.ng_watch.specs.Keys.{key_cmp, begins};
 ghost use Rattle.ng_watch.specs.Table.{watchers_of};
+ghost use Rattle.ng_link.specs.Instances.{is_site};
 ghost use Rattle.ng_link.specs.Calls.{rested, left_at, ended_at};
 ghost use Rattle.ng_link.specs.Standing.{Standing, WatchersStand};
-ghost use Rattle.ng_link.specs.State.{is_site, linked_of, resting_of, declared_of, state_of, templates_of};
+ghost use Rattle.ng_link.specs.State.{instances_of, resting_of, declared_of, state_of, templates_of};
 
 use crate::placing::is_site;
 use crate::works::{Linked, Listener, Works};
@@ -22,15 +23,15 @@ use std::collections::BTreeMap;
 
 /// A site whose watcher was taken out rests with what that had kept.
 fn rest(
-    page: &Option<Linked>,
+    instances: &BTreeMap<Path, Linked>,
     resting: &mut BTreeMap<Key, Option<Snap>>,
     key: Key,
     kept: Option<Snap>,
 ) -> Result<(), Memory>
-    ensures rested { (all : List Named) → OnOk result (resting_of resting.new.entries ≡ (if is_site (linked_of all page.now) key then insert_entry key_cmp (resting_of resting.old.entries) key (option_map snap_of kept) else resting_of resting.old.entries)) }
+    ensures rested { (all : List Named) → OnOk result (resting_of resting.new.entries ≡ (if is_site (instances_of all instances.now.entries) key then insert_entry key_cmp (resting_of resting.old.entries) key (option_map snap_of kept) else resting_of resting.old.entries)) }
     ensures refused { IfErr result (λ e. e ≡ Memory.Refused) }
 {
-    if is_site(page, &key) {
+    if is_site(instances, &key) {
         resting.insert(key, kept)?;
     }
     Ok(())
@@ -38,23 +39,23 @@ fn rest(
 
 /// Sites whose watchers were taken out rest, one after another.
 fn rest_all(
-    page: &Option<Linked>,
+    instances: &BTreeMap<Path, Linked>,
     resting: &mut BTreeMap<Key, Option<Snap>>,
     rows: Vec<(Key, Watched)>,
 ) -> Result<(), Memory>
-    ensures rested { (all : List Named) → OnOk result (resting_of resting.new.entries ≡ rested (linked_of all page.now) (watchers_of rows.items) (resting_of resting.old.entries)) }
+    ensures rested { (all : List Named) → OnOk result (resting_of resting.new.entries ≡ rested (instances_of all instances.now.entries) (watchers_of rows.items) (resting_of resting.old.entries)) }
     ensures refused { IfErr result (λ e. e ≡ Memory.Refused) }
 {
     let mut left = rows.into_iter();
     while let Some((key, watched)) = left.next() {
         let Watched { kept, .. } = watched;
-        rest(page, resting, key, kept)?;
+        rest(instances, resting, key, kept)?;
     }
     Ok(())
 }
 
 /// Whether a path begins with another.
-fn begins(u: &[u32], p: &[u32]) -> bool
+pub(crate) fn begins(u: &[u32], p: &[u32]) -> bool
     ensures { result ≡ begins u.now p.now }
 {
     match u.split_first() {
@@ -85,7 +86,7 @@ impl Works {
     {
         let _ = self.watchers.count();
         let rows = self.watchers.take_under(self.alloc, p)?;
-        rest_all(&self.page, &mut self.resting, rows)?;
+        rest_all(&self.instances, &mut self.resting, rows)?;
         leave_listeners(&mut self.declared, p);
         Ok(())
     }
@@ -100,7 +101,7 @@ impl Works {
     {
         let _ = self.watchers.count();
         let rows = self.watchers.take_over(self.alloc, &self.core.store)?;
-        rest_all(&self.page, &mut self.resting, rows)?;
+        rest_all(&self.instances, &mut self.resting, rows)?;
         Ok(())
     }
 }

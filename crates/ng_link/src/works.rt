@@ -1,11 +1,12 @@
 //! The works of a page: the core, the templates, what stands of them, and the watchers.
-ghost use Rattle.std.specs.Prelude.{◌≡◌, [], None, option_map};
+ghost use Rattle.std.specs.Prelude.{◌≡◌, None, option_map};
 ghost use Rattle.std.specs.Map.{lookup};
 ghost use Rattle.ng_act.specs.Frames.{state_of as core_state, held, IsSound};
 ghost use Rattle.ng_act.specs.State.{with_fault};
 ghost use Rattle.ng_watch.specs.Keys.{is_key};
 ghost use Rattle.ng_link.specs.Calls.{blank, with_core};
-ghost use Rattle.ng_link.specs.State.{page_of, listening_of, is_site, state_of, templates_of};
+ghost use Rattle.ng_link.specs.Instances.{is_site};
+ghost use Rattle.ng_link.specs.State.{listening_of, state_of, templates_of};
 ghost use Rattle.ng_link.specs.Standing.{Standing};
 ghost use Rattle.ng_link.specs.Untroubled.{untroubled};
 ghost use Rattle.ng_dom.specs.Drawing.{Stands, none_stand};
@@ -18,27 +19,41 @@ use ng_base::name::{ScopeId, TplId};
 use ng_base::path::{Key, Path};
 use ng_dom::dom::Dom;
 use ng_parse::Program;
-use ng_template::Templates;
 use ng_template::acts::Handler;
+use ng_template::{Filling, Templates};
 use ng_value::snapshot::Snap;
 use ng_watch::watchers::Watchers;
 use std::alloc::Global;
 use std::collections::BTreeMap;
 
-/// An instance by its name. The page's is 0.
-#[derive(Clone, Copy, Debug, PartialEq, Eq, Drop)]
-pub struct InstId(pub u32);
+/// A body of a block, by the path of its scope.
+#[derive(Drop)]
+pub struct Body {
+    pub(crate) path: Path,
+}
 
-/// An instance that stands. The keys of its sites have this path. Under the number of registration of each site there is the name
-/// of the node that it is drawn in. The names of its nodes rise from `node` on, and its handlers stand by these.
+/// An outlet that stands: the number of registration of its site; how it is filled, and the template that has the bodies; the name of its
+/// anchor's node; and its bodies in order.
+#[derive(Drop)]
+pub struct OutletState {
+    pub(crate) serial: u64,
+    pub(crate) template: TplId,
+    pub(crate) filling: Filling,
+    pub(crate) anchor: u64,
+    pub(crate) bodies: Vec<Body>,
+}
+
+/// An instance that stands, of a fragment of a template. Under the number of registration of each site there is the name of the node
+/// that it is drawn in. The names of its nodes rise from `node` on, and its handlers stand by these.
 #[derive(Drop)]
 pub struct Linked {
     pub(crate) template: TplId,
+    pub(crate) fragment: u32,
     pub(crate) scope: ScopeId,
-    pub(crate) path: Path,
     pub(crate) spots: BTreeMap<u64, u64>,
     pub(crate) node: u64,
     pub(crate) handlers: BTreeMap<u64, Vec<Handler>>,
+    pub(crate) outlets: Vec<OutletState>,
 }
 
 /// The program that a declared watch runs, and the scope that it runs on.
@@ -48,8 +63,9 @@ pub struct Listener {
     pub program: Program,
 }
 
-/// The works of a page. Nodes stand by name and watchers by key. A site that rests has what it had kept, and a declared watch its
-/// listener. The core is all that programs change.
+/// The works of a page. Nodes stand by name, watchers by key and instances by the paths of their scopes; under the name of the first node
+/// of each instance stands its path. A site that rests has what it had kept, and a declared watch its listener. The core is all that
+/// programs change.
 #[derive(Drop)]
 pub struct Works {
     pub(crate) alloc: Global,
@@ -57,16 +73,17 @@ pub struct Works {
     pub(crate) watchers: Watchers,
     pub(crate) dom: Dom,
     pub(crate) resting: BTreeMap<Key, Option<Snap>>,
-    pub declared: BTreeMap<Key, Listener>,
+    pub(crate) declared: BTreeMap<Key, Listener>,
     pub(crate) templates: Templates,
-    pub(crate) page: Option<Linked>,
+    pub(crate) instances: BTreeMap<Path, Linked>,
+    pub(crate) owners: BTreeMap<u64, Path>,
 }
 
 impl Works {
     /// The works over a core and templates, of which none is linked.
     pub fn new(alloc: Global, core: Core, templates: Templates) -> Works
         ensures core { result.core ≡ core }
-        ensures state { state_of result ≡ blank (core_state core) }
+        ensures state { state_of result ≡ blank (kept_templates templates) (core_state core) }
         ensures templates { templates_of result ≡ kept_templates templates }
         ensures stands { Standing result none_stand }
     {
@@ -78,7 +95,8 @@ impl Works {
             resting: BTreeMap::new(alloc),
             declared: BTreeMap::new(alloc),
             templates,
-            page: None,
+            instances: BTreeMap::new(alloc),
+            owners: BTreeMap::new(alloc),
         }
     }
 
@@ -129,18 +147,11 @@ impl Works {
         &self.templates
     }
 
-    /// The instance that stands, as its template and the keys of its sites.
-    pub fn page(&self) -> Option<&Linked>
-        ensures { option_map (λ p. page_of p.now) result ≡ option_map (λ l. l.page) (state_of self.now).linked }
-    {
-        self.page.as_ref()
-    }
-
     /// Whether a key is that of a site of what is linked. Every other watcher is a declared watch.
     pub fn is_site(&self, key: &Key) -> bool
-        ensures { result ≡ is_site (state_of self.now).linked key.now }
+        ensures { result ≡ is_site (state_of self.now).instances key.now }
     {
-        is_site(&self.page, key)
+        is_site(&self.instances, key)
     }
 
     /// The listener of a declared watch.

@@ -1,6 +1,6 @@
--- What programs never take back: a fault that was handed over stays, each scope keeps its object, no number of registration is
--- given anew, and no object is lost. Events keep it.
-use Rattle.std.proofs.Common.{◌≡◌, ◌≤◌, ◌+◌, arith, ℕ, zero, suc, Bool, true, false, if◌then◌else◌, List, [], ◌∷◌, length, Option, Some, None, Result, Ok, Err, refl, ◌∙◌}
+-- What programs never take back: a fault that was handed over stays, each scope keeps its path and its object, no number of registration
+-- is given anew, and no object is lost. Events keep it.
+use Rattle.std.proofs.Common.{◌≡◌, ◌≤◌, ◌+◌, arith, ℕ, zero, suc, Bool, true, false, if◌then◌else◌, List, [], ◌∷◌, length, Option, Some, None, Result, Ok, Err, refl}
 use Rattle.std.specs.Prelude.{codes, is_some}
 use Rattle.ng_act.specs.declared.core_state.Handed.{Handed}
 use Rattle.ng_base.specs.Views.{ViewTree}
@@ -8,10 +8,10 @@ use Rattle.ng_base.specs.declared.value.Value.{Value}
 use Rattle.ng_base.specs.declared.fault.Fault.{Fault}
 use Rattle.ng_behaviour.specs.Listeners.{Listener, heard_at, place_of}
 use Rattle.ng_behaviour.specs.Scopes.{Scope, live_at, next_scope, object_at, parent_at, path_at, without_scope}
-use Rattle.ng_behaviour.proofs.Dying.{dead-keeps}
 use Rattle.ng_act.specs.Actions.{Doing, Asked, a_body, a_broadcast, Event, turned, takes_turn, listener_at, turns, upfrom, visited, visits, shows_current, event_locals, object_value, rises, sweeps, next_then, hushed, hushes, deadened, buried, destroys, many}
 use Rattle.ng_act.proofs.Grows.{named-grows}
 use Rattle.ng_act.specs.State.{State, handed, handed_over, first_or, with_change, leaves, is_stopped}
+use Rattle.ng_page.proofs.ScopesStay.{ScopesStay, scopes_refl, scopes_trans, scopes_die}
 
 -- the faults that were handed over, the scopes, the next number of registration, and how many objects there are
 pub record Part : Type 0 where
@@ -25,17 +25,17 @@ part s = record { faults = s.handed; scopes = s.scopes; serial = s.serial; count
 
 pub record Stays (x y : Part) : Type 0 where
   pub some : is_some x.faults.first ≡ true → is_some y.faults.first ≡ true
-  pub objects : (s : ℕ) → object_at y.scopes s ≡ object_at x.scopes s
+  pub scopes : ScopesStay x.scopes y.scopes
   pub serial : x.serial ≤ y.serial
   pub grown : x.count ≤ y.count
 
 pub stays_refl : (x : Part) → Stays x x
-stays_refl x = record { some = λ h. h; objects = λ s. refl; serial = omega arith; grown = omega arith }
+stays_refl x = record { some = λ h. h; scopes = scopes_refl x.scopes; serial = omega arith; grown = omega arith }
 
 pub stays_trans : (x y z : Part) → Stays x y → Stays y z → Stays x z
 stays_trans x y z a b = record {
   some = λ h. b.some (a.some h);
-  objects = λ s. b.objects s ∙ a.objects s;
+  scopes = scopes_trans x.scopes y.scopes z.scopes a.scopes b.scopes;
   serial = let m : x.serial ≤ y.serial = a.serial in let n : y.serial ≤ z.serial = b.serial in omega arith;
   grown = let m : x.count ≤ y.count = a.grown in let n : y.count ≤ z.count = b.grown in omega arith;
 }
@@ -45,23 +45,22 @@ some_first None f = refl
 some_first (Some e) f = refl
 
 pub fault_stays : (f : Fault) (x : Part) → Stays x (record { faults = handed_over f x.faults; scopes = x.scopes; serial = x.serial; count = x.count })
-fault_stays f x = record { some = λ h. some_first x.faults.first f; objects = λ s. refl; serial = omega arith; grown = omega arith }
+fault_stays f x = record { some = λ h. some_first x.faults.first f; scopes = scopes_refl x.scopes; serial = omega arith; grown = omega arith }
 
 -- a number of registration is given
 pub number_stays : (x : Part) → Stays x (record { faults = x.faults; scopes = x.scopes; serial = x.serial + 1; count = x.count })
-number_stays x = record { some = λ h. h; objects = λ s. refl; serial = omega arith; grown = omega arith }
+number_stays x = record { some = λ h. h; scopes = scopes_refl x.scopes; serial = omega arith; grown = omega arith }
 
 -- objects are made or written
 pub objects_stay : (x : Part) (n : ℕ) → x.count ≤ n → Stays x (record { faults = x.faults; scopes = x.scopes; serial = x.serial; count = n })
-objects_stay x n h = record { some = λ i. i; objects = λ s. refl; serial = omega arith; grown = h }
+objects_stay x n h = record { some = λ i. i; scopes = scopes_refl x.scopes; serial = omega arith; grown = h }
+
+-- scopes are made, or die
+pub scopes_stay : (x : Part) (t : List Scope) → ScopesStay x.scopes t → Stays x (record { faults = x.faults; scopes = t; serial = x.serial; count = x.count })
+scopes_stay x t h = record { some = λ i. i; scopes = h; serial = omega arith; grown = omega arith }
 
 dead_stays : (scope : ℕ) (x : Part) → Stays x (record { faults = x.faults; scopes = without_scope x.scopes scope; serial = x.serial; count = x.count })
-dead_stays scope x = record {
-  some = λ h. h;
-  objects = λ s. dead-keeps (λ (c : Scope). c.object) (path_at x.scopes scope) x.scopes s (λ c. refl);
-  serial = omega arith;
-  grown = omega arith;
-}
+dead_stays scope x = scopes_stay x (without_scope x.scopes scope) (scopes_die scope x.scopes)
 
 -- the scope that an event has reached is written in it
 pub current_stays : (e : Event) (v : Value) (s : State) → Stays (part s) (part (shows_current e v s))
@@ -131,7 +130,7 @@ hushes_stay (suc k) top last s =
     next_stay (next_scope s.scopes (path_at s.scopes last) (path_at s.scopes top)) s (λ sc. hushes k top sc (hushed sc s))
     (λ sc. stays_trans (part s) (part (hushed sc s)) (part (hushes k top sc (hushed sc s))) (stays_refl (part s)) (hushes_stay k top sc (hushed sc s)))
 
-buried_stay : (sc : ℕ) (s : State) → Stays (part s) (part (buried sc s))
+pub buried_stay : (sc : ℕ) (s : State) → Stays (part s) (part (buried sc s))
 buried_stay sc s =
     let t : State = hushed sc (with_change (leaves sc) s) in
     let u : State = hushes (many s) sc sc t in

@@ -45,3 +45,12 @@ module _ {S K : Type 0} (m : Machine S K) (P : S → Type 0) (each : KeepsEach m
   digest_keeps (plain_infdig {p = p} rs) h = each.fails p.state (rounds rs h)
   digest_keeps (plain_fire_limit {p = p} rs) h = each.fails p.state (rounds rs h)
   digest_keeps (plain_async_limit {p = p} rs) h = each.fails p.state (rounds rs h)
+
+-- what the rounds keep, the end of a digest may turn into more
+module _ {S K : Type 0} (m : Machine S K) (P Q : S → Type 0) (each : KeepsEach m P) (settles : (s : S) → P s → Q (m.settled s)) (fails : (s : S) → P s → Q (m.failed s)) where
+  pub digest_ends : {s : S} {r : Result (ℕ × ℕ) DigestFault} {p : Plain S} → PlainDigests m s r p → P s → Q p.state
+  digest_ends (plain_ok {p = p} rs n) h = settles p.state (rounds m P each rs h)
+  digest_ends (plain_faulted {p = p} rs n) h = settles p.state (rounds m P each rs h)
+  digest_ends (plain_infdig {p = p} rs) h = fails p.state (rounds m P each rs h)
+  digest_ends (plain_fire_limit {p = p} rs) h = fails p.state (rounds m P each rs h)
+  digest_ends (plain_async_limit {p = p} rs) h = fails p.state (rounds m P each rs h)

@@ -1,107 +1,150 @@
--- A page right after its template was linked: what holds of its works, and that its sites are watched.
-use Rattle.std.proofs.Common.{◌≡◌, ℕ, suc, Bool, true, false, List, [], ◌∷◌, ◌++◌, length, cond, Option, None, Some, Ok, refl, ap, sym, subst, ◌∙◌, slice_get, arith}
-use Rattle.std.proofs.lemmas.Cmp.{tied_itself}
+-- A page right after its template was linked: its sites are watched, and nothing has been kept.
+use Rattle.std.proofs.Common.{◌≡◌, ◌<◌, ◌+◌, ◌-◌, ℕ, zero, suc, Bool, true, false, cond, slice_get, List, [], ◌∷◌, ◌++◌, length, Option, None, Some, Result, Ok, Err, refl, ap, subst, sym, ◌∙◌, arith}
+use Rattle.std.specs.Prelude.{option_map, option_and_then, is_ok, nat_lt, IsSome}
 use Rattle.std.specs.List.{AllByRecursion}
 use Rattle.std.specs.List.Sorted.{IsStrictlySortedBy}
-use Rattle.std.specs.Map.{lookup, keys_of}
-use Rattle.std.specs.Ordering.{nat_cmp}
-use Rattle.std.specs.declared.cmp.Ordering.TheVariants.{Less, Equal}
-use Rattle.ng_base.specs.declared.path.Key.{Key}
-use Rattle.ng_behaviour.specs.Scopes.{object_at, path_at, live_at}
-use Rattle.ng_dom.specs.Drawing.{Stands}
-use Rattle.ng_dom.specs.declared.dom.Dom.{Dom}
-use Rattle.ng_drawing.specs.Template.{Site, Template}
-use Rattle.ng_fire.specs.Links.{Linking, begins_linking, steps_linked, rested_on, link_by, link_on}
-use Rattle.ng_fire.specs.Whole.{IsWhole}
-use Rattle.ng_fire.proofs.Numbered.{linking_numbered}
-use Rattle.ng_fire.proofs.Ordered.{IsOrdered, placed_ordered, steps_ordered}
-use Rattle.ng_link.specs.Calls.{page_on, placed_on, left_at}
-use Rattle.ng_link.specs.Linking.{steps}
-use Rattle.ng_link.specs.Rows.{watching_site}
-use Rattle.ng_link.specs.Shape.{key_on, linked}
-use Rattle.ng_link.specs.Standing.{IsPage}
-use Rattle.ng_link.specs.State.{State, Linked, state_of, template_at}
-use Rattle.ng_link.specs.declared.works.Works.{Works}
-use Rattle.ng_link.proofs.Rows.{fresh, sites_found}
-use Rattle.ng_template.specs.Kept.{Named}
+use Rattle.std.specs.Map.{keys_of}
+use Rattle.ng_act.specs.State as act
+use Rattle.ng_base.specs.Order.{path_cmp}
+use Rattle.ng_base.specs.declared.fault.Fault.{Fault}
+use Rattle.ng_base.specs.declared.fault.Fault.TheVariants.{NodeLimit}
+use Rattle.ng_drawing.specs.Nodes.{nodes, node_limit}
+use Rattle.ng_drawing.specs.Template.{Fragment, Parts, Template, fragment_at}
+use Rattle.ng_fire.specs.Links.{Linking, begins_linking, steps_linked, rested_on, link_by, link_at}
+use Rattle.ng_fire.proofs.Numbered.{linking_numbered, linking_counted}
+use Rattle.ng_link.specs.Calls.{with_core, at_top, placed_on}
+use Rattle.ng_link.specs.Instances.{Linked, Instances, linked_at}
+use Rattle.ng_link.specs.Linking.{steps, steps_within}
+use Rattle.ng_link.specs.Shape.{linked}
+use Rattle.ng_link.specs.State.{State, live_nodes}
+use Rattle.ng_link.proofs.Sorted.{none_in_order}
+use Rattle.ng_template.specs.Kept.{Named, fragment_in}
+use Rattle.ng_template.specs.Numbering.{is_regular}
 use Rattle.ng_template.specs.TplNames.{next_name}
-use Rattle.ng_watch.specs.Keys.{key_cmp, key_cmp_total, is_key}
-use Rattle.ng_watch.specs.Seen.{Watching, Watcher}
-use Rattle.ng_watch.specs.Table.{Table, found}
-use Rattle.ng_page.specs.PageLaws.{is_itself, key_is}
-use Rattle.ng_page.specs.Settled.{WatchesAt, AreWatched, IsWatched}
-use Rattle.ng_page.proofs.Sites.{left_sites}
-use Rattle.ng_page.proofs.Watched.{watched_stays}
+use Rattle.ng_page.specs.Opening.{linked_by, linked_on}
+use Rattle.ng_page.proofs.DigestsStay.{AreFitting, fitting_stays}
+use Rattle.ng_page.proofs.EventsStay.{part, fault_stays}
+use Rattle.ng_page.proofs.FiresTold.{steps_sites, rested_sites}
+use Rattle.ng_page.proofs.Placing.{IsNew, placed_watched, placed_fits}
+use Rattle.ng_page.proofs.Prepared.{linked_fine, linked_fault}
+use Rattle.ng_page.proofs.Registered.{own_counted, steps_above}
+use Rattle.ng_page.proofs.Sites.{InKeys, SitesStay, sites_trans, core_sites}
 
--- ---- in a table in order, what is found under a key is all that is there
+nothing_there : (P : Type 0) (is : Instances) (p : List ℕ) (l : Linked) → is ≡ [] → linked_at p is ≡ Some l → P
+nothing_there P is p l none at = let e : ◌≡◌ {A = Option Linked} None (Some l) = ap (linked_at p) (sym none) ∙ at in absurd (cc)
 
--- no later key is this one
-none_later : (k : Key) (v : Watching) (ks : Table) → AllByRecursion (λ j. key_cmp k j ≡ Less) (keys_of ks) → WatchesAt k v ks
-none_later k v [] h = tt
-none_later k v (e ∷ es) h = (λ i. absurd (let g : Less ≡ Equal = sym h.0 ∙ (ap (key_cmp k) i ∙ tied_itself key_cmp_total k) in cc), none_later k v es h.1)
+-- the templates are as the compiler makes them
+abbrev pub AreRegular : List Named → Type 0
+AreRegular ts = AllByRecursion (λ (t : Named). is_regular t.1 ≡ true) ts
 
-pub found_all : (k : Key) (w : Watcher) (t : Table) → IsStrictlySortedBy key_cmp (keys_of t) → found k t ≡ Some w → WatchesAt k w.watch t
-unfolding IsStrictlySortedBy
-found_all k w [] h e = cc
-found_all k w (x ∷ t) h e = by_key (is_key k x.0) refl e (λ g. found_all k w t h.1 g)
-  where
-    by_key : (b : Bool) → is_key k x.0 ≡ b → cond b (Some x.1) (lookup (is_key k) t) ≡ Some w → (lookup (is_key k) t ≡ Some w → WatchesAt k w.watch t) → WatchesAt k w.watch (x ∷ t)
-    by_key true i e more =
-        let one : x.1 ≡ w = cc in
-        let same : x.0 ≡ k = sym (key_is k x.0 i) in
-        (λ _. ap (λ (y : Watcher). y.watch) one, subst (λ q. WatchesAt q w.watch t) same (none_later x.0 w.watch t h.0))
-    by_key false i e more = (λ same. absurd (let g : false ≡ true = sym i ∙ (ap (is_key k) same ∙ is_itself k) in cc), more e)
+-- where nothing is linked
+pub bare_fitting : (s : State) → s.instances ≡ [] → InKeys s.watchers → AreRegular s.templates → AreFitting [] s
+bare_fitting s none keys regular = record {
+  watched = record {
+    linked = λ p l at. nothing_there _ s.instances p l none at;
+    paths = subst (λ (is : Instances). IsStrictlySortedBy path_cmp (keys_of is)) (sym none) (none_in_order path_cmp);
+    keys = keys;
+    templates = regular;
+  };
+  fits = λ p l at. nothing_there _ s.instances p l none at;
+}
 
--- the sites are watched
-all_watched : (t : Table) (o : ℕ) (path ns : List ℕ) (xs : List Site) → length ns ≡ length xs
-    → ((j n : ℕ) (x : Site) → slice_get ns j ≡ Some n → slice_get xs j ≡ Some x → WatchesAt (key_on path n) (watching_site o x) t) → AreWatched t o path ns xs
-all_watched t o path [] [] e each = tt
-all_watched t o path (n ∷ ns) [] e each = tt
-all_watched t o path [] (x ∷ xs) e each = absurd (omega (arith, e))
-all_watched t o path (n ∷ ns) (x ∷ xs) e each = (each 0 n x refl refl, all_watched t o path ns xs (omega (arith, e)) (λ j m y at is. each (suc j) m y at is))
+module _ (u : Template) (s : State) (none : s.instances ≡ []) (keys : InKeys s.watchers) (regular : AreRegular s.templates) (made : is_regular u ≡ true) (root : 0 < length s.core.scopes) where
+  bare : AreFitting [] s
+  bare = bare_fitting s none keys regular
 
-placed_watched : (t : Template) (serials : List ℕ) (s : State) → IsStrictlySortedBy nat_cmp serials → length serials ≡ length t.own.sites → IsOrdered s → IsWatched (placed_on 0 0 t serials s)
-placed_watched t serials s rising many order =
-    let u : State = placed_on 0 0 t serials s in
-    let path : List ℕ = path_at s.core.scopes 0 in
-    let object : ℕ = object_at s.core.scopes 0 in
-    record {
-      template = refl;
-      scope = refl;
-      count = many;
-      watched = all_watched u.watchers object path serials t.own.sites many
-          (λ j n x at is. found_all (key_on path n) (fresh object x) u.watchers (placed_ordered 0 0 t serials s order) (sites_found path object serials t.own.sites s.watchers j n x rising at is));
-    }
+  by_room : (r : Result (Unit {0}) Fault) → AreFitting [] (linked_by r (link_by at_top (0, 0) 0 u.own r s).state)
+  by_room (Ok x) =
+      let g : Linking = steps_linked 0 (steps u.own.parts) (begins_linking s) in
+      let stay : SitesStay s g.state = steps_sites 0 (steps u.own.parts) (begins_linking s) in
+      let p : State = placed_on at_top (0, 0) 0 u.own g.serials g.state in
+      let is : IsNew (0, 0) 0 u.own g.serials g.state s.core.serial = record {
+        there = let more = stay.core.scopes.more in omega (arith, root, more);
+        count = linking_counted 0 (steps u.own.parts) s ∙ own_counted u made;
+        rising = (linking_numbered 0 (steps u.own.parts) s).rising;
+        below = (linking_numbered 0 (steps u.own.parts) s).below;
+        above = steps_above s.core.serial 0 (steps u.own.parts) s (omega arith);
+        others = λ q l at. nothing_there _ g.state.instances q l (stay.instances ∙ none) at;
+      } in
+      let h : AreFitting [] g.state = fitting_stays [] s g.state stay bare in
+      fitting_stays [] p (rested_on 0 p) (rested_sites 0 p) (record {
+        watched = placed_watched (0, 0) 0 u.own g.serials g.state s.core.serial is at_top tt h.watched;
+        fits = placed_fits (0, 0) 0 u.own g.serials g.state s.core.serial is at_top [] tt tt h.fits;
+      })
+  by_room (Err e) =
+      let g : Linking = steps_linked 0 (steps_within (node_limit - live_nodes s) (steps u.own.parts)) (begins_linking s) in
+      fitting_stays [] s (with_core (act.with_fault e g.state.core) g.state)
+      (sites_trans s g.state (with_core (act.with_fault e g.state.core) g.state) (steps_sites 0 (steps_within (node_limit - live_nodes s) (steps u.own.parts)) (begins_linking s)) (core_sites g.state (act.with_fault e g.state.core) (fault_stays e (part g.state.core)))) bare
 
-pub rest_cases : (P : State → Type 0) (b : Bool) (s t : State) → P s → P t → P (cond b s t)
-rest_cases P true s t h g = h
-rest_cases P false s t h g = g
-
--- on a root that died its sites rest
-rested_watched : (s : State) → IsWatched s → IsWatched (rested_on 0 s)
-rested_watched s h = rest_cases IsWatched (live_at s.core.scopes 0) s (left_at (path_at s.core.scopes 0) s) h (watched_stays s (left_at (path_at s.core.scopes 0) s) (left_sites (path_at s.core.scopes 0) s) h)
-
-rested_linked : (s : State) → (rested_on 0 s).linked ≡ s.linked
-rested_linked s = rest_cases (λ t. t.linked ≡ s.linked) (live_at s.core.scopes 0) s (left_at (path_at s.core.scopes 0) s) refl refl
-
--- what stands has a number for each site
-standing_count : (o : Option Linked) (d : Dom) (ts : Stands) (l : Linked) → IsPage o d ts → o ≡ Some l → length l.page.serials ≡ length l.template.own.sites
-standing_count None d ts l h e = absurd (cc)
-standing_count (Some k) d ts l h e = let same : k ≡ l = cc in subst (λ (x : Linked). length x.page.serials ≡ length x.template.own.sites) same h.count
-
-pub link_watched : (w : Works) (t : Template) (s : State) → linked 0 t.own.parts ≡ Ok tt → state_of w ≡ link_on 0 0 t s → IsWhole w → IsOrdered s → IsWatched (state_of w)
-link_watched w t s room e h order =
-    let g : Linking = steps_linked 0 (steps t.own.parts) (begins_linking s) in
-    let p : State = placed_on 0 0 t g.serials g.state in
-    let is : state_of w ≡ rested_on 0 p = e ∙ ap (λ o. link_by 0 0 t o s) room in
-    let stands : (state_of w).linked ≡ p.linked = ap (λ (x : State). x.linked) is ∙ rested_linked p in
-    let many : length g.serials ≡ length t.own.sites = standing_count (state_of w).linked w.dom h.standing.0 (record { template = t; page = page_on 0 0 t g.serials g.state }) h.standing.1.page stands in
-    subst IsWatched (sym is) (rested_watched p (placed_watched t g.serials g.state (linking_numbered 0 (steps t.own.parts) s).rising many (steps_ordered 0 (steps t.own.parts) (begins_linking s) order)))
+  pub opened_fitting : AreFitting [] (linked_on u s)
+  opened_fitting = by_room (linked (live_nodes s) u.own.parts)
 
 -- ---- the page's template is the first
 
-pub first_name : (ts : List Named) (n : ℕ) → ts ≡ [] → next_name (length ts) ≡ Ok n → n ≡ 0
-first_name ts n e g = let h : next_name (length {A = Named} []) ≡ Ok n = ap (λ x. next_name (length x)) (sym e) ∙ g in cc
+pub one_added : (ts us : List Named) (k : Named) → ts ≡ [] → us ≡ ts ++ k ∷ [] → us ≡ k ∷ []
+one_added ts us k e g = g ∙ ap (λ (xs : List Named). xs ++ k ∷ []) e
 
-pub first_template : (ts us vs : List Named) (n : ℕ) (t : Template) → ts ≡ [] → us ≡ ts ++ (None, t) ∷ [] → vs ≡ us → n ≡ 0 → template_at vs n ≡ Some t
-first_template ts us vs n t e g h z = ap (λ x. template_at x n) (h ∙ (g ∙ ap (λ x. x ++ (None, t) ∷ []) e)) ∙ ap (template_at ((None, t) ∷ [])) z
+pub first_name : (ts : List Named) (n : ℕ) → ts ≡ [] → next_name (length ts) ≡ Ok n → n ≡ 0
+first_name ts n e g = let h : next_name (length {A = Named} []) ≡ Ok n = ap (λ (xs : List Named). next_name (length xs)) (sym e) ∙ g in cc
+
+pub first_template : (ts : List Named) (n : ℕ) (u : Template) → ts ≡ (None, u) ∷ [] → n ≡ 0 → option_map (λ (k : Named). k.1) (slice_get ts n) ≡ Some u
+first_template ts n u e z = ap (λ (xs : List Named). option_map (λ (k : Named). k.1) (slice_get xs n)) e ∙ ap (λ (m : ℕ). option_map (λ (k : Named). k.1) (slice_get ((None, u) ∷ []) m)) z
+
+first_there : (ts : List Named) (n : ℕ) → n ≡ 0 → 0 < length ts → (u : Template) × (option_map (λ (k : Named). k.1) (slice_get ts n) ≡ Some u)
+first_there [] n z some = absurd (omega (arith, some))
+first_there (k ∷ ts) n z some = (k.1, ap (λ (m : ℕ). option_map (λ (k : Named). k.1) (slice_get (k ∷ ts) m)) z)
+
+-- its own fragment is there
+pub first_fragment : (ts : List Named) (n : ℕ) → n ≡ 0 → 0 < length ts → IsSome (fragment_in ts n 0)
+first_fragment [] n z some = absurd (omega (arith, some))
+first_fragment (k ∷ ts) n z some = subst (λ (m : ℕ). IsSome (fragment_in (k ∷ ts) m 0)) (sym z) refl
+
+pub own_there : (ts : List Named) (n : ℕ) (u : Template) → option_map (λ (k : Named). k.1) (slice_get ts n) ≡ Some u → fragment_in ts n 0 ≡ Some u.own
+own_there ts n u at = by_named (slice_get ts n) at
+  where
+    by_named : (o : Option Named) → option_map (λ (k : Named). k.1) o ≡ Some u → option_and_then (λ (k : Named). fragment_at k.1 0) o ≡ Some u.own
+    by_named None e = absurd (cc)
+    by_named (Some k) e = let same : k.1 ≡ u = cc in ap (λ (t : Template). Some t.own) same
+
+regular_there : (ts : List Named) (n : ℕ) (u : Template) → AreRegular ts → option_map (λ (k : Named). k.1) (slice_get ts n) ≡ Some u → is_regular u ≡ true
+regular_there [] n u all at = absurd (cc)
+regular_there (k ∷ ts) zero u all at = let same : k.1 ≡ u = cc in ap is_regular (sym same) ∙ all.0
+regular_there (k ∷ ts) (suc n) u all at = regular_there ts n u all.1 at
+
+-- where its nodes find room, and where they don't
+pub had_room : (live : ℕ) (ps : Parts) → is_ok (linked live ps) ≡ true → linked live ps ≡ Ok tt
+had_room live ps e = by_test (nat_lt node_limit (live + nodes ps)) e
+  where
+    by_test : (b : Bool) → is_ok (let r : Result (Unit {0}) Fault = cond b (Err NodeLimit) (Ok tt) in r) ≡ true → ◌≡◌ {A = Result (Unit {0}) Fault} (cond b (Err NodeLimit) (Ok tt)) (Ok tt)
+    by_test true e = absurd (cc)
+    by_test false e = refl
+
+pub had_none : (live : ℕ) (ps : Parts) → is_ok (linked live ps) ≡ false → linked live ps ≡ Err NodeLimit
+had_none live ps e = by_test (nat_lt node_limit (live + nodes ps)) e
+  where
+    by_test : (b : Bool) → is_ok (let r : Result (Unit {0}) Fault = cond b (Err NodeLimit) (Ok tt) in r) ≡ false → ◌≡◌ {A = Result (Unit {0}) Fault} (cond b (Err NodeLimit) (Ok tt)) (Err NodeLimit)
+    by_test true e = refl
+    by_test false e = absurd (cc)
+
+-- what the linking of the first template comes to, where its nodes find room and where they don't
+abbrev pub IsBuilt : List Named → ℕ → State → State → Bool → (Fragment → Type 0) → Type 0
+IsBuilt ts n s r room Added = (f : Fragment) → fragment_in ts n 0 ≡ Some f → (r ≡ (link_at at_top (n, 0) 0 f s).state) × Added f × (room ≡ is_ok (linked (live_nodes s) f.parts))
+
+pub page_linked : (ts : List Named) (n : ℕ) (s r : State) (room : Bool) (Added : Fragment → Type 0) → n ≡ 0 → IsBuilt ts n s r room Added → room ≡ true
+    → (u : Template) → option_map (λ (k : Named). k.1) (slice_get ts n) ≡ Some u → r ≡ linked_on u s
+page_linked ts n s r room Added z built some u at =
+    let one = built u.own (own_there ts n u at) in
+    linked_fine u s r (had_room (live_nodes s) u.own.parts (sym one.2 ∙ some)) (subst (λ (m : ℕ). r ≡ (link_at at_top (m, 0) 0 u.own s).state) z one.0)
+
+pub page_refused : (ts : List Named) (n : ℕ) (s t r : State) (room : Bool) (Added : Fragment → Type 0) → n ≡ 0 → IsBuilt ts n s t room Added → room ≡ false → r ≡ with_core (act.with_fault NodeLimit t.core) t
+    → (u : Template) → option_map (λ (k : Named). k.1) (slice_get ts n) ≡ Some u → r ≡ linked_on u s
+page_refused ts n s t r room Added z built none told u at =
+    let one = built u.own (own_there ts n u at) in
+    linked_fault u s t r NodeLimit (had_none (live_nodes s) u.own.parts (sym one.2 ∙ none)) (subst (λ (m : ℕ). t ≡ (link_at at_top (m, 0) 0 u.own s).state) z one.0) told
+
+-- so a page is linked, whatever its template
+pub page_opened : (n : ℕ) (s r : State) → n ≡ 0 → 0 < length s.templates → AreRegular s.templates → s.instances ≡ [] → InKeys s.watchers → 0 < length s.core.scopes
+    → ((u : Template) → option_map (λ (k : Named). k.1) (slice_get s.templates n) ≡ Some u → r ≡ linked_on u s) → AreFitting [] r
+page_opened n s r z some regular none keys root state =
+    let q = first_there s.templates n z some in
+    subst (AreFitting []) (sym (state q.0 q.1)) (opened_fitting q.0 s none keys regular (regular_there s.templates n q.0 regular q.1) root)

@@ -1,5 +1,5 @@
 -- How a page is opened, step by step.
-use Rattle.std.proofs.Common.{◌≡◌, ◌<◌, ℕ, OnOk, List, length, Some, None, Result, Ok, Err, ap, sym, subst, ◌∙◌}
+use Rattle.std.proofs.Common.{◌≡◌, ◌<◌, ℕ, OnOk, List, [], ◌∷◌, length, None, Result, Ok, Err, ap, sym, subst, ◌∙◌}
 use Rattle.ng_act.specs.Frames.{IsSound}
 use Rattle.ng_act.specs.State as act
 use Rattle.ng_app.specs.App.{Facts}
@@ -7,54 +7,52 @@ use Rattle.ng_app.specs.Installing.{installed}
 use Rattle.ng_base.specs.declared.fault.Fault.{Fault}
 use Rattle.ng_dom.specs.Drawing.{Stands, none_stand}
 use Rattle.ng_drawing.specs.Template.{Template}
-use Rattle.ng_fire.proofs.Placed.{template_there}
 use Rattle.ng_fire.proofs.Wholes.{Stays, left_stays, stays_of, whole_with}
-use Rattle.ng_fire.specs.Links.{link_on}
+use Rattle.ng_fire.specs.Links.{link_at}
 use Rattle.ng_fire.specs.Runs.{followed, program_run}
-use Rattle.ng_fire.specs.Whole.{IsWhole, ListenersStand, RowsStand}
+use Rattle.ng_fire.specs.Whole.{IsWhole, ListenersStand, RowsStand, HaveScopes, HaveBodies}
 use Rattle.ng_language.specs.Trees.{Trees}
-use Rattle.ng_link.specs.Calls.{blank, with_core, left_at}
+use Rattle.ng_link.specs.Calls.{blank, with_core, left_at, at_top}
 use Rattle.ng_link.specs.Shape.{linked}
 use Rattle.ng_link.specs.Standing.{Standing}
-use Rattle.ng_link.specs.State.{State, state_of, templates_of, template_at}
+use Rattle.ng_link.specs.State.{State, state_of, templates_of, live_nodes}
 use Rattle.ng_template.specs.Kept.{Named}
 use Rattle.ng_link.specs.declared.works.Works.{Works}
 use Rattle.ng_page.specs.Opening.{prepared, linked_by, linked_on}
 use Rattle.ng_page.specs.PlaceOf.{WorksAre, PageIs}
-use Rattle.ng_page.specs.Settled.{IsLinkedIn, IsWatched}
+use Rattle.ng_page.proofs.Fitting.{fits_stays}
 use Rattle.ng_page.proofs.Sites.{SitesStay, left_sites}
 use Rattle.ng_page.proofs.Watched.{watched_stays}
 
 -- works where nothing is watched or linked yet
-pub whole_new : (w : Works) (c : act.State) → state_of w ≡ blank c → IsSound w.core → w.core.depth ≡ 0 → 0 < length w.core.scopes → Standing w none_stand → IsWhole w
-whole_new w c e sound idle root stands = record {
+pub whole_new : (w : Works) (all : List Named) (c : act.State) → state_of w ≡ blank all c → IsSound w.core → w.core.depth ≡ 0 → 0 < length w.core.scopes → Standing w none_stand → IsWhole w
+whole_new w all c e sound idle root stands = record {
   sound = sound;
   idle = idle;
   root = root;
   standing = (none_stand, stands);
   listeners = subst (λ d. ListenersStand (length w.core.scopes) d) (sym (ap (λ (s : State). s.declared) e)) tt;
-  kept = subst (λ t. RowsStand (length w.core.store) (state_of w).linked t) (sym (ap (λ (s : State). s.watchers) e)) tt;
+  kept = subst (λ t. RowsStand (length w.core.store) (state_of w).instances t) (sym (ap (λ (s : State). s.watchers) e)) tt;
+  scopes = subst (λ is. HaveScopes w.core.scopes is) (sym (ap (λ (s : State). s.instances) e)) tt;
+  bodies = subst (λ is. HaveBodies (state_of w).templates is) (sym (ap (λ (s : State). s.instances) e)) tt;
 }
 
-pub prepared_by : (f : Facts) (v w : Works) (p : Trees) (c : act.State) → state_of v ≡ blank c → c ≡ installed f → p ≡ f.run
-    → state_of w ≡ followed (program_run 0 p (state_of v).core) (state_of v) → state_of w ≡ prepared f
-prepared_by f v w p c e g i h =
-    h ∙ (ap (λ (s : State). followed (program_run 0 p s.core) s) (e ∙ ap blank g) ∙ ap (λ q. followed (program_run 0 q (installed f)) (blank (installed f))) i)
+pub prepared_by : (u : Template) (f : Facts) (v w : Works) (all : List Named) (p : Trees) (c : act.State) → state_of v ≡ blank all c → all ≡ (None, u) ∷ [] → c ≡ installed f → p ≡ f.run
+    → state_of w ≡ followed (program_run 0 p (state_of v).core) (state_of v) → state_of w ≡ prepared u f
+prepared_by u f v w all p c e a g i h =
+    h ∙ (ap (λ (s : State). followed (program_run 0 p s.core) s) (e ∙ (ap (λ (ts : List Named). blank ts c) a ∙ ap (blank ((None, u) ∷ [])) g)) ∙ ap (λ q. followed (program_run 0 q (installed f)) (blank ((None, u) ∷ []) (installed f))) i)
 
--- a template that has room is linked
-pub linked_fine : (u : Template) (s r : State) → linked 0 u.own.parts ≡ Ok tt → r ≡ link_on 0 0 u s → r ≡ linked_on u s
-linked_fine u s r room e = e ∙ ap (λ o. linked_by o (link_on 0 0 u s)) (sym room)
+-- a fragment that has room is linked, and else its fault is handed over
+pub linked_fine : (u : Template) (s r : State) → linked (live_nodes s) u.own.parts ≡ Ok tt → r ≡ (link_at at_top (0, 0) 0 u.own s).state → r ≡ linked_on u s
+linked_fine u s r room e = e ∙ ap (λ o. linked_by o (link_at at_top (0, 0) 0 u.own s).state) (sym room)
 
-pub linked_fault : (u : Template) (s t r : State) (f : Fault) → linked 0 u.own.parts ≡ Err f → t ≡ link_on 0 0 u s → r ≡ with_core (act.with_fault f t.core) t → r ≡ linked_on u s
-linked_fault u s t r f room e h = h ∙ (ap (λ (x : State). with_core (act.with_fault f x.core) x) e ∙ ap (λ o. linked_by o (link_on 0 0 u s)) (sym room))
-
-pub bare_watched : (s : State) → s.linked ≡ None → IsWatched s
-bare_watched s e = subst (λ o. IsLinkedIn s.core s.watchers o) (sym e) tt
+pub linked_fault : (u : Template) (s t r : State) (f : Fault) → linked (live_nodes s) u.own.parts ≡ Err f → t ≡ (link_at at_top (0, 0) 0 u.own s).state → r ≡ with_core (act.with_fault f t.core) t → r ≡ linked_on u s
+linked_fault u s t r f room e h = h ∙ (ap (λ (x : State). with_core (act.with_fault f x.core) x) e ∙ ap (λ o. linked_by o (link_at at_top (0, 0) 0 u.own s).state) (sym room))
 
 -- the sites rest, and what holds of the works holds
 pub works_left : (v w : Works) (p : List ℕ) → state_of w ≡ left_at p (state_of v) → w.core ≡ v.core → ((ts : Stands) → Standing v ts → Standing w ts) → templates_of w ≡ templates_of v → WorksAre v → WorksAre w
 works_left v w p e core stands ts h = record {
-  whole = whole_with v w h.whole core stands (subst (λ (s : State). Stays (length v.core.scopes) (length v.core.store) s) (sym e) (left_stays (length v.core.scopes) (length v.core.store) p (state_of v) (stays_of v h.whole)));
+  whole = whole_with v w h.whole core stands (subst (λ (s : State). Stays v.core.scopes (length v.core.store) s) (sym e) (left_stays v.core.scopes (length v.core.store) p (state_of v) (stays_of v h.whole)));
   templates = subst (λ t. 0 < length t) (sym ts) h.templates;
 }
 
@@ -62,6 +60,7 @@ pub page_rested : (v w : Works) (p : List ℕ) → state_of w ≡ left_at p (sta
 page_rested v w p e core stands ts h = record {
   works = works_left v w p e core stands ts h.works;
   watched = watched_stays (state_of v) (state_of w) (subst (SitesStay (state_of v)) (sym e) (left_sites p (state_of v))) h.watched;
+  fits = fits_stays (state_of v) (state_of w) [] (subst (SitesStay (state_of v)) (sym e) (left_sites p (state_of v))) h.watched.keys h.fits;
 }
 
 -- a fault is handed over, and what holds of the works holds
@@ -72,12 +71,11 @@ whole_told v w f e sound depth stands h = record {
   root = subst (λ (x : State). 0 < length x.core.scopes) (sym e) h.root;
   standing = (h.standing.0, stands h.standing.0 h.standing.1);
   listeners = subst (λ (x : State). ListenersStand (length x.core.scopes) x.declared) (sym e) h.listeners;
-  kept = subst (λ (x : State). RowsStand (length x.core.objects) x.linked x.watchers) (sym e) h.kept;
+  kept = subst (λ (x : State). RowsStand (length x.core.objects) x.instances x.watchers) (sym e) h.kept;
+  scopes = subst (λ (x : State). HaveScopes x.core.scopes x.instances) (sym e) h.scopes;
+  bodies = subst (λ (x : State). HaveBodies x.templates x.instances) (sym e) h.bodies;
 }
 
 pub on_ok : {T E A B : Type 0} (r : Result T E) → OnOk r A → (A → B) → OnOk r B
 on_ok (Ok v) h f = f h
 on_ok (Err e) h f = tt
-
-pub first_there : (ts : List Named) (n : ℕ) → n ≡ 0 → 0 < length ts → (t : Template) × (template_at ts n ≡ Some t)
-first_there ts n z l = template_there ts n (subst (λ k. k < length ts) (sym z) l)

@@ -9,11 +9,11 @@ use Rattle.ng_act.specs.State.{State, Run, ◌>>=◌, with_locals}
 use Rattle.ng_base.specs.Views.{ViewTree, prim}
 use Rattle.ng_base.specs.declared.fault.Fault.{Fault}
 use Rattle.ng_base.specs.declared.value.Value.{Value}
-use Rattle.ng_fire.specs.Runs.{asked_first}
+use Rattle.ng_fire.specs.Runs.{asked_first, destroyed}
 use Rattle.ng_fire.proofs.ProgramRuns.{back_of}
 use Rattle.ng_language.specs.Trees.{Trees}
 use Rattle.ng_view.specs.Evaluation.{Local}
-use Rattle.ng_page.specs.Commands.{destroyed, json_run, items_in}
+use Rattle.ng_page.specs.Commands.{json_run, items_in}
 use Rattle.ng_page.specs.Dispatch.{handler_run}
 
 -- a handler that is run with its one local, `$event`, gives the core's back

@@ -1,5 +1,5 @@
 -- What holds of a page after a program ran on its core.
-use Rattle.std.proofs.Common.{◌≡◌, ◌≤◌, ◌<◌, length, Result, Ok, Err, ap, sym, subst}
+use Rattle.std.proofs.Common.{◌≡◌, ◌≤◌, ◌<◌, [], length, Result, Ok, Err, ap, sym, subst}
 use Rattle.ng_act.specs.Frames as cores
 use Rattle.ng_act.specs.Frames.{IsSound, Acts}
 use Rattle.ng_act.specs.Running.{same}
@@ -15,6 +15,8 @@ use Rattle.ng_link.specs.declared.works.Works.{Works}
 use Rattle.ng_page.specs.Commands.{Asked, asked_run}
 use Rattle.ng_page.specs.PlaceOf.{PageIs}
 use Rattle.ng_page.proofs.EventsStay.{part, Stays}
+use Rattle.ng_page.proofs.Fitting.{fits_stays}
+use Rattle.ng_page.proofs.ScopesStay.{same_paths}
 use Rattle.ng_page.proofs.Sites.{SitesStay}
 use Rattle.ng_page.proofs.StepsStay.{asked_sites}
 use Rattle.ng_page.proofs.Watched.{watched_stays}
@@ -23,7 +25,7 @@ pub whole_stays : (w : Works) (d : Core) (s : State) → s ≡ cores.state_of d 
     → IsWhole w → IsWhole (record w { core = d })
 whole_stays w d s e stay sound idle scopes store h =
     let there : Stays (part (cores.state_of w.core)) (part (cores.state_of d)) = subst (λ x. Stays (part (cores.state_of w.core)) (part x)) e stay in
-    whole_after w d h sound idle scopes store there.serial
+    whole_after w d h sound idle (same_paths w.core.scopes d.scopes scopes there.scopes.paths) store there.serial
 
 pub whole_ran : (w : Works) (d : Core) (r : Result Value Fault) (run : Run Value) → Acts same r (cores.state_of d) run → Stays (part (cores.state_of w.core)) (part run.0) → IsSound d → d.depth ≡ 0 → length d.scopes ≡ length w.core.scopes → length w.core.store ≤ length d.store
     → IsWhole w → Unless r (IsWhole (record w { core = d }))
@@ -35,6 +37,7 @@ pub page_left : (v w : Works) (s : link.State) → state_of w ≡ s → SitesSta
 page_left v w s e stay whole ts h = record {
   works = record { whole = whole; templates = subst (λ t. 0 < length t) (sym ts) h.works.templates };
   watched = watched_stays (state_of v) (state_of w) (subst (SitesStay (state_of v)) (sym e) stay) h.watched;
+  fits = fits_stays (state_of v) (state_of w) [] (subst (SitesStay (state_of v)) (sym e) stay) h.watched.keys h.fits;
 }
 
 pub page_asked : (a : Asked) (v w : Works) → state_of w ≡ asked_run a (state_of v) → IsWhole w → templates_of w ≡ templates_of v → PageIs v → PageIs w

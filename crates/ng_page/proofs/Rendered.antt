@@ -1,60 +1,100 @@
--- The rendering of a page is that of its instance, over what is there.
-use Rattle.std.proofs.Common.{◌≡◌, ◌<◌, ℕ, zero, suc, List, [], ◌∷◌, map, length, Option, Some, None, refl, ap, sym, subst, ◌∙◌, slice_get}
-use Rattle.ng_act.specs.State as act
+-- The rendering of a page is that of its instance, over scopes and objects that are there.
+use Rattle.std.proofs.Common.{◌≡◌, ◌<◌, ℕ, zero, suc, Bool, true, false, List, [], ◌∷◌, map, length, cond, Option, Some, None, refl, ap, sym, subst, slice_get}
+use Rattle.std.specs.Prelude.{option_map, option_and_then}
+use Rattle.std.specs.List.{AllByRecursion}
 use Rattle.ng_base.specs.Objects.{Object}
 use Rattle.ng_behaviour.specs.ScopeObjects.{AreAmong}
 use Rattle.ng_behaviour.specs.Scopes.{Scope, object_at}
 use Rattle.ng_drawing.specs.Drawing.{shown_as}
 use Rattle.ng_drawing.specs.Instance as instances
+use Rattle.ng_drawing.specs.Instance.{Instance, SiteState, instances_from, outlets_from}
+use Rattle.ng_link.specs.Events.{scope_in, scope_of}
+use Rattle.ng_link.specs.Instances.{Body, OutletState, Page, Linked, Instances, is_path, linked_at, read_bodies, read, owner_of}
 use Rattle.ng_link.specs.Shape.{key_on}
-use Rattle.ng_link.specs.State.{Page, Linked, Resting, State, state_of, site_state, site_states, instance_at, instance_in, instance, rendering_in, rendering}
-use Rattle.ng_link.specs.declared.works.Works.{Works}
+use Rattle.ng_link.specs.State.{Resting, State, site_state, site_states, instance_join, nothing_linked, instance_at, instance, rendering}
 use Rattle.ng_markup.specs.Forest.{no_nodes}
-use Rattle.ng_render.specs.OverOf.{NamesStand, InstanceStands}
+use Rattle.ng_render.specs.OverOf.{NamesStand, InstanceStands, InstancesStand, OutletsStand}
 use Rattle.ng_watch.specs.Table.{Table}
-use Rattle.ng_page.specs.PlaceOf.{PageIs}
-use Rattle.ng_page.specs.Settled.{IsLinkedIn, IsLinked}
+use Rattle.ng_page.specs.Settled.{IsWatched}
+use Rattle.ng_page.proofs.Rendering.{all_entries}
 
 -- the sites of an instance have its scope
-site_scope : (t : Table) (r : Resting) (scope : ℕ) (path ns : List ℕ) (i : ℕ) (s : instances.SiteState) → slice_get (map (λ n. site_state t r scope (key_on path n)) ns) i ≡ Some s → s.scope ≡ scope
+site_scope : (t : Table) (r : Resting) (scope : ℕ) (path ns : List ℕ) (i : ℕ) (s : SiteState) → slice_get (map (λ n. site_state t r scope (key_on path n)) ns) i ≡ Some s → s.scope ≡ scope
 site_scope t r scope path [] i s e = absurd (cc)
 site_scope t r scope path (n ∷ ns) zero s e = let one : site_state t r scope (key_on path n) ≡ s = cc in ap (λ v. v.scope) (sym one)
 site_scope t r scope path (n ∷ ns) (suc i) s e = site_scope t r scope path ns i s e
 
-states_stand : (objects : List Object) (scopes : List Scope) (t : Table) (r : Resting) (p : Page) → p.scope < length scopes → AreAmong (length objects) scopes → NamesStand objects scopes (site_states t r p)
-states_stand objects scopes t r p there among = record {
-  state = λ n s e.
-      let same : s.scope ≡ p.scope = site_scope t r p.scope p.path p.serials n s e in
-      record {
-        scope = subst (λ k. k < length scopes) (sym same) there;
-        object = subst (λ k. object_at scopes k < length objects) (sym same) (among.below p.scope there);
-      };
-}
+module _ (objects : List Object) (scopes : List Scope) (among : AreAmong (length objects) scopes) (t : Table) (r : Resting) where
+  states_stand : (p : Page) → p.scope < length scopes → NamesStand objects scopes (site_states t r p)
+  states_stand p there = record {
+    state = λ n s e.
+        let same : s.scope ≡ p.scope = site_scope t r p.scope p.path p.serials n s e in
+        record {
+          scope = subst (λ k. k < length scopes) (sym same) there;
+          object = subst (λ k. object_at scopes k < length objects) (sym same) (among.below p.scope there);
+        };
+  }
 
--- an instance that is there is that of what is linked
-linked_there : (t : Table) (r : Resting) (o : Option Linked) (i : instances.Instance) → Some i ≡ instance_in t r o → (l : Linked) × (o ≡ Some l) × (i ≡ instance_at t r l)
-linked_there t r None i e = absurd (cc)
-linked_there t r (Some l) i e = let one : i ≡ instance_at t r l = cc in (l, refl, one)
+  abbrev go_in : Instances → List ℕ → Instance
+  go_in is = read nothing_linked (instance_join t r) is
 
-pub names_stand : (w : Works) (i : instances.Instance) → PageIs w → Some i ≡ instance (state_of w) → InstanceStands (state_of w).core.objects (state_of w).core.scopes i
-names_stand w i h e =
-    let s : State = state_of w in
-    let q = linked_there s.watchers s.resting s.linked i e in
-    let linked : IsLinked s.core s.watchers q.0 = subst (λ o. IsLinkedIn s.core s.watchers o) q.1 h.watched in
-    let under : q.0.page.scope < length s.core.scopes = subst (λ k. k < length s.core.scopes) (sym linked.scope) h.works.whole.root in
-    subst (λ (j : instances.Instance). InstanceStands s.core.objects s.core.scopes j) (sym q.2) (states_stand s.core.objects s.core.scopes s.watchers s.resting q.0.page under h.works.whole.sound.objects, tt)
+  bodies_stand : (is : Instances) (bs : List Body) → ((p : List ℕ) → InstanceStands objects scopes (go_in is p)) → InstancesStand objects scopes (instances_from (map (λ (b : Body). go_in is b.path) bs))
+  bodies_stand is [] each = tt
+  bodies_stand is (b ∷ bs) each = (each b.path, bodies_stand is bs each)
 
-instance_rendered : (c : act.State) (t : Table) (r : Resting) (o : Option Linked) (i : instances.Instance) → Some i ≡ instance_in t r o → instances.rendering c.objects c.scopes i ≡ rendering_in c t r o
-instance_rendered c t r None i e = absurd (cc)
-instance_rendered c t r (Some l) i e = let one : i ≡ instance_at t r l = cc in ap (instances.rendering c.objects c.scopes) one
+  outlets_stand : (is : Instances) (xs : List OutletState) → ((p : List ℕ) → InstanceStands objects scopes (go_in is p)) → OutletsStand objects scopes (outlets_from (map instances_from (read_bodies (go_in is) xs)))
+  outlets_stand is [] each = tt
+  outlets_stand is (x ∷ xs) each = (bodies_stand is x.bodies each, outlets_stand is xs each)
 
-pub page_rendered : (s : State) (i : instances.Instance) → Some i ≡ instance s → instances.rendering s.core.objects s.core.scopes i ≡ rendering s
-page_rendered s i e = instance_rendered s.core s.watchers s.resting s.linked i e
+  -- what is read off stands
+  read_stands : (is : Instances) → AllByRecursion (λ (e : List ℕ × Linked). e.1.page.scope < length scopes) is → (p : List ℕ) → InstanceStands objects scopes (go_in is p)
+  read_stands [] all p = (record { state = λ n s e. absurd (cc) }, tt)
+  read_stands (e ∷ is) all p = by_path (is_path p e.0) (states_stand e.1.page all.0, outlets_stand is e.1.page.outlets (read_stands is all.1)) (read_stands is all.1 p)
+    where
+      by_path : (b : Bool) → InstanceStands objects scopes (instance_join t r e.1 (read_bodies (go_in is) e.1.page.outlets)) → InstanceStands objects scopes (go_in is p)
+          → InstanceStands objects scopes (cond b (instance_join t r e.1 (read_bodies (go_in is) e.1.page.outlets)) (go_in is p))
+      by_path true here more = here
+      by_path false here more = more
+
+-- an instance that is there is read off
+instance_there : (s : State) (o : Option Linked) (i : Instance) → Some i ≡ option_map (λ (l : Linked). instance_at s.watchers s.resting s.instances []) o → i ≡ instance_at s.watchers s.resting s.instances []
+instance_there s None i e = absurd (cc)
+instance_there s (Some l) i e = cc
+
+pub names_stand : (s : State) (i : Instance) → AreAmong (length s.core.objects) s.core.scopes → IsWatched s → Some i ≡ instance s → InstanceStands s.core.objects s.core.scopes i
+names_stand s i among h e =
+    subst (InstanceStands s.core.objects s.core.scopes) (sym (instance_there s (linked_at [] s.instances) i e))
+    (read_stands s.core.objects s.core.scopes among s.watchers s.resting s.instances
+    (all_entries (λ (x : List ℕ × Linked). x.1.page.scope < length s.core.scopes) s.instances h.paths (λ p l at. (h.linked p l at).there)) [])
+
+pub page_rendered : (s : State) (i : Instance) → Some i ≡ instance s → instances.rendering s.core.objects s.core.scopes i ≡ rendering s
+page_rendered s i e = ap (instances.rendering s.core.objects s.core.scopes) (instance_there s (linked_at [] s.instances) i e)
 
 -- without an instance nothing is linked
-none_linked : (c : act.State) (t : Table) (r : Resting) (o : Option Linked) → None ≡ instance_in t r o → rendering_in c t r o ≡ shown_as no_nodes
-none_linked c t r None e = refl
-none_linked c t r (Some l) e = absurd (cc)
+none_read : (t : Table) (r : Resting) (is : Instances) (p : List ℕ) → linked_at p is ≡ None → instance_at t r is p ≡ nothing_linked
+none_read t r [] p e = refl
+none_read t r (x ∷ is) p e = by_path (is_path p x.0) e (none_read t r is p)
+  where
+    by_path : (b : Bool) → cond b (Some x.1) (linked_at p is) ≡ None → (linked_at p is ≡ None → instance_at t r is p ≡ nothing_linked)
+        → cond b (instance_join t r x.1 (read_bodies (instance_at t r is) x.1.page.outlets)) (instance_at t r is p) ≡ nothing_linked
+    by_path true e more = absurd (cc)
+    by_path false e more = more e
+
+none_there : (s : State) (o : Option Linked) → None ≡ option_map (λ (l : Linked). instance_at s.watchers s.resting s.instances []) o → o ≡ None
+none_there s None e = refl
+none_there s (Some l) e = absurd (cc)
 
 pub none_rendered : (s : State) → None ≡ instance s → rendering s ≡ shown_as no_nodes
-none_rendered s e = none_linked s.core s.watchers s.resting s.linked e
+none_rendered s e = ap (instances.rendering s.core.objects s.core.scopes) (none_read s.watchers s.resting s.instances [] (none_there s (linked_at [] s.instances) e))
+
+-- the scope of a node is one of the scopes
+pub node_scope : (s : State) (n : ℕ) → IsWatched s → 0 < length s.core.scopes → scope_of s n < length s.core.scopes
+node_scope s n h root = by_owner (owner_of n s.owners)
+  where
+    by_linked : (p : List ℕ) (o : Option Linked) → linked_at p s.instances ≡ o → scope_in o < length s.core.scopes
+    by_linked p None e = root
+    by_linked p (Some l) e = (h.linked p l e).there
+
+    by_owner : (o : Option (List ℕ)) → scope_in (option_and_then (λ (p : List ℕ). linked_at p s.instances) o) < length s.core.scopes
+    by_owner None = root
+    by_owner (Some p) = by_linked p (linked_at p s.instances) refl

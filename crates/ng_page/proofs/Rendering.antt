@@ -1,23 +1,37 @@
--- Where no watcher is dirty, the document that is shown is the rendering.
+-- Where no watcher is dirty, and each block has the bodies that it calls for, the document that is shown is the rendering.
 use Rattle.std.proofs.Common.{◌≡◌, ℕ, zero, suc, Bool, true, false, List, [], ◌∷◌, map, length, arith, cond, Option, None, Some, Result, Ok, Err, refl, ap, sym, subst, ◌∙◌, slice_get}
-use Rattle.std.specs.Prelude.{is_some, not}
-use Rattle.std.specs.Map.{lookup}
+use Rattle.std.specs.Prelude.{is_some, not, slice_index_or}
+use Rattle.std.specs.BTreeMap.{is_at}
+use Rattle.std.specs.List.{AllByRecursion, list_any}
+use Rattle.std.specs.List.Sorted.{IsStrictlySortedBy}
+use Rattle.std.specs.Map.{lookup, keys_of}
+use Rattle.std.specs.Option.{option_map_or}
+use Rattle.std.specs.Ordering.{nat_cmp}
+use Rattle.std.specs.declared.cmp.Ordering.TheVariants.{Less}
+use Rattle.std.proofs.lemmas.Map.Keys.{sorted_head, sorted_tail}
 use Rattle.ng_act.specs.State as act
 use Rattle.ng_base.specs.Meets.{◌>>=◌}
 use Rattle.ng_base.specs.Objects.{Object}
+use Rattle.ng_base.specs.Order.{path_cmp}
+use Rattle.ng_base.specs.Views.{ViewTree}
 use Rattle.ng_base.specs.declared.path.Key.{Key}
 use Rattle.ng_behaviour.specs.Scopes.{object_at}
 use Rattle.ng_digest.specs.declared.log.Report.{Report}
 use Rattle.ng_digest.specs.declared.rounds.DigestFault.{DigestFault}
 use Rattle.ng_drawing.specs.Drawing.{shown_as}
-use Rattle.ng_drawing.specs.Instance.{SiteState, state_kept, snapshot_as, snapshot_now, rendered_now, site_now}
-use Rattle.ng_drawing.specs.Template.{Site}
+use Rattle.ng_drawing.specs.Instance as drawing
+use Rattle.ng_drawing.specs.Instance.{SiteState, Instance, no_instances, instance_then, outlet_then, instances_from, outlets_from, has_any, is_filled, state_kept, kept_by, rests_in, snapshot_as, snapshot_now, rendered_now, site_now, instance_now, IsFilled, IsFresh, AllFresh, AreFilled}
+use Rattle.ng_drawing.specs.Looks.{is_kept_true}
+use Rattle.ng_drawing.specs.Template.{Site, Outlet, Filling, body_if}
 use Rattle.ng_drawing.specs.declared.kind.SiteKind.{SiteKind}
 use Rattle.ng_drawing.specs.declared.kind.SiteKind.TheVariants as sites
 use Rattle.ng_drawing.proofs.FreshInstances.{fresh_instance}
+use Rattle.ng_fire.specs.Blocks.{has_bodies}
+use Rattle.ng_link.specs.Instances.{Body, OutletState, Linked, Instances, is_path, linked_at, read_bodies, read}
 use Rattle.ng_link.specs.Rows.{watch_kind, watching_site}
 use Rattle.ng_link.specs.Shape.{key_on}
-use Rattle.ng_link.specs.State.{State, Linked, Resting, kept_or, site_state, instance_at, shown_in, shown, rendering_in, rendering}
+use Rattle.ng_link.specs.State.{State, Resting, kept_or, site_state, site_states, instance_join, nothing_linked, instance_at, shown, rendering}
+use Rattle.ng_link.proofs.Paths.{other_path, same_path, less_other}
 use Rattle.ng_watch.specs.Keys.{is_key}
 use Rattle.ng_watch.specs.Laws.{is_two_way}
 use Rattle.ng_watch.specs.Now.{value_now, snapshot_of, now}
@@ -26,8 +40,8 @@ use Rattle.ng_watch.specs.Table.{Table, found}
 use Rattle.ng_watch.specs.Verdicts.{clean, verdict}
 use Rattle.ng_watch.proofs.Judging.{clean_has_kept}
 use Rattle.ng_page.specs.Answered.{WhenOk}
-use Rattle.ng_page.specs.PageLaws.{key_is}
-use Rattle.ng_page.specs.Settled.{IsSettled, WatchesAt, AreWatched, IsLinkedIn, IsWatched}
+use Rattle.ng_page.specs.Settled.{IsSettled, WatchesAt, AreWatched, IsOutlet, AreOutlets, IsLinked, OutletFits, CallsFor, calls, IsWatched, Fits}
+use Rattle.ng_page.proofs.Watched.{number_there}
 
 -- a site keeps what its watcher keeps
 same_kind : (kind : SiteKind) → snapshot_of (watch_kind kind) ≡ snapshot_as kind
@@ -54,15 +68,6 @@ clean_shows objects x o w is e =
     let k = (clean_has_kept objects w (ap (λ (v : Watching). is_two_way v.kind) is ∙ one_way x.kind)).0 e in
     ap rendered_now (same_now objects o x ∙ (ap (now objects) (sym is) ∙ k.1)) ∙ ap (λ s. shown_as s) (sym k.2)
 
--- what is found under a site's key watches the site
-found_watches : (k : Key) (v : Watching) (t : Table) (w : Watcher) → WatchesAt k v t → found k t ≡ Some w → w.watch ≡ v
-found_watches k v [] w h e = cc
-found_watches k v (x ∷ t) w h e = by_key (is_key k x.0) refl e (λ g. found_watches k v t w h.1 g)
-  where
-    by_key : (b : Bool) → is_key k x.0 ≡ b → cond b (Some x.1) (lookup (is_key k) t) ≡ Some w → (lookup (is_key k) t ≡ Some w → w.watch ≡ v) → w.watch ≡ v
-    by_key true i e more = let one : x.1 ≡ w = cc in ap (λ (y : Watcher). y.watch) (sym one) ∙ h.0 (sym (key_is k x.0 i))
-    by_key false i e more = more e
-
 module _ (c : act.State) (t : Table) (r : Resting) (settled : (k : Key) (w : Watcher) → found k t ≡ Some w → verdict c.objects w ≡ Ok clean) where
   site_shows : (scope : ℕ) (x : Site) (k : Key) → WatchesAt k (watching_site (object_at c.scopes scope) x) t
       → site_now c.objects c.scopes (Some x) (Some (site_state t r scope k)) ≡ shown_as (state_kept (Some (site_state t r scope k)))
@@ -73,7 +78,7 @@ module _ (c : act.State) (t : Table) (r : Resting) (settled : (k : Key) (w : Wat
 
       by_watcher : (o : Option Watcher) → found k t ≡ o → site_now c.objects c.scopes (Some x) (Some (state o)) ≡ shown_as (state_kept (Some (state o)))
       by_watcher None e = refl
-      by_watcher (Some w) e = clean_shows c.objects x (object_at c.scopes scope) w (found_watches k (watching_site (object_at c.scopes scope) x) t w h e) (settled k w e)
+      by_watcher (Some w) e = clean_shows c.objects x (object_at c.scopes scope) w (h w e) (settled k w e)
 
   abbrev shown_at : ℕ → List ℕ → ℕ → SiteState
   shown_at scope path n = site_state t r scope (key_on path n)
@@ -86,17 +91,128 @@ module _ (c : act.State) (t : Table) (r : Resting) (settled : (k : Key) (w : Wat
   sites_show scope path (n ∷ ns) (x ∷ xs) zero e h = site_shows scope x (key_on path n) h.0
   sites_show scope path (n ∷ ns) (x ∷ xs) (suc i) e h = sites_show scope path ns xs i (omega (arith, e)) h.1
 
-settled_in : (c : act.State) (t : Table) (r : Resting) (o : Option Linked) → ((k : Key) (w : Watcher) → found k t ≡ Some w → verdict c.objects w ≡ Ok clean) → IsLinkedIn c t o → rendering_in c t r o ≡ shown_as (shown_in t r o)
-settled_in c t r None settled h = refl
-settled_in c t r (Some l) settled h =
-    fresh_instance c.objects c.scopes (instance_at t r l) (
-      λ n. sites_show c t r settled l.page.scope l.page.path l.page.serials l.template.own.sites n h.count
-          (subst (λ s. AreWatched t (object_at c.scopes s) l.page.path l.page.serials l.template.own.sites) (sym h.scope) h.watched),
-      tt,
-    )
+  -- ---- an outlet has the bodies that its site has kept to call for
 
-pub settled_renders : (s : State) → IsSettled s → IsWatched s → rendering s ≡ shown_as (shown s)
-settled_renders s settled h = settled_in s.core s.watchers s.resting s.linked settled h
+  any_bodies : (go : List ℕ → Instance) (bs : List Body) → has_any (instances_from (map (λ (b : Body). go b.path) bs)) ≡ has_bodies bs
+  any_bodies go [] = refl
+  any_bodies go (b ∷ bs) = refl
+
+  filled_if : (filling : Filling) (v : ViewTree) (is : drawing.Instances) (b : Bool) → has_any is ≡ b → b ≡ calls filling v → is_filled filling (Some v) is ≡ true
+  filled_if (body_if n) v is b any call = by_value (is_kept_true (Some v)) (any ∙ call)
+    where
+      by_value : (t : Bool) → has_any is ≡ t → cond t (has_any is) (not (has_any is)) ≡ true
+      by_value true e = e
+      by_value false e = ap not e
+
+  -- a site that is clean has kept a value
+  kept_some : (k : Key) (w : Watcher) (x : Site) (o : ℕ) → w.watch ≡ watching_site o x → found k t ≡ Some w → (v : ViewTree) × (w.kept ≡ Some v)
+  kept_some k w x o is e = let h = (clean_has_kept c.objects w (ap (λ (v : Watching). is_two_way v.kind) is ∙ one_way x.kind)).0 (settled k w e) in (h.0, h.2)
+
+  number_at_place : (ns : List ℕ) (i n : ℕ) → slice_get ns i ≡ Some n → slice_index_or ns i 0 ≡ n
+  number_at_place [] i n at = absurd (cc)
+  number_at_place (m ∷ ns) zero n at = cc
+  number_at_place (m ∷ ns) (suc i) n at = number_at_place ns i n at
+
+  state_at : (f : ℕ → SiteState) (ns : List ℕ) (i n : ℕ) → slice_get ns i ≡ Some n → slice_get (map f ns) i ≡ Some (f n)
+  state_at f [] i n at = absurd (cc)
+  state_at f (m ∷ ns) zero n at = let same : m ≡ n = cc in ap (λ (k : ℕ). Some (f k)) same
+  state_at f (m ∷ ns) (suc i) n at = state_at f ns i n at
+
+  no_state : (f : ℕ → SiteState) (ns : List ℕ) (i : ℕ) → slice_get ns i ≡ None → slice_get (map f ns) i ≡ None
+  no_state f [] i at = refl
+  no_state f (m ∷ ns) zero at = absurd (cc)
+  no_state f (m ∷ ns) (suc i) at = no_state f ns i at
+
+  watched_at : (o : ℕ) (path ns : List ℕ) (xs : List Site) (i n : ℕ) → length ns ≡ length xs → AreWatched t o path ns xs → slice_get ns i ≡ Some n → (x : Site) × WatchesAt (key_on path n) (watching_site o x) t
+  watched_at o path [] xs i n e h at = absurd (cc)
+  watched_at o path (m ∷ ns) [] i n e h at = absurd (omega (arith, e))
+  watched_at o path (m ∷ ns) (x ∷ xs) zero n e h at = (x, let same : m ≡ n = cc in subst (λ (k : ℕ). WatchesAt (key_on path k) (watching_site o x) t) same h.0)
+  watched_at o path (m ∷ ns) (x ∷ xs) (suc i) n e h at = watched_at o path ns xs i n (omega (arith, e)) h.1 at
+
+  -- what is asked of an outlet, by the state of its site
+  abbrev FilledBy : Filling → drawing.Instances → Option SiteState → Type 0
+  FilledBy filling is s = option_map_or (λ (x : SiteState). x.rests) s true ≡ false → is_filled filling (state_kept s) is ≡ true
+
+  one_filled : (p : List ℕ) (l : Linked) (o : Outlet) (x : OutletState) (go : List ℕ → Instance) → IsLinked c t p l → IsOutlet l.page.serials o x → OutletFits t [] p l.page.serials x
+      → IsFilled (site_states t r l.page) o (instances_from (map (λ (b : Body). go b.path) x.bodies))
+  one_filled p l o x go h is fit = by_place (slice_get l.page.serials o.site) refl
+    where
+      filling : drawing.Instances
+      filling = instances_from (map (λ (b : Body). go b.path) x.bodies)
+
+      by_watcher : (n : ℕ) → slice_get l.page.serials o.site ≡ Some n → (m : Option Watcher) → found (key_on p n) t ≡ m → (rest : Option (Option ViewTree)) → not (is_some m) ≡ false → is_filled o.filling (kept_or m rest) filling ≡ true
+      by_watcher n at None e rest live = absurd (cc)
+      by_watcher n at (Some w) e rest live =
+          let number : x.serial ≡ n = is.0 ∙ number_at_place l.page.serials o.site n at in
+          let site = watched_at (object_at c.scopes l.page.scope) p l.page.serials l.fragment.sites o.site n h.count h.watched at in
+          let kept = kept_some (key_on p n) w site.0 (object_at c.scopes l.page.scope) (site.1 w e) e in
+          let call : CallsFor w.kept x = fit (ap (λ (k : ℕ). list_any (is_at (nat_cmp k)) l.page.serials) number ∙ number_there l.page.serials o.site n at) w (ap (λ (k : ℕ). found (key_on p k) t) number ∙ e) refl in
+          let calls_now : has_bodies x.bodies ≡ calls x.filling kept.0 = subst (λ (k : Option ViewTree). CallsFor k x) kept.1 call in
+          ap (λ (k : Option ViewTree). is_filled o.filling k filling) kept.1
+          ∙ filled_if o.filling kept.0 filling (has_bodies x.bodies) (any_bodies go x.bodies) (calls_now ∙ ap (λ (f : Filling). calls f kept.0) is.1)
+
+      by_place : (i : Option ℕ) → slice_get l.page.serials o.site ≡ i → FilledBy o.filling filling (slice_get (site_states t r l.page) o.site)
+      by_place None at = subst (FilledBy o.filling filling) (sym (no_state (shown_at l.page.scope l.page.path) l.page.serials o.site at)) (λ live. absurd (cc))
+      by_place (Some n) at =
+          subst (FilledBy o.filling filling) (sym (state_at (shown_at l.page.scope l.page.path) l.page.serials o.site n at))
+          (subst (λ (q : List ℕ). FilledBy o.filling filling (Some (shown_at l.page.scope q n))) (sym h.path)
+          (λ live. by_watcher n at (found (key_on p n) t) refl (lookup (is_key (key_on p n)) r) live))
+
+  abbrev go_in : Instances → List ℕ → Instance
+  go_in is = read nothing_linked (instance_join t r) is
+
+  all_fresh : (is : Instances) (bs : List Body) → ((p : List ℕ) → IsFresh c.objects c.scopes (go_in is p)) → AllFresh c.objects c.scopes (instances_from (map (λ (b : Body). go_in is b.path) bs))
+  all_fresh is [] each = tt
+  all_fresh is (b ∷ bs) each = (each b.path, all_fresh is bs each)
+
+  are_filled : (p : List ℕ) (l : Linked) (is : Instances) (os : List Outlet) (xs : List OutletState) → IsLinked c t p l → AreOutlets l.page.serials os xs → AllByRecursion (OutletFits t [] p l.page.serials) xs → ((q : List ℕ) → IsFresh c.objects c.scopes (go_in is q))
+      → AreFilled c.objects c.scopes (site_states t r l.page) os (outlets_from (map instances_from (read_bodies (go_in is) xs)))
+  are_filled p l is os [] h outlets fit each = tt
+  are_filled p l is [] (x ∷ xs) h outlets fit each = absurd outlets
+  are_filled p l is (o ∷ os) (x ∷ xs) h outlets fit each =
+      (one_filled p l o x (go_in is) h outlets.0 fit.0, all_fresh is x.bodies each, are_filled p l is os xs h outlets.1 fit.1 each)
+
+  abbrev IsRight : List ℕ × Linked → Type 0
+  IsRight e = IsLinked c t e.0 e.1 × AllByRecursion (OutletFits t [] e.0 e.1.page.serials) e.1.page.outlets
+
+  one_fresh : (e : List ℕ × Linked) (is : Instances) → IsRight e → ((q : List ℕ) → IsFresh c.objects c.scopes (go_in is q)) → IsFresh c.objects c.scopes (instance_join t r e.1 (read_bodies (go_in is) e.1.page.outlets))
+  one_fresh e is h each = (
+    (λ n. subst (λ (p : List ℕ). site_now c.objects c.scopes (slice_get e.1.fragment.sites n) (slice_get (map (shown_at e.1.page.scope p) e.1.page.serials) n) ≡ shown_as (state_kept (slice_get (map (shown_at e.1.page.scope p) e.1.page.serials) n))) (sym h.0.path)
+        (sites_show e.1.page.scope e.0 e.1.page.serials e.1.fragment.sites n h.0.count h.0.watched)),
+    are_filled e.0 e.1 is e.1.fragment.outlets e.1.page.outlets h.0 h.0.outlets h.1 each,
+  )
+
+  -- what is read off is fresh
+  read_fresh : (is : Instances) → AllByRecursion IsRight is → (p : List ℕ) → IsFresh c.objects c.scopes (go_in is p)
+  read_fresh [] all p = ((λ n. refl), tt)
+  read_fresh (e ∷ is) all p = by_path (is_path p e.0) (one_fresh e is all.0 (read_fresh is all.1)) (read_fresh is all.1 p)
+    where
+      by_path : (b : Bool) → IsFresh c.objects c.scopes (instance_join t r e.1 (read_bodies (go_in is) e.1.page.outlets)) → IsFresh c.objects c.scopes (go_in is p)
+          → IsFresh c.objects c.scopes (cond b (instance_join t r e.1 (read_bodies (go_in is) e.1.page.outlets)) (go_in is p))
+      by_path true here more = here
+      by_path false here more = more
+
+-- ---- in path order each entry is found
+
+-- what holds of all that is found holds of all
+pub all_entries : (P : List ℕ × Linked → Type 0) (is : Instances) → IsStrictlySortedBy path_cmp (keys_of is) → ((p : List ℕ) (l : Linked) → linked_at p is ≡ Some l → P (p, l)) → AllByRecursion P is
+all_entries P [] o each = tt
+all_entries P (e ∷ is) o each = (
+  each e.0 e.1 (ap (λ (b : Bool). cond b (Some e.1) (linked_at e.0 is)) (same_path e.0)),
+  later is (sorted_head path_cmp e.0 (keys_of is) o) (all_entries (λ (x : List ℕ × Linked). path_cmp e.0 x.0 ≡ Less → P x) is (sorted_tail path_cmp e.0 (keys_of is) o) found_there),
+)
+  where
+    found_there : (p : List ℕ) (l : Linked) → linked_at p is ≡ Some l → path_cmp e.0 p ≡ Less → P (p, l)
+    found_there p l at less = each p l (ap (λ (b : Bool). cond b (Some e.1) (linked_at p is)) (other_path p e.0 (λ same. less_other e.0 p less (sym same))) ∙ at)
+
+    later : (es : Instances) → AllByRecursion (λ (q : List ℕ). path_cmp e.0 q ≡ Less) (keys_of es) → AllByRecursion (λ (x : List ℕ × Linked). path_cmp e.0 x.0 ≡ Less → P x) es → AllByRecursion P es
+    later [] below all = tt
+    later (x ∷ es) below all = (all.0 below.0, later es below.1 all.1)
+
+pub settled_renders : (s : State) → IsSettled s → IsWatched s → Fits [] s → rendering s ≡ shown_as (shown s)
+settled_renders s settled h fits =
+    fresh_instance s.core.objects s.core.scopes (instance_at s.watchers s.resting s.instances [])
+    (read_fresh s.core s.watchers s.resting settled s.instances (all_entries (IsRight s.core s.watchers s.resting settled) s.instances h.paths (λ p l at. (h.linked p l at, fits p l at))) [])
 
 pub when_done : (P Q : Type 0) (o : Option (Result Report DigestFault)) → WhenOk o P → (P → Q) → WhenOk o Q
 when_done P Q None h f = tt

@@ -1,82 +1,68 @@
 -- What leaves the watchers of sites as they are, or takes them out.
-use Rattle.std.proofs.Common.{◌≡◌, ℕ, Bool, true, false, List, [], ◌∷◌, cond, Option, Some, None, refl, ap, sym, ◌∙◌, not}
+use Rattle.std.proofs.Common.{◌≡◌, ℕ, Bool, true, false, List, cond, Option, Some, None, refl, ap, sym, subst, ◌∙◌, not}
 use Rattle.std.specs.BTreeMap.{insert_entry}
 use Rattle.std.specs.List.{filter}
-use Rattle.std.specs.Map.{remove_entry}
-use Rattle.std.specs.Ordering.{match_ordering}
-use Rattle.std.specs.declared.cmp.Ordering.{Ordering}
-use Rattle.std.specs.declared.cmp.Ordering.TheVariants.{Less, Equal, Greater}
+use Rattle.std.specs.List.Sorted.{IsStrictlySortedBy}
+use Rattle.std.specs.Map.{keys_of, remove_entry}
 use Rattle.ng_act.specs.State as act
-use Rattle.ng_base.specs.Views.{ViewTree}
 use Rattle.ng_base.specs.declared.path.Key.{Key}
-use Rattle.ng_link.specs.Calls.{with_core, keeping_at, unset_at, declared_at, undeclared_at, left_at, ended_at}
-use Rattle.ng_link.specs.State.{State, Linked, Listening, is_site}
-use Rattle.ng_watch.specs.Keys.{key_cmp, is_key, begins}
-use Rattle.ng_watch.specs.Seen.{Watching, Watcher}
-use Rattle.ng_watch.specs.Table.{Table, with_kept, keeping, with_watch, without_watch}
+use Rattle.ng_link.specs.Calls.{with_core, declared_at, undeclared_at, left_at, ended_at}
+use Rattle.ng_link.specs.Instances.{Instances, is_site}
+use Rattle.ng_link.specs.State.{State, Listening}
+use Rattle.ng_link.proofs.Sorted.{insert_sorted, filter_sorted, remove_sorted}
+use Rattle.ng_link.proofs.Tables.{put-other, removed-other, passed, found_filtered}
 use Rattle.ng_watch.specs.Ended.{is_over}
-use Rattle.ng_page.specs.PageLaws.{key_exact}
-use Rattle.ng_page.specs.Settled.{WatchesAt}
+use Rattle.ng_watch.specs.Keys.{key_cmp, key_cmp_total, is_key, begins}
+use Rattle.ng_watch.specs.Seen.{Watching, Watcher}
+use Rattle.ng_watch.specs.Table.{Table, found, with_watch, without_watch}
 use Rattle.ng_page.proofs.EventsStay.{part, Stays, stays_refl, stays_trans}
 
-all_cond : (b : Bool) (k : Key) (v : Watching) (t u : Table) → WatchesAt k v t → WatchesAt k v u → WatchesAt k v (cond b t u)
-all_cond true k v t u h g = h
-all_cond false k v t u h g = g
+-- watchers in key order
+abbrev pub InKeys : Table → Type 0
+InKeys t = IsStrictlySortedBy key_cmp (keys_of t)
 
-pub filter_watches : (p : Key × Watcher → Bool) (k : Key) (v : Watching) (t : Table) → WatchesAt k v t → WatchesAt k v (filter p t)
-filter_watches p k v [] h = tt
-filter_watches p k v (e ∷ t) h = all_cond (p e) k v (e ∷ filter p t) (filter p t) (h.0, filter_watches p k v t h.1) (filter_watches p k v t h.1)
-
-pub kept_watches : (j : Key) (s : Option ViewTree) (k : Key) (v : Watching) (t : Table) → WatchesAt k v t → WatchesAt k v (with_kept j s t)
-kept_watches j s k v [] h = tt
-kept_watches j s k v (e ∷ t) h = all_cond (is_key j e.0) k v ((e.0, keeping s e.1) ∷ t) (e ∷ with_kept j s t) h (h.0, kept_watches j s k v t h.1)
-
-pub removed_watches : (j : Key) (k : Key) (v : Watching) (t : Table) → WatchesAt k v t → WatchesAt k v (remove_entry (is_key j) t)
-removed_watches j k v [] h = tt
-removed_watches j k v (e ∷ t) h = all_cond (is_key j e.0) k v t (e ∷ remove_entry (is_key j) t) h.1 (h.0, removed_watches j k v t h.1)
-
--- a watcher of another key
-pub inserted_watches : (j : Key) (w : Watcher) (k : Key) (v : Watching) → (j ≡ k → ⊥) → (t : Table) → WatchesAt k v t → WatchesAt k v (insert_entry key_cmp t j w)
-inserted_watches j w k v n [] h = (λ e. absurd (n e), tt)
-inserted_watches j w k v n (e ∷ t) h = by_order (key_cmp j e.0) refl (inserted_watches j w k v n t h.1)
+-- what is found among the watchers that pass a test was found
+passed_some : (p : Key × Watcher → Bool) (k : Key) (o : Option Watcher) (w : Watcher) → passed p k o ≡ Some w → o ≡ Some w
+passed_some p k None w e = absurd (cc)
+passed_some p k (Some v) w e = by_test (p (k, v)) e
   where
-    by_order : (o : Ordering) → key_cmp j e.0 ≡ o → WatchesAt k v (insert_entry key_cmp t j w) → WatchesAt k v (match_ordering o ((j, w) ∷ e ∷ t) ((e.0, w) ∷ t) (e ∷ insert_entry key_cmp t j w))
-    by_order Less c more = (λ i. absurd (n i), h)
-    by_order Equal c more = (λ i. absurd (n (key_exact j e.0 c ∙ i)), h.1)
-    by_order Greater c more = (h.0, more)
+    by_test : (b : Bool) → cond b (Some v) None ≡ Some w → Some v ≡ Some w
+    by_test true e = e
+    by_test false e = absurd (cc)
 
--- What a step leaves: what is linked; each site's watcher watches what it watched; a fault that was handed over; each scope's object.
+filter_found : (p : Key × Watcher → Bool) (t : Table) → InKeys t → (k : Key) (w : Watcher) → found k (filter p t) ≡ Some w → found k t ≡ Some w
+filter_found p t o k w e = passed_some p k (found k t) w (sym (found_filtered p k t o) ∙ e)
+
+-- What a step leaves: what is linked, and the templates; no site gets a watcher or keeps another value; a fault that was handed over; each
+-- scope's path and object.
 pub record SitesStay (s t : State) : Type 0 where
-  pub linked : t.linked ≡ s.linked
-  pub sites : (k : Key) (v : Watching) → is_site s.linked k ≡ true → WatchesAt k v s.watchers → WatchesAt k v t.watchers
+  pub instances : t.instances ≡ s.instances
+  pub templates : t.templates ≡ s.templates
+  pub keys : InKeys s.watchers → InKeys t.watchers
+  pub found : InKeys s.watchers → (k : Key) (w : Watcher) → is_site s.instances k ≡ true → found k t.watchers ≡ Some w → found k s.watchers ≡ Some w
   pub core : Stays (part s.core) (part t.core)
 
 pub sites_refl : (s : State) → SitesStay s s
-sites_refl s = record { linked = refl; sites = λ k v i h. h; core = stays_refl (part s.core) }
+sites_refl s = record { instances = refl; templates = refl; keys = λ o. o; found = λ o k w i e. e; core = stays_refl (part s.core) }
 
 pub sites_trans : (s t u : State) → SitesStay s t → SitesStay t u → SitesStay s u
 sites_trans s t u a b = record {
-  linked = b.linked ∙ a.linked;
-  sites = λ k v i h. b.sites k v (ap (λ (l : Option Linked). is_site l k) a.linked ∙ i) (a.sites k v i h);
+  instances = b.instances ∙ a.instances;
+  templates = b.templates ∙ a.templates;
+  keys = λ o. b.keys (a.keys o);
+  found = λ o k w i e. a.found o k w i (b.found (a.keys o) k w (ap (λ (is : Instances). is_site is k) a.instances ∙ i) e);
   core = stays_trans (part s.core) (part t.core) (part u.core) a.core b.core;
 }
 
-sites_cond : (b : Bool) (s t : State) → SitesStay s t → SitesStay s (cond b s t)
+pub sites_cond : (b : Bool) (s t : State) → SitesStay s t → SitesStay s (cond b s t)
 sites_cond true s t h = sites_refl s
 sites_cond false s t h = h
 
 pub core_sites : (s : State) (c : act.State) → Stays (part s.core) (part c) → SitesStay s (with_core c s)
-core_sites s c h = record { linked = refl; sites = λ k v i w. w; core = h }
+core_sites s c h = record { instances = refl; templates = refl; keys = λ o. o; found = λ o k w i e. e; core = h }
 
-pub keeping_sites : (j : Key) (x : ViewTree) (s : State) → SitesStay s (keeping_at j x s)
-keeping_sites j x s = record { linked = refl; sites = λ k v i h. kept_watches j (Some x) k v s.watchers h; core = stays_refl (part s.core) }
-
-pub unset_sites : (j : Key) (s : State) → SitesStay s (unset_at j s)
-unset_sites j s = sites_cond (is_site s.linked j) s (record s { watchers = with_kept j None s.watchers })
-    (record { linked = refl; sites = λ k v i h. kept_watches j None k v s.watchers h; core = stays_refl (part s.core) })
-
-two_keys : (l : Option Linked) (j k : Key) → is_site l j ≡ false → is_site l k ≡ true → j ≡ k → ⊥
-two_keys l j k n y e = let h : false ≡ true = sym n ∙ (ap (is_site l) e ∙ y) in cc
+two_keys : (is : Instances) (j k : Key) → is_site is j ≡ false → is_site is k ≡ true → k ≡ j → ⊥
+two_keys is j k n y e = let h : false ≡ true = sym n ∙ (ap (is_site is) (sym e) ∙ y) in absurd (cc)
 
 -- what is done only where a key is no site's
 by_site : (b : Bool) (s t : State) → (b ≡ false → SitesStay s t) → SitesStay s (cond b s t)
@@ -84,19 +70,37 @@ by_site true s t h = sites_refl s
 by_site false s t h = h refl
 
 pub declared_sites : (j : Key) (w : Watching) (l : Listening) (s : State) → SitesStay s (declared_at j w l s)
-declared_sites j w l s = by_site (is_site s.linked j) s (record s { watchers = with_watch j w s.watchers; declared = insert_entry key_cmp s.declared j l })
+declared_sites j w l s = by_site (is_site s.instances j) s (record s { watchers = with_watch j w s.watchers; declared = insert_entry key_cmp s.declared j l })
     (λ n. record {
-      linked = refl;
-      sites = λ k v i h. inserted_watches j (record { watch = w; kept = None }) k v (two_keys s.linked j k n i) s.watchers h;
+      instances = refl;
+      templates = refl;
+      keys = λ o. insert_sorted key_cmp key_cmp_total j (record { watch = w; kept = None }) s.watchers o;
+      found = λ o k v i e. sym (put-other j k (record { watch = w; kept = None }) s.watchers (two_keys s.instances j k n i)) ∙ e;
       core = stays_refl (part s.core);
     })
 
 pub undeclared_sites : (j : Key) (s : State) → SitesStay s (undeclared_at j s)
-undeclared_sites j s = by_site (is_site s.linked j) s (record s { watchers = without_watch j s.watchers; declared = remove_entry (is_key j) s.declared })
-    (λ n. record { linked = refl; sites = λ k v i h. removed_watches j k v s.watchers h; core = stays_refl (part s.core) })
+undeclared_sites j s = by_site (is_site s.instances j) s (record s { watchers = without_watch j s.watchers; declared = remove_entry (is_key j) s.declared })
+    (λ n. record {
+      instances = refl;
+      templates = refl;
+      keys = λ o. remove_sorted key_cmp key_cmp_total (is_key j) s.watchers o;
+      found = λ o k v i e. sym (removed-other j k s.watchers (two_keys s.instances j k n i)) ∙ e;
+      core = stays_refl (part s.core);
+    })
+
+-- watchers that pass a test stay, and what rests or is declared doesn't matter
+filtered_sites : (p : Key × Watcher → Bool) (s t : State) → t.instances ≡ s.instances → t.templates ≡ s.templates → t.core ≡ s.core → t.watchers ≡ filter p s.watchers → SitesStay s t
+filtered_sites p s t is ts c ws = record {
+  instances = is;
+  templates = ts;
+  keys = λ o. subst InKeys (sym ws) (filter_sorted key_cmp key_cmp_total p s.watchers o);
+  found = λ o k w i e. filter_found p s.watchers o k w (ap (found k) (sym ws) ∙ e);
+  core = subst (λ (d : act.State). Stays (part s.core) (part d)) (sym c) (stays_refl (part s.core));
+}
 
 pub left_sites : (p : List ℕ) (s : State) → SitesStay s (left_at p s)
-left_sites p s = record { linked = refl; sites = λ k v i h. filter_watches (λ e. not (begins p e.0.path)) k v s.watchers h; core = stays_refl (part s.core) }
+left_sites p s = filtered_sites (λ (e : Key × Watcher). not (begins p e.0.path)) s (left_at p s) refl refl refl refl
 
 pub ended_sites : (s : State) → SitesStay s (ended_at s)
-ended_sites s = record { linked = refl; sites = λ k v i h. filter_watches (λ e. not (is_over s.core.objects e.1)) k v s.watchers h; core = stays_refl (part s.core) }
+ended_sites s = filtered_sites (λ (e : Key × Watcher). not (is_over s.core.objects e.1)) s (ended_at s) refl refl refl refl

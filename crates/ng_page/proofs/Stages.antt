@@ -65,7 +65,7 @@ fired_dirty s k t e = dirty_found s (found k s.works.watchers) t (sym e)
 pub fired_on : (s u : State) (k : Key) (t : ViewTree) → Some t ≡ handed_on_at s k → u ≡ fired_to k (fires k t s.works) s → u ≡ fired s k
 fired_on s u k t e h = h ∙ ap (λ o. fired_by k o s) e
 
-pub added_on : (s : State) (a : Bool) (k : Key) (t : ViewTree) → Some t ≡ handed_on_at s k → a ≡ fire_adds k s.works → a ≡ adds s k
+pub added_on : (s : State) (a : Bool) (k : Key) (t : ViewTree) → Some t ≡ handed_on_at s k → a ≡ fire_adds k t s.works → a ≡ adds s k
 added_on s a k t e h = h ∙ ap (λ o. adds_by k o s) e
 
 pub fired_none : (s : State) (k : Key) → None ≡ handed_on_at s k → s ≡ fired s k

@@ -1,5 +1,5 @@
 -- What programs, fires, tasks and the end of a digest leave of sites.
-use Rattle.std.proofs.Common.{◌≡◌, ◌≤◌, ℕ, true, List, [], ◌∷◌, length, map, length-append, arith, Option, Some, None, Result, Ok, Err}
+use Rattle.std.proofs.Common.{◌≡◌, ◌≤◌, ℕ, true, sym, subst, List, [], ◌∷◌, length, map, length-append, arith, Option, Some, None, Result, Ok, Err}
 use Rattle.std.specs.Prelude.{is_some, is_err}
 use Rattle.serde_json.specs.Data.{Data}
 use Rattle.ng_act.specs.Actions.{Asked, a_body, an_emit, a_broadcast, does, programmed, stores, nothing}
@@ -13,21 +13,21 @@ use Rattle.ng_base.specs.declared.path.Key.{Key}
 use Rattle.ng_base.specs.declared.value.Value.{Value}
 use Rattle.ng_behaviour.specs.Scopes.{path_at}
 use Rattle.ng_fire.specs.Changes.{key_in, watching_in, listening_in, applied, applied_all, changed, without_changes}
-use Rattle.ng_fire.specs.Fires.{former_value, listener_locals, listener_run, run_with, fire_run, fired_by, fired as fires, listener_at, value_at}
-use Rattle.ng_fire.specs.Runs.{asked_first, followed, task_run, ran_of, ran, without_task, program_run, back}
-use Rattle.ng_fire.specs.Settling.{unset_all, without_probes, settled}
+use Rattle.ng_fire.specs.Fires.{former_value, listener_locals, listener_run, run_with, fire_run, fired_by, listener_at, value_at}
+use Rattle.ng_fire.specs.Runs.{asked_first, followed, task_run, ran_of, ran, without_task, program_run, back, destroyed}
+use Rattle.ng_fire.specs.Settling.{without_probes}
 use Rattle.ng_language.specs.Trees.{Trees}
-use Rattle.ng_link.specs.Calls.{with_core, keeping_at, ended_at, unset_at}
+use Rattle.ng_link.specs.Calls.{with_core, ended_at}
 use Rattle.ng_link.specs.State.{State, Listening}
 use Rattle.ng_store.specs.Json.{json_value, placed, with_json}
 use Rattle.ng_store.specs.declared.json.JsonFault.{JsonFault}
 use Rattle.ng_watch.specs.Table.{kept_at}
 use Rattle.ng_write.specs.Making.{value_in}
 use Rattle.ng_page.specs.Commands as commands
-use Rattle.ng_page.specs.Commands.{destroyed, json_read, json_run, items_in, emit_run, broadcast_run, asked_run, applies, queues, probes, digests, destroys_scope, emits, broadcasts}
+use Rattle.ng_page.specs.Commands.{json_read, json_run, items_in, emit_run, broadcast_run, asked_run, applies, queues, probes, digests, destroys_scope, emits, broadcasts}
 use Rattle.ng_page.proofs.EventsStay.{part, Stays, stays_refl, stays_trans, objects_stay, fault_stays, destroys_stay, some_first}
 use Rattle.ng_page.proofs.ProgramsStay.{bind_stay, stores_stay, statements_stay, does_stay}
-use Rattle.ng_page.proofs.Sites.{SitesStay, sites_refl, sites_trans, core_sites, keeping_sites, unset_sites, declared_sites, undeclared_sites, left_sites, ended_sites}
+use Rattle.ng_page.proofs.Sites.{SitesStay, sites_refl, sites_trans, core_sites, declared_sites, undeclared_sites, left_sites, ended_sites}
 
 -- a run, whatever it gives
 noted : {A : Type 0} (s : act.State) (o : Result A Fault) → Stays (part s) (part (handed (s, o)))
@@ -92,17 +92,12 @@ fired_sites : (o : Option (Run ViewTree)) (s : State) → RunStays s.core o → 
 fired_sites None s h = sites_refl s
 fired_sites (Some r) s h = followed_sites r s h
 
-pub fires_sites : (k : Key) (t : ViewTree) (s : State) → SitesStay s (fires k t s).0
-fires_sites k t s =
-    let u : State = keeping_at k t s in
-    sites_trans s u (fires k t s).0 (keeping_sites k t s) (fired_sites (fire_run k s) u (run_stays (listener_at s k) (kept_at k s.watchers) (value_at s k) s.core))
+pub run_sites : (k : Key) (s t : State) → t.core ≡ s.core → SitesStay t (fired_by (fire_run k s) t).0
+run_sites k s t same = fired_sites (fire_run k s) t (subst (λ (c : act.State). RunStays c (fire_run k s)) (sym same) (run_stays (listener_at s k) (kept_at k s.watchers) (value_at s k) s.core))
 
-fired_some : (o : Option (Run ViewTree)) (s : State) → (fired_by o s).1 ≡ true → is_some (fired_by o s).0.core.handed.first ≡ true
+pub fired_some : (o : Option (Run ViewTree)) (s : State) → (fired_by o s).1 ≡ true → is_some (fired_by o s).0.core.handed.first ≡ true
 fired_some None s e = cc
 fired_some (Some r) s e = faulted_some r s e
-
-pub fires_some : (k : Key) (t : ViewTree) (s : State) → (fires k t s).1 ≡ true → is_some (fires k t s).0.core.handed.first ≡ true
-fires_some k t s e = fired_some (fire_run k s) (keeping_at k t s) e
 
 -- a task
 by_tasks : (ts : List Task) (s : State) → SitesStay s (ran_of ts s)
@@ -113,15 +108,8 @@ pub ran_sites : (s : State) → SitesStay s (ran s)
 ran_sites s = by_tasks s.core.tasks s
 
 -- the end of the rounds
-pub unset_all_sites : (ks : List Key) (s : State) → SitesStay s (unset_all ks s)
-unset_all_sites [] s = sites_refl s
-unset_all_sites (k ∷ ks) s = sites_trans s (unset_at k s) (unset_all ks (unset_at k s)) (unset_sites k s) (unset_all_sites ks (unset_at k s))
-
-pub settled_sites : (ks : List Key) (s : State) → SitesStay s (settled ks s).0
-settled_sites ks s =
-    let t : State = unset_all ks s in
-    sites_trans s t (without_probes (ended_at t)) (unset_all_sites ks s)
-    (sites_trans t (ended_at t) (without_probes (ended_at t)) (ended_sites t) (core_sites (ended_at t) (record (ended_at t).core { probes = [] }) (stays_refl (part t.core))))
+pub finished_sites : (s : State) → SitesStay s (without_probes (ended_at s))
+finished_sites s = sites_trans s (ended_at s) (without_probes (ended_at s)) (ended_sites s) (core_sites (ended_at s) (record (ended_at s).core { probes = [] }) (stays_refl (part s.core)))
 
 -- what commands do
 back_stays : {A : Type 0} (c : act.State) (r : Run A) → Stays (part c) (part r.0) → Stays (part c) (part (back c r).0)

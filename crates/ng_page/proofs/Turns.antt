@@ -25,9 +25,8 @@ use Rattle.ng_fire.specs.Whole.{Unless}
 use Rattle.ng_language.specs.Objects.{new_object}
 use Rattle.ng_language.specs.Trees.{Trees}
 use Rattle.ng_link.specs.Calls.{with_core, left_at}
-use Rattle.ng_link.specs.Events.{scope_in, scope_of}
+use Rattle.ng_link.specs.Events.{scope_of}
 use Rattle.ng_link.specs.State as link
-use Rattle.ng_link.specs.State.{Linked}
 use Rattle.ng_link.specs.declared.works.Works.{Works}
 use Rattle.ng_store.specs.Json.{json_value, with_json}
 use Rattle.ng_watch.specs.Table.{Table, found, without_under}
@@ -39,16 +38,16 @@ use Rattle.ng_page.specs.EventObject.{value_read, extra_set, typed_event, event_
 use Rattle.ng_page.specs.EventSeen.{MadeBelow}
 use Rattle.ng_page.specs.OutcomeOf.{outcome_of}
 use Rattle.ng_page.specs.PlaceOf.{PageIs}
-use Rattle.ng_page.specs.Settled.{IsSettled, IsLinkedIn}
+use Rattle.ng_page.specs.Settled.{IsSettled}
 use Rattle.ng_page.specs.Steps as steps
 use Rattle.ng_page.specs.Steps.{Ends, EndsShort}
 use Rattle.ng_page.specs.declared.dispatching.Event as code
 use Rattle.ng_page.specs.declared.dispatching.Event.TheVariants as events
 use Rattle.ng_page.specs.declared.outcome.Outcome.{Outcome}
-use Rattle.ng_page.proofs.DigestsStay.{digest_sites}
+use Rattle.ng_page.proofs.DigestsStay.{digest_stays}
 use Rattle.ng_page.proofs.EventsStay.{part, Stays, stays_refl, objects_stay}
-use Rattle.ng_page.proofs.Opened.{rest_cases}
 use Rattle.ng_page.proofs.ProgramsStay.{bind_stay, statements_stay, does_stay}
+use Rattle.ng_page.proofs.Rendered.{node_scope}
 use Rattle.ng_page.proofs.Sites.{SitesStay}
 use Rattle.ng_page.proofs.StepsStay.{json_grows, value_run, changed_sites, followed_sites}
 
@@ -97,17 +96,9 @@ handling_stays x e scope p c = bind_stay (part c) (event_of x e c).0 (event_of x
 pub handling_sites : (x : Happening) (e : Event) (scope : ℕ) (p : Trees) (s : link.State) → SitesStay s (followed (handling_run x e scope p s.core) s)
 handling_sites x e scope p s = followed_sites (handling_run x e scope p s.core) s (handling_stays x e scope p s.core)
 
--- ---- the scope of each node is the root
-
-linked_on_root : (s : link.State) (o : Option Linked) → IsLinkedIn s.core s.watchers o → scope_in o ≡ 0
-linked_on_root s None h = refl
-linked_on_root s (Some l) h = h.scope
-
-scope_is_root : (w : Works) → PageIs w → scope_in (link.state_of w).linked ≡ 0
-scope_is_root w h = linked_on_root (link.state_of w) (link.state_of w).linked h.watched
-
-pub scope_there : (w : Works) (scope : ℕ) → scope ≡ scope_in (link.state_of w).linked → PageIs w → scope < length w.core.scopes
-scope_there w scope e h = subst (λ n. n < length w.core.scopes) (sym (e ∙ scope_is_root w h)) h.works.whole.root
+-- the scope of a node is there
+pub scope_there : (w : Works) (n scope : ℕ) → scope ≡ scope_of (link.state_of w) n → PageIs w → scope < length w.core.scopes
+scope_there w n scope e h = subst (λ k. k < length w.core.scopes) (sym e) (node_scope (link.state_of w) n h.watched h.works.whole.root)
 
 -- ---- a run that was followed up wanted no memory
 
@@ -141,14 +132,18 @@ followed_grown r d s e =
     noted t (Err f) = refl
 
 rested_core : (s : link.State) → (rested s).core ≡ s.core
-rested_core s = rest_cases (λ t. t.core ≡ s.core) (live_at s.core.scopes 0) s (left_at [] s) refl refl
+rested_core s = by (live_at s.core.scopes 0)
+  where
+    by : (b : Bool) → (if b then s else left_at [] s).core ≡ s.core
+    by true = refl
+    by false = refl
 
 pub rested_grown : (n : ℕ) (m s : link.State) → s ≡ rested m → n ≤ length m.core.objects → n ≤ length s.core.objects
 rested_grown n m s e l = subst (λ (c : act.State). n ≤ length c.objects) (sym (ap (λ (x : link.State). x.core) e ∙ rested_core m)) l
 
 digest_grown : (due : Bool) (s t : link.State) (d : Option (Result (ℕ × ℕ) DigestFault)) (probed : List (List ℕ)) → DigestsWhere due s d probed t → length s.core.objects ≤ length t.core.objects
 digest_grown true s t None probed h = absurd h
-digest_grown true s t (Some a) probed (end, d, e, f) = subst (λ (x : link.State). length s.core.objects ≤ length x.core.objects) (sym e) (digest_sites s a end d).core.grown
+digest_grown true s t (Some a) probed (end, d, e, f) = subst (λ (x : link.State). length s.core.objects ≤ length x.core.objects) (sym e) (digest_stays s a end d).grown
 digest_grown false s t (Some a) probed h = absurd h
 digest_grown false s t None probed h = subst (λ (x : link.State). length s.core.objects ≤ length x.core.objects) (sym h.0) (omega arith)
 

@@ -1,5 +1,5 @@
 -- What holds of works stays where no program ran: where faults are handed over or forgotten, and where a task or a probe is added.
-use Rattle.std.proofs.Common.{◌≡◌, ◌<◌, ◌≤◌, ℕ, List, [], ◌∷◌, ◌++◌, map, length, None, refl, ap, sym, subst, ◌∙◌, arith}
+use Rattle.std.proofs.Common.{◌≡◌, ◌<◌, ℕ, List, [], ◌∷◌, ◌++◌, map, length, None, refl, ap, sym, subst, ◌∙◌, arith}
 use Rattle.std.specs.List.{AllByRecursion}
 use Rattle.ng_act.specs.Frames as cores
 use Rattle.ng_act.specs.Frames.{IsSound, TaskStands, task_of}
@@ -8,10 +8,10 @@ use Rattle.ng_act.specs.declared.core_state.Handed.{Handed}
 use Rattle.ng_act.specs.declared.pending.Task.{Task}
 use Rattle.ng_act.specs.State as act
 use Rattle.ng_base.specs.Objects.{Object}
-use Rattle.ng_behaviour.specs.Scopes.{Scope, object_at}
+use Rattle.ng_behaviour.specs.Scopes.{Scope}
 use Rattle.ng_dom.specs.Document.{Shows}
 use Rattle.ng_dom.specs.Drawing.{Stands}
-use Rattle.ng_fire.specs.Whole.{IsWhole, ListenersStand, RowsStand}
+use Rattle.ng_fire.specs.Whole.{IsWhole, ListenersStand, RowsStand, HaveScopes, HaveBodies}
 use Rattle.ng_fire.proofs.Wholes.{whole_after}
 use Rattle.ng_link.specs.Calls.{with_core}
 use Rattle.ng_link.specs.Events.{named}
@@ -21,7 +21,8 @@ use Rattle.ng_link.specs.Untroubled.{untroubled}
 use Rattle.ng_link.specs.declared.works.Works.{Works}
 use Rattle.ng_link.proofs.Displayed.{page_displays, page_names}
 use Rattle.ng_page.specs.PlaceOf.{WorksAre, PageIs}
-use Rattle.ng_page.specs.Settled.{IsWatched}
+use Rattle.ng_page.specs.Settled.{IsWatched, Fits}
+use Rattle.ng_page.proofs.ScopesStay.{scopes_refl}
 use Rattle.ng_page.proofs.Watched.{watched_core}
 
 -- the core has the scopes and objects that it had
@@ -36,7 +37,9 @@ whole_alike v w c e scopes objects sound depth stands h =
       root = subst (λ (t : List Scope). 0 < length t) (sym s) h.root;
       standing = (h.standing.0, stands h.standing.0 h.standing.1);
       listeners = subst (λ (x : State). ListenersStand (length x.core.scopes) x.declared) (sym e) (subst (λ (t : List Scope). ListenersStand (length t) (state_of v).declared) (sym scopes) h.listeners);
-      kept = subst (λ (x : State). RowsStand (length x.core.objects) x.linked x.watchers) (sym e) (subst (λ (t : List Object). RowsStand (length t) (state_of v).linked (state_of v).watchers) (sym objects) h.kept);
+      kept = subst (λ (x : State). RowsStand (length x.core.objects) x.instances x.watchers) (sym e) (subst (λ (t : List Object). RowsStand (length t) (state_of v).instances (state_of v).watchers) (sym objects) h.kept);
+      scopes = subst (λ (x : State). HaveScopes x.core.scopes x.instances) (sym e) (subst (λ (t : List Scope). HaveScopes t (state_of v).instances) (sym scopes) h.scopes);
+      bodies = subst (λ (x : State). HaveBodies x.templates x.instances) (sym e) h.bodies;
     }
 
 pub works_alike : (v w : Works) (c : act.State) → state_of w ≡ with_core c (state_of v) → c.scopes ≡ (state_of v).core.scopes → c.objects ≡ (state_of v).core.objects
@@ -54,8 +57,6 @@ works_display w h = page_displays w h.whole.standing.0 h.whole.standing.1
 pub works_named : (w : Works) → WorksAre w → Shows w.dom (named (state_of w))
 works_named w h = page_names w h.whole.standing.0 h.whole.standing.1
 
--- ---- the core of a page is another one
-
 -- a command begins: what it counts is no matter to what holds
 begun_sound : (c : Core) (h : Handed) → IsSound c → IsSound (record c { bodies = 0; handed = h })
 begun_sound c h s = record {
@@ -69,23 +70,65 @@ begun_sound c h s = record {
   room = s.room;
 }
 
--- as many scopes, no fewer objects, and no lower number of registration
-pub page_with : (w : Works) (d : Core) → IsSound d → d.depth ≡ 0 → length d.scopes ≡ length w.core.scopes → length w.core.store ≤ length d.store → w.core.serial.0 ≤ d.serial.0
-    → object_at d.scopes 0 ≡ object_at w.core.scopes 0 → PageIs w → PageIs (record w { core = d })
-page_with w d sound idle scopes store serial object h = record {
-  works = record { whole = whole_after w d h.works.whole sound idle scopes store serial; templates = h.works.templates };
-  watched = watched_core (state_of w) (cores.state_of d) object h.watched;
+pub begun_page : (w : Works) (h : Handed) → PageIs w → PageIs (record w { core = record w.core { bodies = 0; handed = h } })
+begun_page w h p =
+    let d : Core = record w.core { bodies = 0; handed = h } in
+    record {
+      works = record { whole = whole_after w d p.works.whole (begun_sound w.core h p.works.whole.sound) p.works.whole.idle refl (omega arith) (omega arith); templates = p.works.templates };
+      watched = watched_core (state_of w) (cores.state_of d) (scopes_refl w.core.scopes) (omega arith) p.watched;
+      fits = p.fits;
+    }
+
+-- a task more, or a probe
+queued_sound : (c d : Core) → AllByRecursion (TaskStands (length c.scopes)) (map task_of d.tasks.items) → IsSound c → IsSound (record c { tasks = d.tasks })
+queued_sound c d h s = record {
+  objects = s.objects;
+  parents = s.parents;
+  locals = s.locals;
+  funs = s.funs;
+  tasks = h;
+  changes = s.changes;
+  depth = s.depth;
+  room = s.room;
 }
 
-pub begun_page : (w : Works) (h : Handed) → PageIs w → PageIs (record w { core = record w.core { bodies = 0; handed = h } })
-begun_page w h p = page_with w (record w.core { bodies = 0; handed = h }) (begun_sound w.core h p.works.whole.sound) p.works.whole.idle refl (omega arith) (omega arith) refl p
+pub queued_page : (w : Works) (d : Core) → AllByRecursion (TaskStands (length w.core.scopes)) (map task_of d.tasks.items) → PageIs w → PageIs (record w { core = record w.core { tasks = d.tasks } })
+queued_page w d h p =
+    let e : Core = record w.core { tasks = d.tasks } in
+    record {
+      works = record { whole = whole_after w e p.works.whole (queued_sound w.core d h p.works.whole.sound) p.works.whole.idle refl (omega arith) (omega arith); templates = p.works.templates };
+      watched = watched_core (state_of w) (cores.state_of e) (scopes_refl w.core.scopes) (omega arith) p.watched;
+      fits = p.fits;
+    }
+
+probing_sound : (c d : Core) → IsSound c → IsSound (record c { probes = d.probes })
+probing_sound c d s = record {
+  objects = s.objects;
+  parents = s.parents;
+  locals = s.locals;
+  funs = s.funs;
+  tasks = s.tasks;
+  changes = s.changes;
+  depth = s.depth;
+  room = s.room;
+}
+
+pub probing_page : (w : Works) (d : Core) → PageIs w → PageIs (record w { core = record w.core { probes = d.probes } })
+probing_page w d p =
+    let e : Core = record w.core { probes = d.probes } in
+    record {
+      works = record { whole = whole_after w e p.works.whole (probing_sound w.core d p.works.whole.sound) p.works.whole.idle refl (omega arith) (omega arith); templates = p.works.templates };
+      watched = watched_core (state_of w) (cores.state_of e) (scopes_refl w.core.scopes) (omega arith) p.watched;
+      fits = p.fits;
+    }
 
 -- no fault was handed over yet
 pub untroubled_page : (v w : Works) → state_of w ≡ with_core (untroubled (state_of v).core) (state_of v) → w.core ≡ record v.core { handed = record { count = 0; first = None } } → (IsSound v.core → IsSound w.core)
     → ((ts : Stands) → Standing v ts → Standing w ts) → templates_of w ≡ templates_of v → PageIs v → PageIs w
 untroubled_page v w e core sound stands ts h = record {
   works = works_alike v w (untroubled (state_of v).core) e refl refl sound (ap (λ (c : Core). c.depth) core) stands ts h.works;
-  watched = subst IsWatched (sym e) (watched_core (state_of v) (untroubled (state_of v).core) refl h.watched);
+  watched = subst IsWatched (sym e) (watched_core (state_of v) (untroubled (state_of v).core) (scopes_refl (state_of v).core.scopes) (omega arith) h.watched);
+  fits = subst (Fits []) (sym e) h.fits;
 }
 
 pub all_pushed : (n : ℕ) (xs : List Task) (x : Task) → AllByRecursion (TaskStands n) (map task_of xs) → x.scope.0 < n → AllByRecursion (TaskStands n) (map task_of (xs ++ x ∷ []))

@@ -1,7 +1,7 @@
 -- What a command does to a page before its digest (guide: Scopes, "Integration with the browser event loop"; API: `$apply`).
 use Rattle.std.specs.Prelude.{ℕ, ◌||◌, not, Bool, List, [], ◌∷◌, ◌++◌, map, None, Result, Ok, Err}
 use Rattle.serde_json.specs.Data.{Data}
-use Rattle.ng_act.specs.Actions.{does, an_emit, a_broadcast, destroys}
+use Rattle.ng_act.specs.Actions.{an_emit, a_broadcast}
 use Rattle.ng_act.specs.Running.{as_value_run}
 use Rattle.ng_act.specs.State as act
 use Rattle.ng_act.specs.State.{Run, ◌>>=◌, with_task, with_objects}
@@ -13,7 +13,7 @@ use Rattle.ng_base.specs.declared.value.Value.{Value}
 use Rattle.ng_base.specs.declared.value.Value.TheVariants as value
 use Rattle.ng_behaviour.specs.Scopes.{live_at}
 use Rattle.ng_fire.specs.Changes.{changed}
-use Rattle.ng_fire.specs.Runs.{asked_first, followed, program_run}
+use Rattle.ng_fire.specs.Runs.{asked_first, followed, program_run, destroyed}
 use Rattle.ng_language.specs.Objects.{items_at}
 use Rattle.ng_language.specs.Trees.{Trees}
 use Rattle.ng_link.specs.Calls.{with_core}
@@ -52,10 +52,6 @@ begun_core c = record c { entered = 0; handed = record { count = 0; first = None
 
 abbrev pub begun : link.State → link.State
 begun s = with_core (begun_core s.core) s
-
--- a scope is destroyed then
-unfoldable pub destroyed : ℕ → act.State → act.State
-destroyed scope c = destroys (does 64) scope c
 
 -- why JSON is not read as arguments
 abbrev pub json_fault : JsonFault → Fault

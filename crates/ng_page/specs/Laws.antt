@@ -1,9 +1,53 @@
 -- What is proved of pages by their definitions alone.
-use Rattle.std.specs.Prelude.{◌≡◌}
+use Rattle.std.specs.Prelude.{ℕ, ◌+◌, ◌≡◌, ◌≤◌, ◌<◌, List, [], ◌∷◌, ◌++◌}
+use Rattle.std.specs.List.{AllByRecursion}
+use Rattle.std.specs.List.Sorted.{IsStrictlySortedBy}
+use Rattle.std.specs.Ordering.{nat_cmp}
+use Rattle.ng_act.specs.Actions.{Asked as Opened, does, watches}
+use Rattle.ng_act.specs.State as act
 use Rattle.ng_drawing.specs.Drawing.{shown_as}
+use Rattle.ng_fire.specs.Links.{Linking, begins_linking, steps_linked}
+use Rattle.ng_language.specs.Trees.{Trees}
+use Rattle.ng_language.specs.declared.snapshots.SnapKind.{SnapKind}
+use Rattle.ng_link.specs.Linking.{LinkStep}
 use Rattle.ng_link.specs.State.{State, shown, rendering}
-use Rattle.ng_page.specs.Settled.{IsSettled, IsWatched}
+use Rattle.ng_page.specs.Commands.{Asked}
+use Rattle.ng_page.specs.Dispatch.{Happening, Told, Dispatches}
+use Rattle.ng_page.specs.Settled.{IsSettled, IsWatched, Fits}
+use Rattle.ng_page.specs.Steps.{Outcome, Steps}
 
--- where no watcher of a page is dirty, it shows what its rendering is
+-- where no watcher of a page is dirty, and each block has the bodies that it calls for, the page shows its rendering
 abbrev pub SettledPageShowsItsRendering : Type 0
-SettledPageShowsItsRendering = (s : State) → IsSettled s → IsWatched s → rendering s ≡ shown_as (shown s)
+SettledPageShowsItsRendering = (s : State) → IsSettled s → IsWatched s → Fits [] s → rendering s ≡ shown_as (shown s)
+
+-- what holds of the state before each step of a page and that after it: of the step of a command and that of an event
+abbrev pub OfEachStep : (State → State → Type 0) → Type 0
+OfEachStep P =
+    ((a : Asked) (s : State) (o : Outcome) (t : State) → Steps a s o t → P s t)
+    × ((x : Happening) (n : ℕ) (s : State) (os : List Told) (t : State) → Dispatches x n s os t → P s t)
+
+-- no step changes a template
+abbrev pub NoStepChangesATemplate : Type 0
+NoStepChangesATemplate = OfEachStep (λ s t. t.templates ≡ s.templates)
+
+-- A watcher's key has a number of registration. The sites that are linked get new ones, one above the other: none was given before
+-- the linking, and the next number is above them all.
+abbrev pub AreNew : ℕ → Linking → Type 0
+AreNew first g = IsStrictlySortedBy nat_cmp g.serials × AllByRecursion (λ n. (first ≤ n) × (n < g.state.core.serial)) g.serials
+
+abbrev pub LinkedSitesGetNewNumbers : Type 0
+LinkedSitesGetNewNumbers = (scope : ℕ) (xs : List LinkStep) (s : State) → AreNew s.core.serial (steps_linked scope xs (begins_linking s))
+
+-- a watch that is declared gets the next number, and then the next one is above it
+abbrev pub DeclaredWatchGetsTheNextNumber : Type 0
+DeclaredWatchGetsTheNextNumber = (scope : ℕ) (kind : SnapKind) (watched body : Trees) (c : act.State) →
+    ((watches scope kind watched body c).0.changes ≡ c.changes ++ act.adds (record { scope = scope; serial = c.serial; kind = kind; watched = watched; body = body }) ∷ [])
+    × ((watches scope kind watched body c).0.serial ≡ c.serial + 1)
+
+-- no program lowers the next number, whatever it opens
+abbrev pub NoProgramLowersTheNextNumber : Type 0
+NoProgramLowersTheNextNumber = (room : ℕ) (a : Opened) (c : act.State) → c.serial ≤ (does room a c).0.serial
+
+-- and no step does
+abbrev pub NoStepLowersTheNextNumber : Type 0
+NoStepLowersTheNextNumber = OfEachStep (λ s t. s.core.serial ≤ t.core.serial)

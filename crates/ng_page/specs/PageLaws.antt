@@ -18,7 +18,7 @@ use Rattle.ng_watch.specs.Table.{found, with_kept}
 use Rattle.ng_watch.specs.Verdicts.{Judged, verdict}
 use Rattle.ng_fire.specs.Runs.{any_waits}
 use Rattle.ng_fire.specs.Settling.{unset_all}
-use Rattle.ng_link.specs.Calls.{unset_at}
+use Rattle.ng_link.specs.Calls.{is_drawn, unset_at}
 use Rattle.ng_link.specs.State as link
 use Rattle.ng_page.specs.PageMachine.{State, is_told, told_at, tell, tested_of, tested, verdict_of, verdict_at, page_machine}
 
@@ -53,7 +53,7 @@ or_cases : (b c d : Bool) → (c ≡ true → d ≡ true) → (b || c) ≡ true 
 or_cases true c d f e = refl
 or_cases false c d f e = f e
 
-told_itself : (ts : List Key) (k : Key) → is_told (insert_key key_cmp ts k) k ≡ true
+pub told_itself : (ts : List Key) (k : Key) → is_told (insert_key key_cmp ts k) k ≡ true
 told_itself [] k = or_left (is_key k k) false (is_itself k)
 told_itself (x ∷ ts) k = by_order (key_cmp k x) refl (told_itself ts k)
   where
@@ -62,7 +62,7 @@ told_itself (x ∷ ts) k = by_order (key_cmp k x) refl (told_itself ts k)
     by_order Equal e h = or_left (is_key k x) (is_told ts k) (ap is_eq e)
     by_order Greater e h = or_right (is_key k x) (is_told (insert_key key_cmp ts k) k) h
 
-told_still : (ts : List Key) (k j : Key) → is_told ts j ≡ true → is_told (insert_key key_cmp ts k) j ≡ true
+pub told_still : (ts : List Key) (k j : Key) → is_told ts j ≡ true → is_told (insert_key key_cmp ts k) j ≡ true
 told_still [] k j h = cc
 told_still (x ∷ ts) k j h = by_order (key_cmp k x) (told_still ts k j)
   where
@@ -178,7 +178,7 @@ core_of_two false s t e = e
 
 pub unset_core : (ks : List Key) (s : link.State) → (unset_all ks s).core ≡ s.core
 unset_core [] s = refl
-unset_core (k ∷ ks) s = unset_core ks (unset_at k s) ∙ core_of_two (link.is_site s.linked k) s (record s { watchers = with_kept k None s.watchers }) refl
+unset_core (k ∷ ks) s = unset_core ks (unset_at k s) ∙ core_of_two (is_drawn s k) s (record s { watchers = with_kept k None s.watchers }) refl
 
 pub page_laws : HasLaws page_machine
 page_laws = record {

@@ -93,7 +93,7 @@ fired s k = fired_by k (handed_on_at s k) s
 
 abbrev pub adds_by : Key → Option ViewTree → State → Bool
 adds_by k None s = false
-adds_by k (Some t) s = fire_adds k s.works
+adds_by k (Some t) s = fire_adds k t s.works
 
 abbrev pub adds : State → Key → Bool
 adds s k = adds_by k (handed_on_at s k) s

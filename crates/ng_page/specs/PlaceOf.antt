@@ -1,5 +1,5 @@
 -- The engine of a page as a world.
-use Rattle.std.specs.Prelude.{ℕ, ◌≡◌, ◌<◌, List, length, Option, Some, None, IsSome, option_map}
+use Rattle.std.specs.Prelude.{ℕ, ◌≡◌, ◌<◌, List, [], length, Option, Some, None, IsSome, option_map}
 use Rattle.ng_base.specs.Views.{ViewTree}
 use Rattle.ng_base.specs.declared.path.Key.{Key}
 use Rattle.ng_digest.specs.Place.{Place, Moves}
@@ -14,7 +14,7 @@ use Rattle.ng_link.specs.declared.works.Works.{Works}
 use Rattle.ng_value.specs.Snaps.{snap_of}
 use Rattle.ng_watch.specs.Table.{Table, found}
 use Rattle.ng_page.specs.PageMachine.{State, handed_on_at, page_machine}
-use Rattle.ng_page.specs.Settled.{IsWatched}
+use Rattle.ng_page.specs.Settled.{IsWatched, Fits}
 use Rattle.ng_page.specs.declared.engine.Engine.{Engine}
 
 -- what works stand for in a digest, with what it remembers of tests, fires and probes
@@ -53,10 +53,11 @@ pub record WorksAre (w : Works) : Type 0 where
   pub whole : IsWhole w
   pub templates : 0 < length (link.templates_of w)
 
--- What is linked is the first template, on the root, and each of its sites that has a watcher is watched there.
+-- All that is linked is watched, and each block has the bodies that it calls for.
 pub record PageIs (w : Works) : Type 0 where
   pub works : WorksAre w
   pub watched : IsWatched (link.state_of w)
+  pub fits : Fits [] (link.state_of w)
 
 -- what holds of the engine between the calls of a digest
 pub record Holds (e : Engine) : Type 0 where

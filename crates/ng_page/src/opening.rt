@@ -1,20 +1,23 @@
 //! How a page is opened, up to its first digest.
-ghost use Rattle.std.specs.Prelude.{◌≡◌, ◌<◌, length, IfOk, OnOk, Some, None};
+ghost use Rattle.std.specs.Prelude.{◌≡◌, ◌<◌, [], length, slice_get, option_map, IfOk, OnOk, Some, None, ◌∷◌, true};
+ghost use Rattle.std.specs.List.{AllByRecursion};
 ghost use Rattle.ng_app.specs.AppOf.{facts};
 ghost use Rattle.ng_drawing.specs.Template.{Template};
-ghost use Rattle.ng_link.specs.State.{state_of, templates_of, template_at};
+ghost use Rattle.ng_link.specs.State.{state_of, templates_of};
 ghost use Rattle.ng_template.specs.Kept.{templates_of as kept_templates};
+ghost use Rattle.ng_template.specs.Numbering.{is_regular};
 ghost use Rattle.ng_template.specs.TemplateOf.{template_of};
 ghost use Rattle.ng_page.specs.Opening.{prepared, linked_on, opening};
 ghost use Rattle.ng_page.specs.PlaceOf.{WorksAre, PageIs};
-ghost use Rattle.ng_page.specs.Settled.{IsWatched};
+ghost use Rattle.ng_page.specs.Settled.{IsWatched, Fits};
 
 use ng_app::App;
 use ng_base::fault::{Fault, Memory};
 use ng_base::name::{ScopeId, TplId};
 use ng_fire::following::follow;
-use ng_fire::linking::link;
+use ng_fire::linking::link_at;
 use ng_fire::programs::run_program;
+use ng_link::linking::Place;
 use ng_link::works::Works;
 use ng_template::{Templates, Tpl};
 use std::alloc::Global;
@@ -22,9 +25,9 @@ use std::alloc::Global;
 /// What the application installs and registers on the root, and its first program.
 fn prepare(alloc: Global, app: App, templates: Templates) -> Result<Works, Memory>
     requires { 0 < length (kept_templates templates) }
-    ensures state { IfOk result (λ w. state_of w ≡ prepared (facts app)) }
+    ensures state { IfOk result (λ w. (u : Template) → kept_templates templates ≡ (None, u) ∷ [] → state_of w ≡ prepared u (facts app)) }
     ensures works { IfOk result WorksAre }
-    ensures bare { IfOk result (λ w. (state_of w).linked ≡ None) }
+    ensures bare { IfOk result (λ w. (state_of w).instances ≡ []) }
     ensures templates { IfOk result (λ w. templates_of w ≡ kept_templates templates) }
 {
     let (core, run) = app.begin()?;
@@ -38,19 +41,21 @@ fn prepare(alloc: Global, app: App, templates: Templates) -> Result<Works, Memor
 fn link_page(works: &mut Works, alloc: Global, t: TplId) -> Result<(), Memory>
     requires works { WorksAre works.old }
     requires first { t.0 ≡ 0 }
-    requires bare { (state_of works.old).linked ≡ None }
-    ensures state { OnOk result ((u : Template) → template_at (templates_of works.old) t.0 ≡ Some u → state_of works.new ≡ linked_on u (state_of works.old)) }
+    requires bare { (state_of works.old).instances ≡ [] }
+    requires regular { AllByRecursion (λ k. is_regular k.1 ≡ true) (templates_of works.old) }
+    ensures state { OnOk result ((u : Template) → option_map (λ k. k.1) (slice_get (templates_of works.old) t.0) ≡ Some u → state_of works.new ≡ linked_on u (state_of works.old)) }
     ensures works { OnOk result (WorksAre works.new) }
     ensures watched { OnOk result (IsWatched (state_of works.new)) }
+    ensures fits { OnOk result (Fits [] (state_of works.new)) }
 {
     let _in_order = works.watchers().count();
-    match link(works, alloc, t, ScopeId(0), None, 0) {
-        Ok(_) => Ok(()),
-        Err(Fault::Memory(memory)) => Err(memory),
-        Err(fault) => {
-            works.hand_over(fault);
-            Ok(())
-        }
+    works.core.scopes.sound();
+    let built = link_at(works, alloc, &Place::Top, t, 0, ScopeId(0))?;
+    if built.room {
+        Ok(())
+    } else {
+        works.hand_over(Fault::NodeLimit);
+        Ok(())
     }
 }
 
@@ -60,6 +65,7 @@ pub(crate) fn open(alloc: Global, t: Tpl, app: App) -> Result<Works, Memory>
     ensures page { IfOk result PageIs }
 {
     let mut templates = Templates::new(alloc);
+    let _regular = t.own();
     let t = templates.add(None, t)?;
     let mut works = prepare(alloc, app, templates)?;
     link_page(&mut works, alloc, t)?;

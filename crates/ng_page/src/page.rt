@@ -85,7 +85,7 @@ fn element_at(dom: &Dom, path: &Path) -> Option<NodeId>
 
 impl Page {
     ghost use Rattle.ng_dom.specs.Paths.{StandsIn};
-    ghost use Rattle.ng_link.specs.Events.{named};
+    ghost use Rattle.ng_link.specs.Events.{named, scope_of};
     ghost use Rattle.ng_page.specs.Commanded.{Commanded, Ended, refusal};
     ghost use Rattle.ng_page.specs.Dispatched.{Dispatched};
     ghost use Rattle.ng_page.specs.PageOf.{state_of, fragments_of, IsPage, Displays, Names};
@@ -336,6 +336,8 @@ impl Page {
 
     /// What stands of the template: for each site its key, its scope and what it has kept.
     pub fn instance(&self) -> Result<Option<Instance>, Memory>
+        requires page { IsPage self.now }
+        requires unspent { self.now.spent ≡ false }
         ensures { IfOk result (λ i. option_map (instance_of (fragments_of self.now)) i ≡ instance (state_of self.now)) }
     {
         self.engine.works.instance()
@@ -367,11 +369,12 @@ impl Page {
         }
     }
 
-    /// The scope of a node. It is the root, since nothing makes a scope for its nodes today.
-    pub fn scope_of(&self, _n: NodeId) -> ScopeId
-        ensures { result.0 ≡ 0 }
+    /// The scope of a node: that of the instance to which it belongs.
+    pub fn scope_of(&self, n: NodeId) -> ScopeId
+        ensures scope { result.0 ≡ scope_of (state_of self.now) n.made.0 }
+        ensures there { IsPage self.now → self.now.spent ≡ false → result.0 < length (state_of self.now).core.scopes }
     {
-        self.root()
+        self.engine.works.scope_of(n.made.0)
     }
 
     /// The root scope.

@@ -7,10 +7,11 @@ ghost use Rattle.ng_act.specs.Frames.{IsSound, Acts};
 ghost use Rattle.ng_act.specs.Running.{same};
 ghost use Rattle.ng_base.specs.Objects.{StandsAmong};
 ghost use Rattle.ng_language.specs.Objects.{items_at};
+ghost use Rattle.ng_fire.specs.Runs.{destroyed};
 ghost use Rattle.ng_link.specs.State.{state_of};
 ghost use Rattle.ng_parse.specs.ProgramOf.{program};
 ghost use Rattle.ng_view.specs.Purity.{are_pure, all_filters_known};
-ghost use Rattle.ng_page.specs.Commands.{begun, destroyed, json_fault as json_fault_of, items_in, json_run, emit_run, broadcast_run, asked_run, applies, queues, probes, destroys_scope, emits, broadcasts};
+ghost use Rattle.ng_page.specs.Commands.{begun, json_fault as json_fault_of, items_in, json_run, emit_run, broadcast_run, asked_run, applies, queues, probes, destroys_scope, emits, broadcasts};
 ghost use Rattle.ng_page.specs.PlaceOf.{PageIs};
 
 use ng_act::core_state::{Core, Handed};

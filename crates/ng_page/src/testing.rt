@@ -121,7 +121,7 @@ pub(crate) fn fire(
     requires there { IsSome (found key.now (state_of works.old).watchers) }
     requires dirty { IsDirtyWith (snap_of snapshot) (state_of works.old) key.now }
     ensures state { OnOk result ((ts : List Name) (ps : List (List ℕ)) → seen_of works.new ts faulted.new.keys ps ≡ fired_to key.now (fired key.now (snap_of snapshot) (state_of works.old)) (seen_of works.old ts faulted.old.keys ps)) }
-    ensures added { IfOk result (λ a. a ≡ fire_adds key.now (state_of works.old)) }
+    ensures added { IfOk result (λ a. a ≡ fire_adds key.now (snap_of snapshot) (state_of works.old)) }
     ensures works { OnOk result (WorksAre works.new) }
 {
     let fired = firing::fire(works, alloc, key, snapshot)?;

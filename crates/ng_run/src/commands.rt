@@ -1,5 +1,5 @@
 //! Commands, done on a page.
-ghost use Rattle.std.specs.Prelude.{◌≡◌, true, codes, is_some, IfOk, option_map};
+ghost use Rattle.std.specs.Prelude.{◌≡◌, ◌<◌, length, true, codes, is_some, IfOk, option_map};
 ghost use Rattle.std.specs.Option.{IfSome};
 ghost use Rattle.serde_json.specs.Data.{object, no_members};
 ghost use Rattle.serde_json.specs.Find.{as_array};
@@ -22,11 +22,11 @@ use ng_base::fault::Memory;
 use ng_base::name::ScopeId;
 use ng_base::path::Target;
 use ng_base::txt::Txt;
-use ng_inputs::words::Flags;
 use ng_page::outcome::{Outcome, Outcomes, PageFault};
 use ng_page::page::Page;
 use ng_parse::Program;
 use ng_script::{Command, ScopeOf, What};
+use ng_words::words::Flags;
 use serde_json::{Map, Value as Json};
 use std::alloc::Global;
 
@@ -56,7 +56,7 @@ fn answered(answer: Result<Outcome, PageFault>) -> Result<Done, Memory>
 fn scope_of(page: &Page, scope: &ScopeOf) -> Option<ScopeId>
     requires { IsReady page.now }
     ensures scope { option_map (λ s. s.0) result ≡ scope_in scope.now (state_of page.now) }
-    ensures root { IfSome result (λ s. s.0 ≡ 0) }
+    ensures there { IfSome result (λ s. s.0 < length (state_of page.now).core.scopes) }
 {
     match scope {
         ScopeOf::Root => Some(page.root()),

@@ -15,6 +15,7 @@ use Rattle.ng_template.specs.declared.manners.Setting.TheVariants.{Interpolates,
 
 -- what a directive of the core does with its text; some are not built yet
 abbrev pub core_manner : CoreDirective → Option Manner
+core_manner dirs.If = Some manners.Fills
 core_manner dirs.Init = Some manners.Starts
 core_manner dirs.Checked = Some (manners.Sets Switches)
 core_manner dirs.Disabled = Some (manners.Sets Switches)

@@ -37,6 +37,7 @@ fn core_manner(d: CoreDirective) -> Option<Manner>
     ensures { result ≡ core_manner_of d }
 {
     match d {
+        CoreDirective::If => Some(Manner::Fills),
         CoreDirective::Init => Some(Manner::Starts),
         CoreDirective::Checked => Some(Manner::Sets(Setting::Switches)),
         CoreDirective::Disabled => Some(Manner::Sets(Setting::Switches)),

@@ -26,5 +26,5 @@ returns-clause-whole c =
     ∙ (ap (λ (x : WatchKind). put (key_in s d.scope d.serial) x c.object.result.0) kind
     ∙ ap (λ (o : ℕ). put (key_in s d.scope d.serial) (kind_of d.kind) o) c.object.ensures)) in
     whole_with w v c.requires.whole c.declare.ensures.core stands
-    (subst (λ (x : State). Stays (length w.core.scopes) (length w.core.store) x) (sym same)
-    (applied_stays (length w.core.scopes) (length w.core.store) (adds d) s c.requires.scope (stays_of w c.requires.whole))))
+    (subst (λ (x : State). Stays w.core.scopes (length w.core.store) x) (sym same)
+    (applied_stays w.core.scopes (length w.core.store) (adds d) s c.requires.scope (stays_of w c.requires.whole))))

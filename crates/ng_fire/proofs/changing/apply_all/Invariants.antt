@@ -12,6 +12,6 @@ invariant-loop-change l = record {
   whole : IsWhole l.works;
   core : l.works.core ≡ l.initial.works.core;
   stand : AllByRecursion (ChangeStands (length l.works.core.scopes)) (map change_of l.change-iterator.rest.items);
-  linked : (state_of l.works).linked ≡ (state_of l.initial.works).linked;
+  linked : (state_of l.works).instances ≡ (state_of l.initial.works).instances;
   templates : templates_of l.works ≡ templates_of l.initial.works;
 }

@@ -15,8 +15,8 @@ returns-in_ok-key-in-Remove-clause-whole c =
     let change = removes c.in-Remove.scope.0 c.in-Remove.serial.0 in
     let same : state_of v ≡ applied change (state_of w) = c.undeclare.ensures.state ∙ ap (λ (k : Key). undeclared_at k (state_of w)) c.in_ok-key-in-Remove.ensures in
     whole_with w v c.requires.whole c.undeclare.ensures.core c.undeclare.ensures.stands
-    (subst (λ (s : State). Stays (length w.core.scopes) (length w.core.store) s) (sym same)
-    (applied_stays (length w.core.scopes) (length w.core.store) change (state_of w) (rw c.in-Remove.is at c.requires.scope) (stays_of w c.requires.whole)))
+    (subst (λ (s : State). Stays w.core.scopes (length w.core.store) s) (sym same)
+    (applied_stays w.core.scopes (length w.core.store) change (state_of w) (rw c.in-Remove.is at c.requires.scope) (stays_of w c.requires.whole)))
 
 pub returns-in_ok-path-in-Leave-clause-whole : goal.returns-in_ok-path-in-Leave-clause-whole
 returns-in_ok-path-in-Leave-clause-whole c =
@@ -27,5 +27,5 @@ returns-in_ok-path-in-Leave-clause-whole c =
     (λ state stands.
     let same : state_of v ≡ applied change (state_of w) = state ∙ ap (λ p. left_at p (state_of w)) (c.in_ok-path-in-Leave.ensures ∙ c.path.ensures) in
     whole_with w v c.requires.whole c.leave.ensures.core stands
-    (subst (λ (s : State). Stays (length w.core.scopes) (length w.core.store) s) (sym same)
-    (applied_stays (length w.core.scopes) (length w.core.store) change (state_of w) (rw c.in-Leave.is at c.requires.scope) (stays_of w c.requires.whole))))
+    (subst (λ (s : State). Stays w.core.scopes (length w.core.store) s) (sym same)
+    (applied_stays w.core.scopes (length w.core.store) change (state_of w) (rw c.in-Leave.is at c.requires.scope) (stays_of w c.requires.whole))))

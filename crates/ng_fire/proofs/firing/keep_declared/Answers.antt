@@ -14,13 +14,13 @@ returns-clause-stands c =
     let s = state_of w in
     if_ok c.keep.result c.keep.ensures.former
     (λ f e. subst (λ (o : Option ViewTree). KeptStands (length w.core.store) o) (sym e)
-    (rows_found (length w.core.store) s.linked c.args.key.now s.watchers c.requires.declared c.requires.whole.kept))
+    (rows_found (length w.core.store) s.instances c.args.key.now s.watchers c.requires.declared c.requires.whole.kept))
 
 pub returns-clause-whole : goal.returns-clause-whole
 returns-clause-whole c =
     let w = c.args.works.now in
     let v = c.keep.new.self in
-    let n = length w.core.scopes in
+    let n = w.core.scopes in
     let m = length w.core.store in
     let t = snap_of c.args.snapshot in
     let row = subst (λ (b : Bool). RowStands m b (Some t)) (sym c.requires.declared) c.requires.stands in

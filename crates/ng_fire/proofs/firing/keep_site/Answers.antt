@@ -9,7 +9,7 @@ pub returns-clause-whole : goal.returns-clause-whole
 returns-clause-whole c =
     let w = c.args.works.now in
     let v = c.keep.new.self in
-    let n = length w.core.scopes in
+    let n = w.core.scopes in
     let m = length w.core.store in
     let t = snap_of c.args.snapshot in
     let row = subst (λ (b : Bool). RowStands m b (Some t)) (sym c.requires.site) tt in

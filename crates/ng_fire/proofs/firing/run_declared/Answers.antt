@@ -21,7 +21,7 @@ follow-requires c =
     let f = option_map snap_of c.args.former in
     let v = view_of c.args.value.now in
     let e = c.run_listener-end.ensures in
-    whole_run w c.run_listener-end.new.core c.run_listener-end.result (listener_run l f v (cores.state_of w.core)) c.requires.whole e.run (listener_rises l f v (cores.state_of w.core)) e.sound e.idle e.count e.grown
+    whole_run w c.run_listener-end.new.core c.run_listener-end.result (listener_run l f v (cores.state_of w.core)) c.requires.whole e.run (listener_rises l f v (cores.state_of w.core)) e.sound e.idle e.grown
 
 pub returns-clause-added : goal.returns-clause-added
 returns-clause-added c =

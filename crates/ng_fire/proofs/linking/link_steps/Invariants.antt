@@ -8,9 +8,8 @@ use Rattle.ng_fire.proofs.linking.link_steps.Given as goal
 
 abbrev pub invariant-loop-step : goal.invariant-loop-step
 invariant-loop-step l = record {
-  steps : steps_linked l.scope.0 (map step_of (drop l.step-index l.order)) (linking l.works l.serials) ≡ steps_linked l.scope.0 (map step_of l.order) (begins_linking (state_of l.initial.works));
+  steps : steps_linked l.scope.0 (map step_of (drop l.step-index l.order)) (linking l.works l.done.serials l.done.added) ≡ steps_linked l.scope.0 (map step_of l.order) (begins_linking (state_of l.initial.works));
   whole : IsWhole l.works;
-  linked : (state_of l.works).linked ≡ (state_of l.initial.works).linked;
   scopes : length l.works.core.scopes ≡ length l.initial.works.core.scopes;
   templates : templates_of l.works ≡ templates_of l.initial.works;
 }

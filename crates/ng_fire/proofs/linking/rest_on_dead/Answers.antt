@@ -8,7 +8,7 @@ pub returns-clause-whole : goal.returns-clause-whole
 returns-clause-whole c =
     let w = c.args.works.now in
     let v = c.leave.new.self in
-    let n = length w.core.scopes in
+    let n = w.core.scopes in
     let m = length w.core.store in
     ok_and c.leave.result c.leave.ensures.state c.leave.ensures.stands
     (λ state stands. whole_with w v c.requires.whole c.leave.ensures.core stands (subst (λ (s : State). Stays n m s) (sym state) (left_stays n m c.in_ok-path.path (state_of w) (stays_of w c.requires.whole))))

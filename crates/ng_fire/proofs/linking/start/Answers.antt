@@ -11,4 +11,4 @@ follow-requires c =
     let s = cores.state_of w.core in
     let p = program c.args.p.now in
     let e = c.run_program-end.ensures in
-    whole_ran w c.run_program-end.new.core c.run_program-end.result (program_run c.args.scope.0 p s) c.requires.whole e.run (program_rises c.args.scope.0 p s) e.sound e.idle e.count e.grown
+    whole_ran w c.run_program-end.new.core c.run_program-end.result (program_run c.args.scope.0 p s) c.requires.whole e.run (program_rises c.args.scope.0 p s) e.sound e.idle e.grown

@@ -1,8 +1,7 @@
 use Rattle.std.proofs.Common.{◌≡◌, ◌++◌, drop, take, map}
-use Rattle.ng_drawing.specs.Nodes.{node_limit}
 use Rattle.ng_link.specs.Linking.{steps_within}
 use Rattle.ng_link.specs.StepOf.{step_of}
 use Rattle.ng_fire.proofs.linking.steps_within.Given as goal
 
 abbrev pub invariant-loop-i : goal.invariant-loop-i
-invariant-loop-i l = map step_of (take l.i l.order) ++ steps_within l.room (map step_of (drop l.i l.order)) ≡ steps_within node_limit (map step_of l.order)
+invariant-loop-i l = map step_of (take l.i l.order) ++ steps_within l.left (map step_of (drop l.i l.order)) ≡ steps_within l.room (map step_of l.order)

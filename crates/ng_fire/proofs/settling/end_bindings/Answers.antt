@@ -8,7 +8,7 @@ pub returns-clause-whole : goal.returns-clause-whole
 returns-clause-whole c =
     let w = c.args.works.now in
     let v = c.end_over.new.self in
-    let n = length w.core.scopes in
+    let n = w.core.scopes in
     let m = length w.core.store in
     ok_and c.end_over.result c.end_over.ensures.state c.end_over.ensures.stands
     (λ state stands. whole_with w v c.requires c.end_over.ensures.core stands

@@ -9,7 +9,7 @@ pub loop-key-preserved : goal.loop-key-preserved
 loop-key-preserved c =
     let w = c.loop-key.works in
     let v = c.unset.new.self in
-    let n = length w.core.scopes in
+    let n = w.core.scopes in
     let m = length w.core.store in
     let h = c.loop-key.invariant in
     record {

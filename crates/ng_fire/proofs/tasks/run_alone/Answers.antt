@@ -16,4 +16,4 @@ follow-requires c =
     let a = a_body c.args.scope.0 [] (program c.args.p.now) in
     let e = c.run_first-end.ensures in
     let acts = subst (λ (ls : List Local). Acts same c.run_first-end.result (cores.state_of c.run_first-end.new.core) (as_value_run (asked_first (a_body c.args.scope.0 ls (program c.args.p.now)) (cores.state_of w.core)))) c.new.ensures e.run in
-    whole_run w c.run_first-end.new.core c.run_first-end.result (asked_first a (cores.state_of w.core)) c.requires.whole acts (asked_rises a (cores.state_of w.core)) e.sound e.idle e.count e.grown
+    whole_run w c.run_first-end.new.core c.run_first-end.result (asked_first a (cores.state_of w.core)) c.requires.whole acts (asked_rises a (cores.state_of w.core)) e.sound e.idle e.grown

@@ -15,7 +15,7 @@ use Rattle.ng_page.proofs.Turns.{scope_there, handling_stays, handling_sites, wa
 use Rattle.ng_page.proofs.dispatching.run_turn.Goals as goal
 
 pub handling-end-requires-clause-scope : goal.handling-end-requires-clause-scope
-handling-end-requires-clause-scope c = scope_there c.ready.new.works c.scope_of-scope.result.0 (c.scope_of-scope.ensures c.args.n) (c.ready.ensures.page c.requires.page)
+handling-end-requires-clause-scope c = scope_there c.ready.new.works c.args.n c.scope_of-scope.result.0 c.scope_of-scope.ensures (c.ready.ensures.page c.requires.page)
 
 pub follow-requires : goal.follow-requires
 follow-requires c =
@@ -46,7 +46,7 @@ returns-clause-state c =
     let scope = c.scope_of-scope.result.0 in
     let run : Run Value = handling_run x e scope p (cores.state_of w.core) in
     on_ok c.rest_where_dead.result c.rest_where_dead.ensures.state
-    (λ state. turned x e c.args.n scope p (state_of c.args.works.now) (state_of w) (state_of c.follow.new.works) (state_of c.rest_where_dead.new.works) c.ready.ensures.state (c.scope_of-scope.ensures c.args.n) (c.in_ok-follow.ensures.state run c.handling-end.ensures.run).0 state)
+    (λ state. turned x e c.args.n scope p (state_of c.args.works.now) (state_of w) (state_of c.follow.new.works) (state_of c.rest_where_dead.new.works) c.ready.ensures.state c.scope_of-scope.ensures (c.in_ok-follow.ensures.state run c.handling-end.ensures.run).0 state)
 
 pub returns-clause-event : goal.returns-clause-event
 returns-clause-event c =

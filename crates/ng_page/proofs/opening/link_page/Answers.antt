@@ -1,40 +1,51 @@
-use Rattle.std.proofs.Common.{◌≡◌, ◌<◌, ◌∙◌, List, false, ap, length, rules, subst, sym}
-use Rattle.ng_base.specs.Faults.{is_memory}
-use Rattle.ng_fire.proofs.Ordered.{InKeys}
-use Rattle.ng_fire.specs.Links.{link_on}
-use Rattle.ng_link.specs.State.{State, state_of, templates_of}
+use Rattle.std.proofs.Common.{◌<◌, ◌∙◌, List, [], length, subst, sym}
+use Rattle.ng_base.specs.declared.fault.Fault.TheVariants.{NodeLimit}
+use Rattle.ng_link.specs.State.{state_of, templates_of}
 use Rattle.ng_template.specs.Kept.{Named}
 use Rattle.ng_watch.specs.Table.{watchers_of}
-use Rattle.ng_page.proofs.Opened.{link_watched}
-use Rattle.ng_page.proofs.Prepared.{bare_watched, first_there, linked_fine, linked_fault, whole_told}
+use Rattle.ng_page.proofs.DigestsStay.{AreFitting}
+use Rattle.ng_page.proofs.Opened.{first_fragment, page_linked, page_refused, page_opened}
+use Rattle.ng_page.proofs.Prepared.{whole_told}
+use Rattle.ng_page.proofs.Sites.{InKeys}
 use Rattle.ng_page.proofs.opening.link_page.Goals as goal
 
-pub returns-in-Ok-clause-watched : goal.returns-in-Ok-clause-watched
-returns-in-Ok-clause-watched c =
-    let v = c.args.works.now in
-    let w = c.link.new.works in
-    let q = first_there (templates_of v) c.args.t.0 c.requires.first c.requires.works.templates in
-    let is : state_of w ≡ link_on 0 0 q.0 (state_of v) = subst (λ n. state_of w ≡ link_on n 0 q.0 (state_of v)) c.requires.first (c.in-Ok.ensures.state q.0 q.1) in
-    link_watched w q.0 (state_of v) (c.in-Ok.ensures.room q.0 q.1) is c.in-Ok.ensures.whole (subst (λ t. InKeys (watchers_of t)) c.watchers.ensures c.count-in_order.ensures.ordered)
+pub link_at-requires-clause-template : goal.link_at-requires-clause-template
+link_at-requires-clause-template c = first_fragment (templates_of c.args.works.now) c.args.t.0 c.requires.first c.requires.works.templates
 
-pub returns-in-Ok-clause-state : goal.returns-in-Ok-clause-state
-returns-in-Ok-clause-state c = λ u at.
-    let v = c.args.works.now in
-    let w = c.link.new.works in
-    linked_fine u (state_of v) (state_of w) (c.in-Ok.ensures.room u at) (subst (λ n. state_of w ≡ link_on n 0 u (state_of v)) c.requires.first (c.in-Ok.ensures.state u at))
+pub link_at-requires-clause-free : goal.link_at-requires-clause-free
+link_at-requires-clause-free c = (c.requires.bare, c.sound.ensures.top)
 
-pub returns-in-Err : goal.returns-in-Err
-returns-in-Err c =
+pub returns-then-built : goal.returns-then-built
+returns-then-built c =
     let v = c.args.works.now in
-    let w = c.link.new.works in
-    let told : is_memory c.in-Err.fault ≡ false = search rules in
-    let left = c.hand_over.ensures in
+    let w = c.link_at.new.works in
+    let s = state_of v in
+    let state = page_linked (templates_of v) c.args.t.0 s (state_of w) c.in_ok-built.built.room _ c.requires.first c.in_ok-built.ensures.linked c.if-built.true in
+    let fitting : AreFitting [] (state_of w) =
+    page_opened c.args.t.0 s (state_of w) c.requires.first c.requires.works.templates c.requires.regular c.requires.bare (subst (λ t. InKeys (watchers_of t)) c.watchers.ensures c.count-in_order.ensures.ordered) c.requires.works.whole.root state in
     record {
-      state = λ u at. linked_fault u (state_of v) (state_of w) (state_of c.hand_over.new.self) c.in-Err.fault (c.in-Err.ensures.fault told u at)
-          (subst (λ n. state_of w ≡ link_on n 0 u (state_of v)) c.requires.first (c.in-Err.ensures.state told u at)) left.state;
+      state = state;
+      works = record { whole = c.in_ok-built.ensures.whole; templates = subst (λ (ts : List Named). 0 < length ts) (sym c.link_at.ensures.templates) c.requires.works.templates };
+      watched = fitting.watched;
+      fits = fitting.fits;
+    }
+
+pub returns-else-built : goal.returns-else-built
+returns-else-built c =
+    let v = c.args.works.now in
+    let w = c.link_at.new.works in
+    let end = c.hand_over.new.self in
+    let s = state_of v in
+    let left = c.hand_over.ensures in
+    let state = page_refused (templates_of v) c.args.t.0 s (state_of w) (state_of end) c.in_ok-built.built.room _ c.requires.first c.in_ok-built.ensures.linked c.if-built.false left.state in
+    let fitting : AreFitting [] (state_of end) =
+    page_opened c.args.t.0 s (state_of end) c.requires.first c.requires.works.templates c.requires.regular c.requires.bare (subst (λ t. InKeys (watchers_of t)) c.watchers.ensures c.count-in_order.ensures.ordered) c.requires.works.whole.root state in
+    record {
+      state = state;
       works = record {
-        whole = whole_told w c.hand_over.new.self c.in-Err.fault left.state left.sound left.depth left.stands (c.in-Err.ensures.whole told);
-        templates = subst (λ (ts : List Named). 0 < length ts) (sym (left.templates ∙ c.in-Err.ensures.templates)) c.requires.works.templates;
+        whole = whole_told w end NodeLimit left.state left.sound left.depth left.stands c.in_ok-built.ensures.whole;
+        templates = subst (λ (ts : List Named). 0 < length ts) (sym (left.templates ∙ c.link_at.ensures.templates)) c.requires.works.templates;
       };
-      watched = bare_watched (state_of c.hand_over.new.self) (ap (λ (x : State). x.linked) left.state ∙ c.in-Err.ensures.bare told);
+      watched = fitting.watched;
+      fits = fitting.fits;
     }

@@ -1,15 +1,36 @@
-use Rattle.std.proofs.Common.{◌≡◌, ◌∙◌, Some, ap}
-use Rattle.ng_link.specs.State.{templates_of, template_at}
-use Rattle.ng_template.specs.Kept.{templates_of as kept_templates}
+use Rattle.std.proofs.Common.{◌≡◌, ◌∙◌, ◌<◌, List, [], ◌∷◌, None, ap, arith, length, subst, sym}
+use Rattle.ng_link.specs.State.{templates_of}
+use Rattle.ng_template.specs.Kept.{Named, templates_of as kept_templates}
 use Rattle.ng_template.specs.TemplateOf.{template_of}
 use Rattle.ng_page.specs.Opening.{linked_on}
-use Rattle.ng_page.proofs.Opened.{first_name, first_template}
+use Rattle.ng_page.proofs.Opened.{AreRegular, one_added, first_name, first_template}
 use Rattle.ng_page.proofs.opening.open.Goals as goal
+
+pub prepare-requires : goal.prepare-requires
+prepare-requires c =
+    let only : kept_templates c.add.new.self ≡ (None, template_of c.args.t) ∷ [] = one_added _ _ _ c.new-templates.ensures c.in_ok-t.ensures.added in
+    subst (λ (ts : List Named). 0 < length ts) (sym only) (omega arith)
+
+pub link_page-requires : goal.link_page-requires
+link_page-requires c =
+    let only : kept_templates c.add.new.self ≡ (None, template_of c.args.t) ∷ [] = one_added _ _ _ c.new-templates.ensures c.in_ok-t.ensures.added in
+    record {
+      works = c.in_ok-works.ensures.works;
+      first = first_name (kept_templates c.new-templates.result) c.in_ok-t.t.0 c.new-templates.ensures c.in_ok-t.ensures.answer;
+      bare = c.in_ok-works.ensures.bare;
+      regular = subst AreRegular (sym (c.in_ok-works.ensures.templates ∙ only)) (c.own-regular.ensures.regular, tt);
+    }
 
 pub returns-clause-state : goal.returns-clause-state
 returns-clause-state c =
     let u = template_of c.args.t in
-    let ts = kept_templates c.new-templates.result in
-    let there : template_at (templates_of c.in_ok-works.works) c.in_ok-t.t.0 ≡ Some u =
-    first_template ts (kept_templates c.add.new.self) (templates_of c.in_ok-works.works) c.in_ok-t.t.0 u c.new-templates.ensures c.in_ok-t.ensures.added c.in_ok-works.ensures.templates (first_name ts c.in_ok-t.t.0 c.new-templates.ensures c.in_ok-t.ensures.answer) in
-    c.in_ok-link_page.ensures.state u there ∙ ap (linked_on u) c.in_ok-works.ensures.state
+    let only : kept_templates c.add.new.self ≡ (None, u) ∷ [] = one_added _ _ _ c.new-templates.ensures c.in_ok-t.ensures.added in
+    let first : c.in_ok-t.t.0 ≡ 0 = first_name (kept_templates c.new-templates.result) c.in_ok-t.t.0 c.new-templates.ensures c.in_ok-t.ensures.answer in
+    c.in_ok-link_page.ensures.state u (first_template (templates_of c.in_ok-works.works) c.in_ok-t.t.0 u (c.in_ok-works.ensures.templates ∙ only) first) ∙ ap (linked_on u) (c.in_ok-works.ensures.state u only)
+
+pub returns-clause-page : goal.returns-clause-page
+returns-clause-page c = record {
+  works = c.in_ok-link_page.ensures.works;
+  watched = c.in_ok-link_page.ensures.watched;
+  fits = c.in_ok-link_page.ensures.fits;
+}

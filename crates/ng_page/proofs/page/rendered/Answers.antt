@@ -18,7 +18,7 @@ render-requires c =
     let w = c.args.works.now in
     let s : State = state_of w in
     subst (λ (ts : List Named). InstanceStands s.core.objects s.core.scopes (instance_of (fragments_in ts) c.args.i.now)) (sym c.templates.ensures)
-    (names_stand w (instance_of (fragments_in (templates_of w)) c.args.i.now) c.requires.page c.requires.instance)
+    (names_stand s (instance_of (fragments_in (templates_of w)) c.args.i.now) c.requires.page.works.whole.sound.objects c.requires.page.watched c.requires.instance)
 
 pub returns : goal.returns
 returns c =

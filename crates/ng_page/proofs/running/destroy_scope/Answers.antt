@@ -1,9 +1,10 @@
 use Rattle.std.proofs.Common.{◌∙◌, ap, sym}
 use Rattle.ng_act.specs.Frames as cores
 use Rattle.ng_fire.specs.Changes.{changed}
+use Rattle.ng_fire.specs.Runs.{destroyed}
 use Rattle.ng_link.specs.Calls.{with_core}
 use Rattle.ng_link.specs.State.{state_of}
-use Rattle.ng_page.specs.Commands.{destroyed, destroys_scope}
+use Rattle.ng_page.specs.Commands.{destroys_scope}
 use Rattle.ng_page.proofs.Ran.{whole_stays, page_asked}
 use Rattle.ng_page.proofs.StepsStay.{destroyed_stays}
 use Rattle.ng_page.proofs.running.destroy_scope.Goals as goal

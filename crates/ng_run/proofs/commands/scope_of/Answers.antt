@@ -1,4 +1,5 @@
 use Rattle.std.proofs.Common.{◌≡◌, ap, sym, ◌∙◌, subst, Some, None}
+use Rattle.ng_link.specs.Events.{scope_of}
 use Rattle.ng_page.specs.PageOf.{state_of}
 use Rattle.ng_run.specs.Aims.{scope_in}
 use Rattle.ng_run.proofs.Aimed.{scope_nowhere, scope_found}
@@ -9,5 +10,5 @@ returns-in-None-clause-scope c = subst (λ o. None ≡ scope_in o (state_of c.ar
 
 pub returns-in-Some-clause-scope : goal.returns-in-Some-clause-scope
 returns-in-Some-clause-scope c =
-    ap (λ n. Some n) c.scope_of.ensures
-    ∙ subst (λ o. Some 0 ≡ scope_in o (state_of c.args.page.now)) (sym c.in-Node.is) (scope_found c.args.page.now c.requires c.in-Node.target c.in-Some.node c.in-Some.ensures.found)
+    ap (λ n. Some n) c.scope_of.ensures.scope
+    ∙ subst (λ o. Some (scope_of (state_of c.args.page.now) c.in-Some.node.made.0) ≡ scope_in o (state_of c.args.page.now)) (sym c.in-Node.is) (scope_found c.args.page.now c.requires c.in-Node.target c.in-Some.node c.in-Some.ensures.found)

@@ -24,7 +24,7 @@ returns-clause-state c =
     let new = c.show_kept.new.self.dom in
     let t = with_kept c.args.key.now (Some (snap_of c.args.s)) s.watchers in
     let fires = c.in_ok-show_kept.ensures.fires in
-    let next : next_name new ≡ next_name old = written_next (looks_of (watchers_of c.keep-former.new.self) s.resting) (spot_in c.args.self.now.page c.args.key.now) old new fires.dom in
+    let next : next_name new ≡ next_name old = written_next (looks_of (watchers_of c.keep-former.new.self) s.resting) (spot_in c.args.self.now.instances.entries c.args.key.now) old new fires.dom in
     ap state_of fires.rest
     ∙ (ap (λ (x : Table). record s { watchers = x; next_node = next_name new }) c.keep-former.ensures.kept
     ∙ ap (λ (n : ℕ). record s { watchers = t; next_node = n }) next)
@@ -38,6 +38,6 @@ returns-clause-stands c =
     let new = c.show_kept.new.self in
     let k = c.args.key.now in
     let fires = c.in_ok-show_kept.ensures.fires in
-    let W : Table → Type 0 = λ t. WritesAt (looks_of t (state_of old).resting) (spot_in old.page k) old.dom new.dom in
+    let W : Table → Type 0 = λ t. WritesAt (looks_of t (state_of old).resting) (spot_in old.instances.entries k) old.dom new.dom in
     λ ts g. let F : Works → Type 0 = λ x. Standing x ts in
     subst F (sym fires.rest) (kept_stands old c.keep-former.new.self new.dom k (Some (snap_of c.args.s)) c.keep-former.ensures.kept (subst W c.keep-former.ensures.kept fires.dom) ts g)

@@ -6,7 +6,7 @@ use Rattle.ng_digest.specs.Short.{Digests}
 use Rattle.ng_link.specs.State as link
 use Rattle.ng_page.specs.PageMachine.{page_machine}
 use Rattle.ng_page.specs.PlaceOf.{place_of}
-use Rattle.ng_page.proofs.Digested.{page_after}
+use Rattle.ng_page.proofs.Digested.{page_after, page_fitting}
 use Rattle.ng_page.proofs.SettledLaws.{settled_when_ok}
 use Rattle.ng_page.proofs.engine.Engine.digest.Goals as goal
 
@@ -24,6 +24,6 @@ returns-clause-settled c =
 
 pub returns-clause-page : goal.returns-clause-page
 returns-clause-page c =
-    page_after (link.state_of c.args.self.now.works) c.digest.new.w c.digest.result c.requires.watched
+    page_after (link.state_of c.args.self.now.works) c.digest.new.w c.digest.result (page_fitting c.args.self.now.works c.requires)
     (subst (λ s. Unless c.digest.result (PlainDigests page_machine s (plain_answer c.digest.result) (plain_of (place_of c.digest.new.w)))) (ap (λ p. p.state) c.ready.ensures.place) c.digest.ensures.plain)
     c.digest.ensures.rests

@@ -1,0 +1,40 @@
+-- What is known of a call that answered Ok, and of what is there.
+use Rattle.std.proofs.Common.{◌≡◌, ◌∙◌, ◌<◌, ◌+◌, ℕ, zero, suc, List, [], ◌∷◌, length, drop, get_or, Option, Some, None, refl, ap, sym, subst, true, arith}
+use Rattle.std.specs.Prelude.{Result, Ok, Err, IfErr, IfSome, OnErr, IsSome, OnOk, is_ok}
+
+pub on_ok : {T E : Type 0} {A : Type 0} (r : Result T E) (v : T) → r ≡ Ok v → OnOk r A → A
+on_ok (Ok x) v e a = a
+on_ok (Err f) v e a = absurd (cc)
+
+pub there : {T : Type 0} (o : Option T) → IsSome o → (x : T) × (o ≡ Some x)
+there None h = absurd (cc)
+there (Some x) h = (x, refl)
+
+pub ok_is : {E : Type 0} (r : Result (Unit {0}) E) → is_ok r ≡ true → r ≡ Ok tt
+ok_is (Ok u) h = refl
+ok_is (Err e) h = absurd (cc)
+
+pub ok_then : {T E : Type 0} {A B : Type 0} (r : Result T E) → OnOk r A → (A → B) → OnOk r B
+ok_then (Ok x) a f = f a
+ok_then (Err e) a f = tt
+
+pub some_is : {T : Type 0} (P : T → Type 0) (o : Option T) (x : T) → IfSome o P → o ≡ Some x → P x
+some_is P None x h e = absurd (cc)
+some_is P (Some y) x h e = let same : y ≡ x = cc in subst P same h
+
+pub err_is : {T E : Type 0} (P : E → Type 0) (r : Result T E) (e : E) → IfErr r P → r ≡ Err e → P e
+err_is P (Ok v) e h q = absurd (cc)
+err_is P (Err f) e h q = let same : f ≡ e = cc in subst P same h
+
+pub err_on : {T E : Type 0} {A : Type 0} (r : Result T E) (e : E) → r ≡ Err e → OnErr r A → A
+err_on (Ok v) e q h = absurd (cc)
+err_on (Err f) e q h = h
+
+-- the rest of a list from a place on
+dropped_more : {X : Type 0} (xs : List X) (k : ℕ) (x : X) → k < length xs → x ≡ get_or xs k x → drop k xs ≡ x ∷ drop (suc k) xs
+dropped_more [] k x l e = absurd (omega (arith, l))
+dropped_more (y ∷ ys) zero x l e = ap (λ z. z ∷ ys) (sym e)
+dropped_more (y ∷ ys) (suc k) x l e = dropped_more ys k x (omega (arith, l)) e
+
+pub dropped : {X : Type 0} (xs : List X) (k : ℕ) (x : X) → k < length xs → x ≡ get_or xs k x → drop k xs ≡ x ∷ drop (k + 1) xs
+dropped xs k x l e = dropped_more xs k x l e ∙ ap (λ (n : ℕ). x ∷ drop n xs) (let one : suc k ≡ k + 1 = omega arith in one)

@@ -1,0 +1,167 @@
+-- What the steps of a block's fire leave.
+use Rattle.std.proofs.Common.{◌≡◌, ◌∙◌, ◌<◌, ℕ, zero, suc, Bool, true, false, List, [], ◌∷◌, length, Option, Some, None, refl, ap, sym, subst, arith, if◌then◌else◌}
+use Rattle.std.specs.Prelude.{◌&&◌, Result, Ok, Err, IsSome, nat_lt, slice_get}
+use Rattle.ng_act.specs.Actions.{buried}
+use Rattle.ng_act.specs.State as act
+use Rattle.ng_base.specs.Objects.{Object}
+use Rattle.ng_base.specs.declared.fault.Memory.{Memory}
+use Rattle.ng_base.specs.declared.fault.Memory.TheVariants.{Worn}
+use Rattle.ng_base.specs.declared.name.ScopeId.{ScopeId}
+use Rattle.ng_scopes.specs.Answers.{named_scope, next_number, next_scope_name}
+use Rattle.ng_store.specs.declared.store.StoreFault.{StoreFault}
+use Rattle.ng_store.specs.declared.store.StoreFault.TheVariants.{Full}
+use Rattle.ng_base.specs.declared.fault.Fault.{Fault}
+use Rattle.ng_behaviour.specs.Scopes.{Scope, IsScopeTree, at, path_at, live_at, children_at, with_child}
+use Rattle.ng_behaviour.proofs.ScopeTree.{grown-keeps, grown-length, grown-new}
+use Rattle.ng_drawing.specs.Template.{Fragment}
+use Rattle.ng_fire.proofs.Numbered.{steps_instances, steps_rises}
+use Rattle.ng_fire.proofs.ScopePaths.{paths_of, same_path}
+use Rattle.ng_fire.proofs.Served.{serves_same, taken_serves}
+use Rattle.ng_fire.proofs.Wholes.{changed_linked, followed_linked}
+use Rattle.ng_fire.specs.Blocks.{Firing, ended, linked_then}
+use Rattle.ng_fire.specs.Links.{Linking, begins_linking, steps_linked, rested_on, link_by, link_at}
+use Rattle.ng_fire.specs.Runs.{destroy_run}
+use Rattle.ng_fire.specs.Serving.{outlets_in, outlet_count, Serves}
+use Rattle.ng_fire.specs.Whole.{HasScope, HaveScopes}
+use Rattle.ng_link.specs.Calls.{Place, in_outlet, with_core, linked_on, placed_on, left_at}
+use Rattle.ng_link.specs.Events.{scope_in}
+use Rattle.ng_link.specs.PlaceOf.{outlet_of_linked}
+use Rattle.ng_link.specs.Instances.{OutletState, Linked, Instances, linked_at, body_added, outlets_changed, with_instance}
+use Rattle.ng_link.specs.Linking.{steps, steps_within}
+use Rattle.ng_link.specs.Shape.{linked}
+use Rattle.ng_link.specs.Standing.{IsIn}
+use Rattle.ng_link.specs.State.{State, live_nodes}
+use Rattle.ng_fire.proofs.Served.{all_at}
+
+pub ended_linked : (p : List ℕ) (g : Firing) → (ended p g).state.instances ≡ g.state.instances
+ended_linked p g = followed_linked (destroy_run (scope_in (linked_at p g.state.instances)) g.state.core) g.state
+
+-- the scope of what is linked is one of the scopes
+pub scope_stands : (t : List Scope) (is : Instances) (p : List ℕ) → 0 < length t → HaveScopes t is → scope_in (linked_at p is) < length t
+scope_stands t is p root h = by (linked_at p is) refl
+  where
+    by : (o : Option Linked) → linked_at p is ≡ o → scope_in o < length t
+    by None e = root
+    by (Some l) e = (all_at (HasScope t) is p l h e).scope
+
+-- and its path is that of an instance with an outlet
+pub scope_path : (t : List Scope) (is : Instances) (p : List ℕ) (o : ℕ) → o < outlet_count p is → HaveScopes t is → path_at t (scope_in (linked_at p is)) ≡ p
+scope_path t is p o lt h = by (linked_at p is) refl lt
+  where
+    by : (l : Option Linked) → linked_at p is ≡ l → o < length (outlets_in l) → path_at t (scope_in l) ≡ p
+    by None e lt = absurd (omega (arith, lt))
+    by (Some l) e lt = (all_at (HasScope t) is p l h e).path
+
+-- ---- a child of a scope
+
+grown_scopes : (t : List Scope) (c o : ℕ) (is : Instances) → HaveScopes t is → HaveScopes (with_child t c o) is
+grown_scopes t c o [] h = tt
+grown_scopes t c o (e ∷ is) h =
+    let lt = h.0.scope in
+    let count = grown-length t c o in
+    (record { scope = omega (arith, lt, count); path = grown-keeps (λ (x : Scope). x.path) t c o e.1.page.scope (λ x. refl) lt ∙ h.0.path }, grown_scopes t c o is h.1)
+
+pub scopes_grown : (t u : List Scope) (c o : ℕ) (is : Instances) → u ≡ with_child t c o → HaveScopes t is → HaveScopes u is
+scopes_grown t u c o is e h = subst (λ (x : List Scope). HaveScopes x is) (sym e) (grown_scopes t c o is h)
+
+-- the path of the new one is one number longer
+pub new_inside : (t u : List Scope) (c o : ℕ) → u ≡ with_child t c o → IsIn (path_at t c) (record { path = path_at u (length t) })
+new_inside t u c o e = (
+  length (children_at t c),
+  ap (λ (x : List Scope). path_at x (length t)) e ∙ ap (λ (x : Scope). x.path) (grown-new t c o (length t) refl),
+)
+
+-- no instance stands on it
+pub new_path : (t u : List Scope) (c o : ℕ) (is : Instances) → IsScopeTree u → u ≡ with_child t c o → HaveScopes t is → linked_at (path_at u (length t)) is ≡ None
+new_path t u c o is tree e h = by (linked_at (path_at u n) is) refl
+  where
+    n : ℕ
+    n = length t
+
+    count : length u ≡ suc n
+    count = ap (λ (x : List Scope). length x) e ∙ grown-length t c o
+
+    by : (x : Option Linked) → linked_at (path_at u n) is ≡ x → x ≡ None
+    by None q = refl
+    by (Some l) q =
+        let old = all_at (HasScope t) is (path_at u n) l h q in
+        let one = all_at (HasScope u) is (path_at u n) l (scopes_grown t u c o is e h) q in
+        let mine : at u (path_at u n) ≡ Some n = tree.leads n (omega (arith, count)) in
+        let its : at u (path_at u n) ≡ Some l.page.scope = ap (at u) (sym one.path) ∙ tree.leads l.page.scope one.scope in
+        let same : l.page.scope ≡ n = (let two : Some l.page.scope ≡ Some n = sym its ∙ mine in cc) in
+        absurd (let lt = old.scope in omega (arith, lt, same))
+
+-- ---- a body is linked
+
+rested_linked : (b : Bool) (s : State) (p : List ℕ) → (let u : State = if b then s else left_at p s in u.instances ≡ s.instances)
+rested_linked true s p = refl
+rested_linked false s p = refl
+
+module _ (holder : List ℕ) (o : ℕ) (which : ℕ × ℕ) (scope : ℕ) (f : Fragment) (s : State) (lt : o < outlet_count holder s.instances) (free : linked_at (path_at s.core.scopes scope) s.instances ≡ None) where
+  placed_serves : (g : Linking) → g.state.instances ≡ s.instances → path_at g.state.core.scopes scope ≡ path_at s.core.scopes scope
+      → Serves holder [] s.instances (rested_on scope (placed_on (in_outlet holder o) which scope f g.serials g.state)).instances
+  placed_serves g same path =
+      let t : State = placed_on (in_outlet holder o) which scope f g.serials g.state in
+      let p : List ℕ = path_at g.state.core.scopes scope in
+      let l : Linked = linked_on which scope p f g.serials g.state.next_node in
+      let none : linked_at p s.instances ≡ None = ap (λ (q : List ℕ). linked_at q s.instances) path ∙ free in
+      let one = taken_serves holder o p l s.instances lt none in
+      subst (λ (is : Instances). Serves holder [] s.instances is)
+      (ap (λ (is : Instances). outlets_changed holder (body_added o (record { path = p })) (with_instance p l is)) (sym same) ∙ sym (rested_linked (live_at t.core.scopes scope) t (path_at t.core.scopes scope))) one
+
+  by_serves : (r : Result (Unit {0}) Fault) → Serves holder [] s.instances (link_by (in_outlet holder o) which scope f r s).state.instances
+  by_serves (Ok u) =
+      placed_serves (steps_linked scope (steps f.parts) (begins_linking s)) (steps_instances scope (steps f.parts) (begins_linking s))
+      (same_path s.core.scopes (steps_linked scope (steps f.parts) (begins_linking s)).state.core.scopes scope (steps_rises scope (steps f.parts) (begins_linking s)).1)
+  by_serves (Err e) = serves_same holder [] s.instances _ (steps_instances scope (steps_within _ (steps f.parts)) (begins_linking s))
+
+  pub then_serves : (r : Result (Unit {0}) Fault) (g : Firing) → Serves holder [] s.instances (linked_then scope r (link_at (in_outlet holder o) which scope f s) g).state.instances
+  then_serves (Ok u) g = by_serves (linked (live_nodes s) f.parts)
+  then_serves (Err e) g =
+      let l : Linking = link_at (in_outlet holder o) which scope f s in
+      subst (λ (is : Instances). Serves holder [] s.instances is) (sym (changed_linked (with_core (buried scope l.state.core) l.state))) (by_serves (linked (live_nodes s) f.parts))
+
+-- a linking keeps the paths of the scopes
+rested_core : (b : Bool) (s : State) (p : List ℕ) → (let u : State = if b then s else left_at p s in u.core ≡ s.core)
+rested_core true s p = refl
+rested_core false s p = refl
+
+by_paths : (place : Place) (which : ℕ × ℕ) (scope : ℕ) (f : Fragment) (r : Result (Unit {0}) Fault) (s : State) → paths_of (link_by place which scope f r s).state.core.scopes ≡ paths_of s.core.scopes
+by_paths place which scope f (Ok u) s =
+    let g : Linking = steps_linked scope (steps f.parts) (begins_linking s) in
+    let t : State = placed_on place which scope f g.serials g.state in
+    ap (λ (c : act.State). paths_of c.scopes) (rested_core (live_at t.core.scopes scope) t (path_at t.core.scopes scope)) ∙ (steps_rises scope (steps f.parts) (begins_linking s)).1
+by_paths place which scope f (Err e) s = (steps_rises scope (steps_within _ (steps f.parts)) (begins_linking s)).1
+
+pub link_paths : (place : Place) (which : ℕ × ℕ) (scope : ℕ) (f : Fragment) (s : State) → paths_of (link_at place which scope f s).state.core.scopes ≡ paths_of s.core.scopes
+link_paths place which scope f s = by_paths place which scope f (linked (live_nodes s) f.parts) s
+
+-- ---- what making a child answers
+
+pub child_is : (t : List Scope) (c : ℕ) (objects : List Object) (child : ScopeId) → next_scope_name t c objects ≡ Ok child → child.0 ≡ length t
+child_is t c objects child e = by (next_number t c) refl e
+  where
+    number : (b : Bool) (id : ℕ) → (let r : Result ℕ Memory = if b then Ok (length t) else Err Worn in r ≡ Ok id) → id ≡ length t
+    number true id e = sym (let same : length t ≡ id = cc in same)
+    number false id e = absurd (cc)
+
+    within : (b : Bool) (id : ℕ) → (let r : Result ScopeId StoreFault = if b then Ok (record { 0 = id }) else Err Full in r ≡ Ok child) → child.0 ≡ id
+    within true id e = let same : (let x : ScopeId = record { 0 = id } in x ≡ child) = cc in sym (ap (λ (x : ScopeId). x.0) same)
+    within false id e = absurd (cc)
+
+    by : (r : Result ℕ Memory) → next_number t c ≡ r → named_scope r objects ≡ Ok child → child.0 ≡ length t
+    by (Ok id) q e = within (nat_lt (length objects) 1000000) id e ∙ number (nat_lt (length t) 4294967295 && nat_lt (length (children_at t c)) 4294967295) id q
+    by (Err m) q e = absurd (cc)
+
+-- an outlet below the count of an instance is there
+pub outlet_there : (holder : List ℕ) (o : ℕ) (is : Instances) → o < outlet_count holder is → IsSome (outlet_of_linked o (linked_at holder is))
+outlet_there holder o is lt = by (linked_at holder is) lt
+  where
+    get : (xs : List OutletState) (i : ℕ) → i < length xs → IsSome (slice_get xs i)
+    get [] i lt = absurd (omega (arith, lt))
+    get (x ∷ xs) zero lt = refl
+    get (x ∷ xs) (suc i) lt = get xs i (omega (arith, lt))
+
+    by : (l : Option Linked) → o < length (outlets_in l) → IsSome (outlet_of_linked o l)
+    by None lt = absurd (omega (arith, lt))
+    by (Some l) lt = get l.page.outlets o lt

@@ -1,0 +1,111 @@
+-- What the fire of a block's site does (API: ngIf). Where a body is called for that doesn't stand, a child scope is made and the body is
+-- linked on it; where one stands that isn't called for, its scope is destroyed, and then the body is gone.
+use Rattle.std.specs.Prelude.{ℕ, ◌||◌, Bool, true, false, List, [], ◌∷◌, length, nat_lt, Option, Some, Result, Ok, Err, if◌then◌else◌}
+use Rattle.ng_act.specs.Actions.{buried}
+use Rattle.ng_act.specs.State as act
+use Rattle.ng_act.specs.State.{Run, with_fault, with_objects, with_scopes}
+use Rattle.ng_base.specs.Views.{ViewTree}
+use Rattle.ng_base.specs.declared.fault.Fault.{Fault}
+use Rattle.ng_base.specs.declared.fault.Fault.TheVariants.{StoreFull}
+use Rattle.ng_base.specs.declared.path.Key.{Key}
+use Rattle.ng_behaviour.specs.ScopeObjects.{with_scope_object}
+use Rattle.ng_behaviour.specs.Scopes.{object_at, with_child}
+use Rattle.ng_drawing.specs.Looks.{is_kept_true}
+use Rattle.ng_drawing.specs.Template.{Fragment, Filling, body_if}
+use Rattle.ng_template.specs.Kept.{fragments_in}
+use Rattle.ng_link.specs.Calls.{with_core, in_outlet, unlinked_at}
+use Rattle.ng_link.specs.Events.{scope_in}
+use Rattle.ng_link.specs.Due.{Due, all_due}
+use Rattle.ng_link.specs.Instances.{Body, Linked, linked_at}
+use Rattle.ng_link.specs.Shape.{linked}
+use Rattle.ng_link.specs.State.{State, live_nodes}
+use Rattle.ng_fire.specs.Changes.{changed}
+use Rattle.ng_fire.specs.Links.{Linking, adds, link_at}
+use Rattle.ng_fire.specs.Runs.{followed, destroy_run}
+
+-- how far a fire has come: the state, whether the fire itself has faulted, and whether it left a watcher more
+pub record Firing : Type 0 where
+  pub state : State
+  pub faulted : Bool
+  pub added : Bool
+
+abbrev pub begins_firing : State → Firing
+begins_firing s = record { state = s; faulted = false; added = false }
+
+-- after a run: its fault is handed over, and what it left for the watchers is done
+abbrev pub went : {A : Type 0} → Run A → Firing → Firing
+went r g = record { state = followed r g.state; faulted = g.faulted; added = g.added || adds r }
+
+-- the scope of the body on a path is destroyed
+abbrev pub ended : List ℕ → Firing → Firing
+ended p g = went (destroy_run (scope_in (linked_at p g.state.instances)) g.state.core) g
+
+-- then the body is gone
+abbrev pub gone : List ℕ → Body → Firing → Firing
+gone holder b g = by (ended b.path g)
+  where
+    by : Firing → Firing
+    by h = record h { state = unlinked_at holder b.path h.state }
+
+abbrev pub all_gone : List ℕ → List Body → Firing → Firing
+all_gone holder [] g = g
+all_gone holder (b ∷ bs) g = all_gone holder bs (gone holder b g)
+
+-- the most objects of a page
+abbrev pub object_limit : ℕ
+object_limit = 1000000
+
+-- a child of a scope: its object inherits from the scope's (guide: Scopes, "Scope Hierarchies")
+abbrev pub child_run : ℕ → act.State → Run ℕ
+child_run scope c =
+    if nat_lt (length c.objects) object_limit then (with_scopes (with_child c.scopes scope (length c.objects)) (with_objects (with_scope_object c.objects c.scopes (Some (object_at c.scopes scope)) scope) c), Ok (length c.scopes))
+    else (c, Err StoreFull)
+
+-- the fire itself faults
+abbrev pub faulted_with : Fault → Firing → Firing
+faulted_with e g = record g { state = with_core (with_fault e g.state.core) g.state; faulted = true }
+
+-- A scope that was made in vain: it and all below it are dead, and their listeners and watches are gone, without an event.
+abbrev pub discarded : ℕ → State → State
+discarded scope s = changed (with_core (buried scope s.core) s)
+
+-- a body is linked on its scope; a fault of that makes the scope one that was made in vain
+abbrev pub linked_then : ℕ → Result (Unit {0}) Fault → Linking → Firing → Firing
+linked_then scope (Ok u) l g = record g { state = l.state; added = g.added || l.added }
+linked_then scope (Err e) l g = faulted_with e (record g { state = discarded scope l.state; added = g.added || l.added })
+
+-- a body is made on the child scope, where there is one
+abbrev pub body_on : List ℕ → ℕ → ℕ × ℕ → Fragment → ℕ → State → Firing → Firing
+body_on holder o which f child s g = linked_then child (linked (live_nodes s) f.parts) (link_at (in_outlet holder o) which child f s) g
+
+abbrev pub body_made : List ℕ → ℕ → ℕ × ℕ → Fragment → act.State → Result ℕ Fault → Firing → Firing
+body_made holder o which f c (Err e) g = faulted_with e g
+body_made holder o which f c (Ok child) g = body_on holder o which f child (with_core c g.state) g
+
+-- the body of this number is made in an outlet of an instance that stands on a scope
+abbrev pub filled : List ℕ → ℕ → ℕ → ℕ × ℕ → Firing → Firing
+filled holder scope o which g = by (child_run scope g.state.core)
+  where
+    by : Run ℕ → Firing
+    by r = body_made holder o which (fragments_in g.state.templates which.0 which.1) r.0 r.1 g
+
+abbrev pub has_bodies : List Body → Bool
+has_bodies [] = false
+has_bodies (b ∷ bs) = true
+
+-- an outlet of an instance on a scope gets what a value calls for
+abbrev pub outlet_fired : List ℕ → ℕ → ViewTree → Due → Filling → Firing → Firing
+outlet_fired holder scope v d (body_if body) g =
+    if is_kept_true (Some v) then (if has_bodies d.bodies then g else filled holder scope d.outlet (d.template, body) g)
+    else all_gone holder d.bodies g
+
+abbrev pub outlets_fired : List ℕ → ℕ → ViewTree → List Due → Firing → Firing
+outlets_fired holder scope v [] g = g
+outlets_fired holder scope v (d ∷ ds) g = outlets_fired holder scope v ds (outlet_fired holder scope v d d.filling g)
+
+-- the site of a key has this value: each outlet that it fills gets what that calls for, in order; another site fills none
+abbrev pub site_fired : Key → ViewTree → State → Firing
+site_fired k v s = by (linked_at k.path s.instances)
+  where
+    by : Option Linked → Firing
+    by l = outlets_fired k.path (scope_in l) v (all_due k.serial.0 l) (begins_firing s)

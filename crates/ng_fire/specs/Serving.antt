@@ -1,0 +1,44 @@
+-- What an outlet asks of the table of instances when the site fires that it is filled by, and what its turn leaves for those after it.
+use Rattle.std.specs.Prelude.{ℕ, ◌≡◌, ◌+◌, ◌<◌, ◌≤◌, List, [], ◌∷◌, length, Option, Some, None}
+use Rattle.std.specs.List.{AllByRecursion}
+use Rattle.ng_template.specs.Kept.{Named}
+use Rattle.ng_link.specs.Due.{Due}
+use Rattle.ng_link.specs.Events.{scope_in}
+use Rattle.ng_link.specs.Instances.{Body, OutletState, Linked, Instances, linked_at}
+use Rattle.ng_link.specs.Standing.{body_count, held_count}
+use Rattle.ng_fire.specs.Whole.{HasBody}
+
+abbrev pub outlets_in : Option Linked → List OutletState
+outlets_in None = []
+outlets_in (Some l) = l.page.outlets
+
+-- how many outlets an instance has, and how many bodies on a path it holds
+abbrev pub outlet_count : List ℕ → Instances → ℕ
+outlet_count holder is = length (outlets_in (linked_at holder is))
+
+abbrev pub bodies_held : List ℕ → List ℕ → Instances → ℕ
+bodies_held holder q is = held_count q (outlets_in (linked_at holder is))
+
+-- so many bodies on each path are held
+abbrev pub AreHeldBy : List ℕ → List Body → Instances → Type 0
+AreHeldBy holder bs is = (q : List ℕ) → body_count q bs ≤ bodies_held holder q is
+
+-- an outlet is there, and its bodies are fragments
+pub record IsThere (all : List Named) (holder : List ℕ) (is : Instances) (d : Due) : Type 0 where
+  pub outlet : d.outlet < outlet_count holder is
+  pub body : HasBody all d.template d.filling
+
+abbrev pub due_count : List ℕ → List Due → ℕ
+due_count q [] = 0
+due_count q (d ∷ ds) = body_count q d.bodies + due_count q ds
+
+-- outlets of an instance that are due: each is there, and the instance holds the bodies that they have
+pub record AreDue (all : List Named) (holder : List ℕ) (is : Instances) (ds : List Due) : Type 0 where
+  pub there : AllByRecursion (IsThere all holder is) ds
+  pub bodies : (q : List ℕ) → due_count q ds ≤ bodies_held holder q is
+
+-- an instance stays on its scope with its outlets, and of its bodies at most these go
+pub record Serves (holder : List ℕ) (bs : List Body) (old new : Instances) : Type 0 where
+  pub scope : scope_in (linked_at holder new) ≡ scope_in (linked_at holder old)
+  pub outlets : outlet_count holder new ≡ outlet_count holder old
+  pub bodies : (q : List ℕ) → bodies_held holder q old ≤ bodies_held holder q new + body_count q bs

@@ -1,0 +1,266 @@
+//! The fire of a block's site (API: ngIf): a body is made, or is gone.
+ghost use Rattle.std.specs.Prelude.{ℕ, List, [], ◌∷◌, ◌≡◌, ◌<◌, ◌≤◌, length, map, None, Some, IsSome, IfSome, IfOk, OnOk};
+ghost use Rattle.ng_act.specs.Frames as cores;
+ghost use Rattle.ng_act.specs.Frames.{IsSound};
+ghost use Rattle.ng_base.specs.Views.{ViewTree};
+ghost use Rattle.ng_behaviour.specs.Scopes.{path_at};
+ghost use Rattle.ng_drawing.specs.Looks.{is_kept_true};
+ghost use Rattle.ng_drawing.specs.Template.{Fragment};
+ghost use Rattle.ng_fire.specs.Blocks.{child_run, ended, gone, all_gone, linked_then, filled, outlet_fired, site_fired, discarded, faulted_with};
+ghost use Rattle.ng_fire.specs.FiringOf.{firing, child_made, bodies_on};
+ghost use Rattle.ng_fire.specs.Links.{link_at as linked_at_place};
+ghost use Rattle.ng_fire.specs.Runs.{destroyed};
+ghost use Rattle.ng_fire.specs.Serving.{outlet_count, AreHeldBy, AreDue, Serves};
+ghost use Rattle.ng_fire.specs.Whole.{IsWhole};
+ghost use Rattle.ng_link.specs.Calls.{with_core};
+ghost use Rattle.ng_link.specs.Due.{due_of};
+ghost use Rattle.ng_link.specs.Events.{scope_in};
+ghost use Rattle.ng_link.specs.Instances.{linked_at};
+ghost use Rattle.ng_link.specs.PlaceOf.{place_of, IsFree};
+ghost use Rattle.ng_link.specs.Shape.{linked};
+ghost use Rattle.ng_link.specs.Standing.{IsIn, IsHeld};
+ghost use Rattle.ng_link.specs.State.{state_of, templates_of, live_nodes};
+ghost use Rattle.ng_template.specs.FragmentOf.{filling_of};
+ghost use Rattle.ng_template.specs.Kept.{fragment_in};
+
+use crate::changing::apply_changes;
+use crate::following::Followed;
+use crate::linking::{Built, link_at};
+use ng_act::burying::bury;
+use ng_act::core_state::Core;
+use ng_act::running::destroy;
+use ng_base::fault::{Fault, Memory};
+use ng_base::name::{ScopeId, TplId};
+use ng_base::path::{Key, Path};
+use ng_link::filling::Due;
+use ng_link::linking::Place;
+use ng_link::works::Works;
+use ng_store::store::StoreFault;
+use ng_template::Filling;
+use std::alloc::Global;
+
+/// A scope is destroyed while no body and no event is open (API: `$destroy`).
+#[tactic(auto, using(crate::proofs::Runs::destroyed_is))]
+fn destroy_first(core: &mut Core, alloc: Global, scope: ScopeId) -> Result<(), Memory>
+    requires sound { IsSound core.old }
+    requires idle { core.old.depth ≡ 0 }
+    requires scope { scope.0 < length core.old.scopes }
+    ensures run { OnOk result (cores.state_of core.new ≡ destroyed scope.0 (cores.state_of core.old)) }
+    ensures sound { IsSound core.new }
+    ensures idle { core.new.depth ≡ 0 }
+    ensures grown { length core.old.store ≤ length core.new.store }
+{
+    destroy(core, alloc, scope)?;
+    Ok(())
+}
+
+/// The scope of a body is destroyed, and what that leaves for the watchers is done.
+fn end_body(
+    works: &mut Works,
+    alloc: Global,
+    body: &Path,
+    told: &mut Followed,
+) -> Result<(), Memory>
+    requires whole { IsWhole works.old }
+    ensures fired { OnOk result (firing works.new told.new ≡ ended body.now (firing works.old told.old)) }
+    ensures whole { OnOk result (IsWhole works.new) }
+    ensures templates { templates_of works.new ≡ templates_of works.old }
+{
+    let scope = works.scope_on(body);
+    destroy_first(&mut works.core, alloc, scope)?;
+    let added = apply_changes(works, alloc)?;
+    told.added = told.added || added;
+    Ok(())
+}
+
+/// The scope of a body is destroyed, and then the body is gone.
+fn take_body(
+    works: &mut Works,
+    alloc: Global,
+    holder: &Path,
+    body: &Path,
+    told: &mut Followed,
+) -> Result<(), Memory>
+    requires whole { IsWhole works.old }
+    requires held { IsHeld holder.now body.now (state_of works.old) }
+    ensures fired { OnOk result (firing works.new told.new ≡ gone holder.now (record { path = body.now }) (firing works.old told.old)) }
+    ensures serves { OnOk result (Serves holder.now (record { path = body.now } ∷ []) (state_of works.old).instances (state_of works.new).instances) }
+    ensures whole { OnOk result (IsWhole works.new) }
+    ensures templates { templates_of works.new ≡ templates_of works.old }
+{
+    end_body(works, alloc, body, told)?;
+    works.unlink(holder, body)
+}
+
+/// Bodies are gone, one after another.
+fn take_bodies(
+    works: &mut Works,
+    alloc: Global,
+    holder: &Path,
+    bodies: &[Path],
+    told: &mut Followed,
+) -> Result<(), Memory>
+    requires whole { IsWhole works.old }
+    requires held { AreHeldBy holder.now (bodies_on bodies.now) (state_of works.old).instances }
+    ensures fired { OnOk result (firing works.new told.new ≡ all_gone holder.now (bodies_on bodies.now) (firing works.old told.old)) }
+    ensures serves { OnOk result (Serves holder.now (bodies_on bodies.now) (state_of works.old).instances (state_of works.new).instances) }
+    ensures whole { OnOk result (IsWhole works.new) }
+    ensures templates { templates_of works.new ≡ templates_of works.old }
+{
+    for body in bodies {
+        take_body(works, alloc, holder, body, told)?;
+    }
+    Ok(())
+}
+
+/// The fire itself faults.
+fn fault(works: &mut Works, f: Fault, told: &mut Followed)
+    requires whole { IsWhole works.old }
+    ensures fired { firing works.new told.new ≡ faulted_with f (firing works.old told.old) }
+    ensures whole { IsWhole works.new }
+    ensures templates { templates_of works.new ≡ templates_of works.old }
+{
+    works.hand_over(f);
+    told.faulted = true;
+}
+
+/// A scope that was made in vain: it and all below it are dead, and their listeners and watches are gone, without an event.
+fn discard(works: &mut Works, alloc: Global, scope: ScopeId) -> Result<(), Memory>
+    requires whole { IsWhole works.old }
+    requires scope { scope.0 < length works.old.core.scopes }
+    ensures state { OnOk result (state_of works.new ≡ discarded scope.0 (state_of works.old)) }
+    ensures whole { OnOk result (IsWhole works.new) }
+    ensures templates { templates_of works.new ≡ templates_of works.old }
+{
+    bury(&mut works.core, scope)?;
+    apply_changes(works, alloc)?;
+    Ok(())
+}
+
+/// A child of a scope, unless the store is full (guide: Scopes, "Scope Hierarchies"). Its path is the scope's and one number more, and no
+/// instance stands on it.
+fn make_child(works: &mut Works, scope: ScopeId) -> Result<Option<ScopeId>, Memory>
+    requires whole { IsWhole works.old }
+    requires scope { scope.0 < length works.old.core.scopes }
+    ensures run { IfOk result (λ c. child_run scope.0 (state_of works.old).core ≡ child_made c (state_of works.new).core) }
+    ensures state { state_of works.new ≡ with_core (state_of works.new).core (state_of works.old) }
+    ensures free { IfOk result (λ c. IfSome c (λ s. (s.0 < length works.new.core.scopes) × IsIn (path_at works.old.core.scopes scope.0) (record { path = path_at works.new.core.scopes s.0 }) × (linked_at (path_at works.new.core.scopes s.0) (state_of works.new).instances ≡ None))) }
+    ensures whole { OnOk result (IsWhole works.new) }
+    ensures templates { templates_of works.new ≡ templates_of works.old }
+{
+    works.core.scopes.sound();
+    let made = works.core.scopes.new_child(&mut works.core.store, scope);
+    match made {
+        Ok(child) => Ok(Some(child)),
+        Err(StoreFault::Memory(memory)) => Err(memory),
+        Err(StoreFault::Full) => Ok(None),
+    }
+}
+
+/// A body is linked on its scope. Where its nodes find no room, the scope was made in vain.
+fn link_body(
+    works: &mut Works,
+    alloc: Global,
+    place: &Place,
+    template: TplId,
+    body: u32,
+    child: ScopeId,
+    told: &mut Followed,
+) -> Result<(), Memory>
+    requires whole { IsWhole works.old }
+    requires template { IsSome (fragment_in (templates_of works.old) template.0 body) }
+    requires scope { child.0 < length works.old.core.scopes }
+    requires free { IsFree (place_of place.now) (path_at works.old.core.scopes child.0) (state_of works.old) }
+    ensures fired { OnOk result ((f : Fragment) → fragment_in (templates_of works.old) template.0 body ≡ Some f → firing works.new told.new ≡ linked_then child.0 (linked (live_nodes (state_of works.old)) f.parts) (linked_at_place (place_of place.now) (template.0, body) child.0 f (state_of works.old)) (firing works.old told.old)) }
+    ensures whole { OnOk result (IsWhole works.new) }
+    ensures templates { templates_of works.new ≡ templates_of works.old }
+{
+    let Built { added, room } = link_at(works, alloc, place, template, body, child)?;
+    told.added = told.added || added;
+    if !room {
+        discard(works, alloc, child)?;
+        fault(works, Fault::NodeLimit, told);
+    }
+    Ok(())
+}
+
+/// The body of a number is made in an outlet of an instance.
+fn make_body(
+    works: &mut Works,
+    alloc: Global,
+    holder: &Path,
+    outlet: usize,
+    template: TplId,
+    body: u32,
+    told: &mut Followed,
+) -> Result<(), Memory>
+    requires whole { IsWhole works.old }
+    requires outlet { outlet < outlet_count holder.now (state_of works.old).instances }
+    requires template { IsSome (fragment_in (templates_of works.old) template.0 body) }
+    ensures fired { OnOk result (firing works.new told.new ≡ filled holder.now (scope_in (linked_at holder.now (state_of works.old).instances)) outlet (template.0, body) (firing works.old told.old)) }
+    ensures serves { OnOk result (Serves holder.now [] (state_of works.old).instances (state_of works.new).instances) }
+    ensures whole { OnOk result (IsWhole works.new) }
+    ensures templates { templates_of works.new ≡ templates_of works.old }
+{
+    let scope = works.scope_on(holder);
+    let place = Place::Outlet(holder.copied()?, outlet);
+    match make_child(works, scope)? {
+        Some(child) => link_body(works, alloc, &place, template, body, child, told),
+        None => {
+            fault(works, Fault::StoreFull, told);
+            Ok(())
+        }
+    }
+}
+
+/// An outlet gets what the value of its site calls for.
+fn fire_outlet(
+    works: &mut Works,
+    alloc: Global,
+    holder: &Path,
+    due: &Due,
+    truth: bool,
+    told: &mut Followed,
+) -> Result<(), Memory>
+    requires whole { IsWhole works.old }
+    requires due { AreDue (templates_of works.old) holder.now (state_of works.old).instances (due_of due.now ∷ []) }
+    ensures fired { OnOk result ((v : ViewTree) → is_kept_true (Some v) ≡ truth → firing works.new told.new ≡ outlet_fired holder.now (scope_in (linked_at holder.now (state_of works.old).instances)) v (due_of due.now) (filling_of due.now.filling) (firing works.old told.old)) }
+    ensures serves { OnOk result (Serves holder.now (bodies_on due.now.bodies.items) (state_of works.old).instances (state_of works.new).instances) }
+    ensures whole { OnOk result (IsWhole works.new) }
+    ensures templates { templates_of works.new ≡ templates_of works.old }
+{
+    match due.filling {
+        Filling::BodyIf(body) => {
+            if !truth {
+                return take_bodies(works, alloc, holder, due.bodies.as_slice(), told);
+            }
+            if !due.bodies.is_empty() {
+                return Ok(());
+            }
+            make_body(works, alloc, holder, due.outlet, due.template, body, told)
+        }
+    }
+}
+
+/// The value of a site is true or not: each outlet that it fills gets what that calls for, in order.
+pub(crate) fn fire_site(
+    works: &mut Works,
+    alloc: Global,
+    key: &Key,
+    truth: bool,
+) -> Result<Followed, Memory>
+    requires whole { IsWhole works.old }
+    ensures fired { IfOk result (λ f. (v : ViewTree) → is_kept_true (Some v) ≡ truth → firing works.new f ≡ site_fired key.now v (state_of works.old)) }
+    ensures whole { OnOk result (IsWhole works.new) }
+    ensures templates { templates_of works.new ≡ templates_of works.old }
+{
+    let mut told = Followed {
+        faulted: false,
+        added: false,
+    };
+    let all = works.filled_outlets(key)?;
+    for due in all.as_slice() {
+        fire_outlet(works, alloc, &key.path, due, truth, &mut told)?;
+    }
+    Ok(told)
+}

@@ -1,0 +1,69 @@
+-- A table by paths, whose instances are seen as what they stand for.
+use Rattle.std.proofs.Common.{◌≡◌, ℕ, Bool, true, false, cond, List, [], ◌∷◌, Option, Some, None, refl, ap, ◌∙◌, sym, map}
+use Rattle.std.specs.BTreeMap.{insert_entry}
+use Rattle.std.specs.Map.{lookup}
+use Rattle.std.specs.Ordering.{is_eq, match_ordering}
+use Rattle.std.specs.Prelude.{option_map}
+use Rattle.std.specs.declared.cmp.Ordering.{Ordering}
+use Rattle.std.specs.declared.cmp.Ordering.TheVariants.{Less, Equal, Greater}
+use Rattle.ng_base.specs.Order.{path_cmp}
+use Rattle.ng_link.specs.Instances.{is_path}
+use Rattle.ng_link.proofs.Paths.{path_is, is_that, other_path, not_path}
+
+-- entries whose values are seen, by their paths, as something else
+module _ {X Y : Type 0} (f : List ℕ → X → Y) where
+  abbrev pub seen_at : List (List ℕ × X) → List (List ℕ × Y)
+  seen_at es = map (λ e. (e.0, f e.0 e.1)) es
+
+  pub found-seen : (p : List ℕ) (es : List (List ℕ × X)) → lookup (is_path p) (seen_at es) ≡ option_map (f p) (lookup (is_path p) es)
+  found-seen p [] = refl
+  found-seen p (e ∷ es) = by_test (is_path p e.0) refl (found-seen p es)
+    where
+      by_test : (b : Bool) → is_path p e.0 ≡ b → lookup (is_path p) (seen_at es) ≡ option_map (f p) (lookup (is_path p) es)
+          → cond b (Some (f e.0 e.1)) (lookup (is_path p) (seen_at es)) ≡ option_map (f p) (cond b (Some e.1) (lookup (is_path p) es))
+      by_test true is more = ap (λ (q : List ℕ). Some (f q e.1)) (sym (path_is p e.0 is))
+      by_test false is more = more
+
+  pub noted-seen : (p : List ℕ) (x : X) (es : List (List ℕ × X)) → seen_at (insert_entry path_cmp es p x) ≡ insert_entry path_cmp (seen_at es) p (f p x)
+  noted-seen p x [] = refl
+  noted-seen p x (e ∷ es) = by_order (path_cmp p e.0) refl (noted-seen p x es)
+    where
+      by_order : (o : Ordering) → path_cmp p e.0 ≡ o → seen_at (insert_entry path_cmp es p x) ≡ insert_entry path_cmp (seen_at es) p (f p x)
+          → seen_at (match_ordering o ((p, x) ∷ e ∷ es) ((e.0, x) ∷ es) (e ∷ insert_entry path_cmp es p x))
+          ≡ match_ordering o ((p, f p x) ∷ (e.0, f e.0 e.1) ∷ seen_at es) ((e.0, f p x) ∷ seen_at es) ((e.0, f e.0 e.1) ∷ insert_entry path_cmp (seen_at es) p (f p x))
+      by_order Less is more = refl
+      by_order Equal is more = ap (λ (q : List ℕ). (e.0, f q x) ∷ seen_at es) (sym (path_is p e.0 (ap is_eq is)))
+      by_order Greater is more = ap (λ (ys : List (List ℕ × Y)). (e.0, f e.0 e.1) ∷ ys) more
+
+-- what is found where an entry comes
+path_swap : (p q : List ℕ) → is_path q p ≡ is_path p q
+path_swap p q = by_test (is_path p q) refl
+  where
+    by_test : (b : Bool) → is_path p q ≡ b → is_path q p ≡ b
+    by_test true e = is_that q p (sym (path_is p q e))
+    by_test false e = other_path q p (λ same. not_path p q e (sym same))
+
+pub noted_found : {X : Type 0} (p : List ℕ) (x : X) (es : List (List ℕ × X)) (q : List ℕ) → lookup (is_path q) (insert_entry path_cmp es p x) ≡ cond (is_path p q) (Some x) (lookup (is_path q) es)
+noted_found p x [] q = ap (λ (b : Bool). cond b (Some x) None) (path_swap p q)
+noted_found {X} p x (e ∷ es) q = by_order (path_cmp p e.0) refl (noted_found p x es q)
+  where
+    there : Option X
+    there = lookup (is_path q) (e ∷ es)
+
+    by_order : (o : Ordering) → path_cmp p e.0 ≡ o → lookup (is_path q) (insert_entry path_cmp es p x) ≡ cond (is_path p q) (Some x) (lookup (is_path q) es)
+        → lookup (is_path q) (match_ordering o ((p, x) ∷ e ∷ es) ((e.0, x) ∷ es) (e ∷ insert_entry path_cmp es p x)) ≡ cond (is_path p q) (Some x) there
+    by_order Less is more = ap (λ (b : Bool). cond b (Some x) there) (path_swap p q)
+    by_order Equal is more =
+        let here : is_path q e.0 ≡ is_path p q = ap (is_path q) (sym (path_is p e.0 (ap is_eq is))) ∙ path_swap p q in
+        ap (λ (b : Bool). cond b (Some x) (lookup (is_path q) es)) here ∙ by_path (is_path p q) here
+      where
+        by_path : (b : Bool) → is_path q e.0 ≡ b → cond b (Some x) (lookup (is_path q) es) ≡ cond b (Some x) there
+        by_path true t = refl
+        by_path false t = sym (ap (λ (c : Bool). cond c (Some e.1) (lookup (is_path q) es)) t)
+    by_order Greater is more = by_path (is_path q e.0) refl
+      where
+        by_path : (b : Bool) → is_path q e.0 ≡ b → cond b (Some e.1) (lookup (is_path q) (insert_entry path_cmp es p x)) ≡ cond (is_path p q) (Some x) (cond b (Some e.1) (lookup (is_path q) es))
+        by_path true t =
+            let off : is_path p q ≡ false = ap (is_path p) (path_is q e.0 t) ∙ ap is_eq is in
+            sym (ap (λ (c : Bool). cond c (Some x) (Some e.1)) off)
+        by_path false t = more

@@ -1,0 +1,71 @@
+-- The instance to which a node belongs is the last that doesn't begin after it.
+use Rattle.std.proofs.Common.{◌≡◌, ℕ, Bool, true, false, cond, List, [], ◌∷◌, ◌++◌, Option, Some, None, refl, ap, ◌∙◌, sym, arith}
+use Rattle.std.specs.BTreeMap.Range.{range_contains}
+use Rattle.std.specs.List.{filter}
+use Rattle.std.specs.Map.{lookup}
+use Rattle.std.specs.Ordering.{nat_cmp}
+use Rattle.std.specs.Prelude.{nat_le, option_map, option_and_then}
+use Rattle.std.specs.declared.ops.Bound.TheVariants.{Included, Unbounded}
+use Rattle.std.proofs.lemmas.Bool.Decides.{nat_tests}
+use Rattle.ng_template.specs.Kept.{Named}
+use Rattle.ng_link.specs.Events.{handled_in, scope_in}
+use Rattle.ng_link.specs.Handlers.{Handled}
+use Rattle.ng_link.specs.Instances.{Linked, Owners, owner_or, is_path, linked_at}
+use Rattle.ng_link.specs.State.{handled_of, linked_of, instances_of}
+use Rattle.ng_link.specs.declared.works.Linked as code
+use Rattle.ng_link.proofs.Places.{linked_seen}
+
+-- the last path of some entries
+abbrev pub last_or : Option (List ℕ) → Owners → Option (List ℕ)
+last_or o [] = o
+last_or o (e ∷ es) = last_or (Some e.1) es
+
+pub last-end : (o : Option (List ℕ)) (es : Owners) (e : ℕ × List ℕ) → last_or o (es ++ e ∷ []) ≡ Some e.1
+last-end o [] e = refl
+last-end o (f ∷ fs) e = last-end (Some f.1) fs e
+
+module _ (n : ℕ) (test : ℕ × List ℕ → Bool) (same : (e : ℕ × List ℕ) → test e ≡ nat_le e.0 n) where
+  pub owner_last : (o : Option (List ℕ)) (es : Owners) → owner_or o n es ≡ last_or o (filter test es)
+  owner_last o [] = refl
+  owner_last o (e ∷ es) = by_test (nat_le e.0 n) (same e) (owner_last (Some e.1) es) (owner_last o es)
+    where
+      by_test : (b : Bool) → test e ≡ b → owner_or (Some e.1) n es ≡ last_or (Some e.1) (filter test es) → owner_or o n es ≡ last_or o (filter test es)
+          → owner_or (cond b (Some e.1) o) n es ≡ last_or o (cond (test e) (e ∷ filter test es) (filter test es))
+      by_test true t more rest = more ∙ ap (λ (b : Bool). last_or o (cond b (e ∷ filter test es) (filter test es))) (sym t)
+      by_test false t more rest = rest ∙ ap (λ (b : Bool). last_or o (cond b (e ∷ filter test es) (filter test es))) (sym t)
+
+-- the names up to one
+pub is_upto : (n k : ℕ) → range_contains nat_cmp Unbounded (Included n) k ≡ nat_le k n
+is_upto n k = grind (arith, nat_tests)
+
+-- the instance of a node, as the code's table has it
+abbrev pub handled_or : Option code.Linked → Handled
+handled_or None = []
+handled_or (Some i) = handled_of i.handlers.entries
+
+abbrev pub scope_or : Option code.Linked → ℕ
+scope_or None = 0
+scope_or (Some i) = i.scope.0
+
+module _ (all : List Named) (is : List (List ℕ × code.Linked)) where
+  abbrev in_table : Option (List ℕ) → Option code.Linked
+  in_table o = option_and_then (λ (p : List ℕ). lookup (is_path p) is) o
+
+  abbrev in_state : Option (List ℕ) → Option Linked
+  in_state o = option_and_then (λ (p : List ℕ). linked_at p (instances_of all is)) o
+
+  seen_handled : (p : List ℕ) (o : Option code.Linked) → handled_in (option_map (linked_of all p) o) ≡ handled_or o
+  seen_handled p None = refl
+  seen_handled p (Some i) = refl
+
+  seen_scope : (p : List ℕ) (o : Option code.Linked) → scope_in (option_map (linked_of all p) o) ≡ scope_or o
+  seen_scope p None = refl
+  seen_scope p (Some i) = refl
+
+  pub node_handled : (o : Option (List ℕ)) → handled_in (in_state o) ≡ handled_or (in_table o)
+  node_handled None = refl
+  node_handled (Some p) = ap handled_in (linked_seen all p is) ∙ seen_handled p (lookup (is_path p) is)
+
+  pub node_scope : (o : Option (List ℕ)) → scope_in (in_state o) ≡ scope_or (in_table o)
+  node_scope None = refl
+  node_scope (Some p) = ap scope_in (linked_seen all p is) ∙ seen_scope p (lookup (is_path p) is)

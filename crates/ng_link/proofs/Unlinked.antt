@@ -1,0 +1,157 @@
+-- What is left stands, where a body is unlinked.
+use Rattle.std.proofs.Common.{◌≡◌, ℕ, Bool, true, false, cond, List, [], ◌∷◌, Option, Some, None, refl, ap, ◌∙◌, sym, subst}
+use Rattle.std.specs.Prelude.{IsSome, not, option_and_then, option_map}
+use Rattle.std.specs.BTreeMap.{BTreeMap, is_at}
+use Rattle.std.specs.List.{filter}
+use Rattle.std.specs.Map.{lookup, remove_entry}
+use Rattle.std.specs.Ordering.{nat_cmp}
+use Rattle.std.proofs.lemmas.Map.Entries.{lookup-filter-keys}
+use Rattle.ng_base.specs.declared.path.Key.{Key}
+use Rattle.ng_base.specs.Views.{ViewTree}
+use Rattle.ng_dom.specs.Document.{next_name}
+use Rattle.ng_dom.specs.Drawing.{at_block_all}
+use Rattle.ng_dom.specs.declared.dom.Dom.{Dom}
+use Rattle.ng_template.specs.Kept.{Named}
+use Rattle.ng_value.specs.Snaps.{snap_of}
+use Rattle.ng_value.specs.declared.snapshot.Snap.{Snap}
+use Rattle.ng_watch.specs.Keys.{is_key, begins}
+use Rattle.ng_watch.specs.Table.{found}
+use Rattle.ng_link.specs.Calls.{cut_at}
+use Rattle.ng_link.specs.Instances.{OutletState, Linked, Instances, Owners, is_path, linked_at, with_outlets, outlets_changed, body_gone, without_below, owners_less, owners_without, unlinked}
+use Rattle.ng_link.specs.Standing.{IsPlaced, IsBuilt, IsHeldIn, IsStanding}
+use Rattle.ng_link.specs.State.{Resting, kept_or, look_of, linked_of, instances_of, resting_of, spot_at, spot_in, places_of, looks_in, state_of, templates_of}
+use Rattle.ng_link.specs.Unlinking.{IsHeldAt, body_cut, CutsOut}
+use Rattle.ng_link.specs.declared.works.Linked as code
+use Rattle.ng_link.specs.declared.works.Works.{Works}
+use Rattle.ng_link.proofs.BuiltLess.{built_less}
+use Rattle.ng_link.proofs.BodiesAt.{bodies_cut}
+use Rattle.ng_link.proofs.Cuts.{gone_cut}
+use Rattle.ng_link.proofs.Grown.{no_some}
+use Rattle.ng_link.proofs.Keys.{key_is}
+use Rattle.ng_link.proofs.Paths.{path_is}
+use Rattle.ng_link.proofs.ReadOff.{at_path}
+use Rattle.ng_link.proofs.Tables.{filtered-seen}
+
+-- the outlets of an instance change alike
+pub alike_changed : (p : List ℕ) (f g : List OutletState → List OutletState) (is : Instances) → ((l : Linked) → linked_at p is ≡ Some l → f l.page.outlets ≡ g l.page.outlets) → outlets_changed p f is ≡ outlets_changed p g is
+alike_changed p f g [] alike = refl
+alike_changed p f g (e ∷ es) alike = by_test (is_path p e.0) refl (alike_changed p f g es)
+  where
+    by_test : (b : Bool) → is_path p e.0 ≡ b → (((l : Linked) → linked_at p es ≡ Some l → f l.page.outlets ≡ g l.page.outlets) → outlets_changed p f es ≡ outlets_changed p g es)
+        → cond b ((e.0, with_outlets f e.1) ∷ es) (e ∷ outlets_changed p f es) ≡ cond b ((e.0, with_outlets g e.1) ∷ es) (e ∷ outlets_changed p g es)
+    by_test true is more =
+        ap (λ (os : List OutletState). (e.0, with_outlets (λ (_ : List OutletState). os) e.1) ∷ es) (alike e.1 (ap (λ (b : Bool). cond b (Some e.1) (linked_at p es)) is))
+    by_test false is more = ap (λ (xs : Instances). e ∷ xs) (more (λ l at. alike l (ap (λ (b : Bool). cond b (Some e.1) (linked_at p es)) is ∙ at)))
+
+-- the first names of instances are the same, whatever fills their outlets
+pub owners_changed : (p holder : List ℕ) (f : List OutletState → List OutletState) (is : Instances) (os : Owners) → owners_without p (outlets_changed holder f is) os ≡ owners_without p is os
+owners_changed p holder f [] os = refl
+owners_changed p holder f (e ∷ es) os = by_test (is_path holder e.0) (owners_changed p holder f es)
+  where
+    less : Owners
+    less = cond (begins p e.0) (remove_entry (is_at (nat_cmp e.1.page.node)) os) os
+
+    by_test : (b : Bool) → ((rest : Owners) → owners_without p (outlets_changed holder f es) rest ≡ owners_without p es rest)
+        → owners_without p (cond b ((e.0, with_outlets f e.1) ∷ es) (e ∷ outlets_changed holder f es)) os ≡ owners_without p (e ∷ es) os
+    by_test true more = refl
+    by_test false more = more (cond (begins p e.0) (remove_entry (is_at (nat_cmp e.1.page.node)) os) os)
+
+-- they are those of the instances as they are kept
+pub owners_kept : (all : List Named) (p : List ℕ) (es : List (List ℕ × code.Linked)) (os : Owners) → owners_less (λ (i : code.Linked). i.node) p es os ≡ owners_without p (instances_of all es) os
+owners_kept all p [] os = refl
+owners_kept all p (e ∷ es) os = owners_kept all p es (cond (begins p e.0) (remove_entry (is_at (nat_cmp e.1.node)) os) os)
+
+-- the instances that stay, as they are kept and as they are seen
+pub instances_kept : (all : List Named) (p : List ℕ) (es : List (List ℕ × code.Linked)) → instances_of all (filter (λ e. not (begins p e.0)) es) ≡ without_below p (instances_of all es)
+instances_kept all p [] = refl
+instances_kept all p (e ∷ es) = by_test (begins p e.0) (instances_kept all p es)
+  where
+    by_test : (b : Bool) → instances_of all (filter (λ x. not (begins p x.0)) es) ≡ without_below p (instances_of all es)
+        → instances_of all (cond (not b) (e ∷ filter (λ x. not (begins p x.0)) es) (filter (λ x. not (begins p x.0)) es))
+        ≡ cond (not b) ((e.0, linked_of all e.0 e.1) ∷ without_below p (instances_of all es)) (without_below p (instances_of all es))
+    by_test true more = more
+    by_test false more = ap (λ (xs : Instances). (e.0, linked_of all e.0 e.1) ∷ xs) more
+
+-- where the sites of instances that stay are drawn
+module _ (p : List ℕ) (es : List (List ℕ × code.Linked)) (k : Key) where
+  same_path_same : (q : List ℕ) → is_path k.path q ≡ true → not (begins p q) ≡ not (begins p k.path)
+  same_path_same q is = ap (λ (r : List ℕ). not (begins p r)) (sym (path_is k.path q is))
+
+  pub spots_kept : spot_in (filter (λ e. not (begins p e.0)) es) k ≡ option_and_then (λ i. spot_at i k) (cond (not (begins p k.path)) (lookup (is_path k.path) es) None)
+  spots_kept = ap (option_and_then (λ i. spot_at i k)) (lookup-filter-keys (is_path k.path) (λ q. not (begins p q)) (not (begins p k.path)) same_path_same es)
+
+module _ (w : Works) (cuts : BTreeMap (List ℕ) code.Linked) (is : BTreeMap (List ℕ) code.Linked) (d : Dom) (os : BTreeMap ℕ (List ℕ)) (rs : BTreeMap Key (Option Snap)) (holder p : List ℕ) (o i : ℕ)
+    (stands : IsStanding w) (holds : IsHeldIn holder p (state_of w).instances) (at : IsHeldAt p o i holds.0.page.outlets)
+    (cut : instances_of (templates_of w) cuts.entries ≡ outlets_changed holder (body_cut o i) (state_of w).instances) (spots : (k : Key) → spot_in cuts.entries k ≡ places_of w k)
+    (nodes : CutsOut at.0.anchor i w.dom d)
+    (left : is.entries ≡ filter (λ e. not (begins p e.0)) cuts.entries) (owned : os.entries ≡ owners_less (λ (one : code.Linked). one.node) p cuts.entries w.owners.entries)
+    (rest : rs.entries ≡ filter (λ e. not (begins p e.0.path)) w.resting.entries) where
+  abbrev pub after : Works
+  after = record w { instances = is; dom = d; owners = os; resting = rs }
+
+  abbrev all : List Named
+  all = templates_of w
+
+  placed : IsPlaced (places_of w) (next_name w.dom) holder holds.0
+  placed = at_path (λ (e : List ℕ × Linked). IsPlaced (places_of w) (next_name w.dom) e.0 e.1) holder holds.0 (state_of w).instances stands.1.built.each holds.1
+
+  changed : outlets_changed holder (body_cut o i) (state_of w).instances ≡ outlets_changed holder (body_gone p) (state_of w).instances
+  changed =
+      alike_changed holder (body_cut o i) (body_gone p) (state_of w).instances
+      (λ l there.
+      let two : Some holds.0 ≡ Some l = sym holds.1 ∙ there in
+      let same : holds.0 ≡ l = cc in
+      subst (λ (m : Linked). body_cut o i m.page.outlets ≡ body_gone p m.page.outlets) same (sym (gone_cut p holds.0.page.outlets o i at (placed.once p))))
+
+  gone : (state_of after).instances ≡ unlinked holder p (state_of w).instances
+  gone = ap (instances_of all) left ∙ (instances_kept all p cuts.entries ∙ ap (without_below p) (cut ∙ changed))
+
+  less : os.entries ≡ owners_without p (state_of w).instances (state_of w).owners
+  less = owned ∙ (owners_kept all p cuts.entries w.owners.entries ∙ (ap (λ (xs : Instances). owners_without p xs w.owners.entries) cut ∙ owners_changed p holder (body_cut o i) (state_of w).instances w.owners.entries))
+
+  resting : resting_of rs.entries ≡ filter (λ e. not (begins p e.0.path)) (state_of w).resting
+  resting = ap resting_of rest ∙ filtered-seen (λ (s : Option Snap). option_map snap_of s) (λ (k : Key). not (begins p k.path)) w.resting.entries
+
+  next : next_name d ≡ next_name w.dom
+  next = nodes.stays.next ∙ nodes.empties.fewer.next
+
+  pub unlinked_state : state_of after ≡ cut_at holder p (state_of w)
+  unlinked_state =
+      ap (λ (xs : Instances). record (state_of after) { instances = xs }) gone
+      ∙ (ap (λ (ns : Owners). record (state_of after) { instances = unlinked holder p (state_of w).instances; owners = ns }) less
+      ∙ (ap (λ (r : Resting). record (state_of after) { instances = unlinked holder p (state_of w).instances; owners = owners_without p (state_of w).instances (state_of w).owners; resting = r }) resting
+      ∙ ap (λ (n : ℕ). record (cut_at holder p (state_of w)) { next_node = n }) next))
+
+  -- sites that stay are drawn where they were, and show what they showed
+  place : (k : Key) → places_of after k ≡ option_and_then (λ (x : code.Linked). spot_at x k) (cond (not (begins p k.path)) (lookup (is_path k.path) cuts.entries) None)
+  place k = ap (λ (es : List (List ℕ × code.Linked)). spot_in es k) left ∙ spots_kept p cuts.entries k
+
+  old : (k : Key) → begins p k.path ≡ false → places_of after k ≡ places_of w k
+  old k off = place k ∙ (ap (λ (b : Bool). option_and_then (λ (x : code.Linked). spot_at x k) (cond (not b) (lookup (is_path k.path) cuts.entries) None)) off ∙ spots k)
+
+  stays : (k : Key) → IsSome (places_of after k) → begins p k.path ≡ false
+  stays k some = by_test (begins p k.path) refl
+    where
+      by_test : (b : Bool) → begins p k.path ≡ b → b ≡ false
+      by_test true on = absurd (no_some (places_of after k) (place k ∙ ap (λ (b : Bool). option_and_then (λ (x : code.Linked). spot_at x k) (cond (not b) (lookup (is_path k.path) cuts.entries) None)) on) some)
+      by_test false off = refl
+
+  looks : (k : Key) → begins p k.path ≡ false → looks_in (state_of w) k ≡ looks_in (state_of after) k
+  looks k off =
+      let same : (q : Key) → is_key k q ≡ true → not (begins p q.path) ≡ not (begins p k.path) = λ q is. ap (λ (r : Key). not (begins p r.path)) (sym (key_is k q is)) in
+      let kept : lookup (is_key k) (filter (λ e. not (begins p e.0.path)) (state_of w).resting) ≡ lookup (is_key k) (state_of w).resting =
+      lookup-filter-keys (is_key k) (λ (q : Key). not (begins p q.path)) (not (begins p k.path)) same (state_of w).resting ∙ ap (λ (b : Bool). cond (not b) (lookup (is_key k) (state_of w).resting) None) off in
+      ap (λ (s : Option (Option ViewTree)). look_of (kept_or (found k (state_of w).watchers) s)) (sym kept ∙ ap (lookup (is_key k)) (sym resting))
+
+  pub unlinked_stands : IsStanding after
+  unlinked_stands = (
+    at_block_all at.0.anchor (bodies_cut i) stands.0,
+    record {
+      built =
+          subst (λ (xs : Instances). IsBuilt (places_of after) (looks_in (state_of after)) d xs (at_block_all at.0.anchor (bodies_cut i) stands.0)) (sym gone)
+          (built_less (places_of w) (places_of after) (looks_in (state_of w)) (looks_in (state_of after)) w.dom nodes.emptied d (state_of w).instances stands.0 holder p holds.0 o at.0 i at.2.0
+          stands.1.built holds.1 at.1 at.2.1 at.2.2 old (λ k q there. looks k (stays k (subst (λ (x : Option ℕ). IsSome x) (sym there) refl))) nodes.empties nodes.becomes nodes.stays);
+      below = λ k some. stands.1.below k (subst (λ (x : Option ℕ). IsSome x) (old k (stays k some)) some);
+      watched = stands.1.watched;
+    },
+  )

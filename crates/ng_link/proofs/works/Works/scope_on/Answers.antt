@@ -1,0 +1,15 @@
+use Rattle.std.proofs.Common.{Some, ap, sym, ◌∙◌}
+use Rattle.std.specs.Option.{option_copied}
+use Rattle.ng_link.specs.State.{templates_of}
+use Rattle.ng_link.proofs.Owners.{scope_or, node_scope}
+use Rattle.ng_link.proofs.works.Works.scope_on.Goals as goal
+
+pub returns-in-None : goal.returns-in-None
+returns-in-None c =
+    let w = c.args.self.now in
+    sym (node_scope (templates_of w) w.instances.entries (Some c.args.p.now) ∙ ap scope_or (sym c.get.ensures.value ∙ ap option_copied c.in-None.is))
+
+pub returns-in-Some : goal.returns-in-Some
+returns-in-Some c =
+    let w = c.args.self.now in
+    sym (node_scope (templates_of w) w.instances.entries (Some c.args.p.now) ∙ ap scope_or (sym c.get.ensures.value ∙ ap option_copied c.in-Some.is))

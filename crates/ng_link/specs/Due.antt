@@ -1,0 +1,28 @@
+-- The outlets that a site fills.
+use Rattle.std.specs.Prelude.{ℕ, ◌+◌, List, [], ◌∷◌, map, Option, None, Some, if◌then◌else◌}
+use Rattle.ng_drawing.specs.Template.{Filling}
+use Rattle.ng_template.specs.FragmentOf.{filling_of}
+use Rattle.ng_link.specs.Instances.{Body, OutletState, Linked, is_filled_by}
+use Rattle.ng_link.specs.declared.filling.Due as code
+
+-- an outlet by its number, how it is filled, the template that has the bodies, and those that stand
+pub record Due : Type 0 where
+  pub outlet : ℕ
+  pub template : ℕ
+  pub filling : Filling
+  pub bodies : List Body
+
+abbrev pub due_of : code.Due → Due
+due_of d = record { outlet = d.outlet; template = d.template.0; filling = filling_of d.filling; bodies = map (λ (p : List ℕ). record { path = p }) d.bodies.items }
+
+abbrev pub due_at : ℕ → OutletState → Due
+due_at o x = record { outlet = o; template = x.template; filling = x.filling; bodies = x.bodies }
+
+abbrev pub due_from : ℕ → ℕ → List OutletState → List Due
+due_from serial o [] = []
+due_from serial o (x ∷ xs) = if is_filled_by serial x then due_at o x ∷ due_from serial (o + 1) xs else due_from serial (o + 1) xs
+
+-- the outlets that a site fills, by its number of registration, in order
+abbrev pub all_due : ℕ → Option Linked → List Due
+all_due serial None = []
+all_due serial (Some l) = due_from serial 0 l.page.outlets

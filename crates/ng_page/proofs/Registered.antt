@@ -1,0 +1,68 @@
+-- The numbers of registration that a linking gives: one for each site of the fragment, and none that was given before.
+use Rattle.std.proofs.Common.{◌≡◌, ◌≤◌, ◌+◌, ℕ, zero, suc, Bool, true, false, List, [], ◌∷◌, length, Option, Some, None, refl, ap, sym, ◌∙◌, arith, slice_get}
+use Rattle.std.specs.Prelude.{◌&&◌, option_and_then, unwrap_or}
+use Rattle.std.specs.List.{AllByRecursion, list_all}
+use Rattle.ng_drawing.specs.Template.{Fragment, Template, no_fragment, fragment_at}
+use Rattle.ng_fire.specs.Links.{Linking, begins_linking, step_linked, steps_linked}
+use Rattle.ng_link.specs.Linking.{LinkStep, makes, starts, registers, site_count, steps}
+use Rattle.ng_link.specs.Shape.{holes}
+use Rattle.ng_link.specs.State.{State}
+use Rattle.ng_link.proofs.Counted.{parts_count}
+use Rattle.ng_link.proofs.Numbers.{counted, whole_count}
+use Rattle.ng_template.specs.Kept.{Named, fragments_in}
+use Rattle.ng_template.specs.Numbering.{is_whole, is_regular}
+use Rattle.ng_page.proofs.Bodies.{push_all}
+use Rattle.ng_page.proofs.FiresTold.{steps_sites}
+
+both_true : (b c : Bool) → (b && c) ≡ true → (b ≡ true) × (c ≡ true)
+both_true true c e = (refl, e)
+both_true false c e = absurd (cc)
+
+regular_fragment : (bodies : ℕ) (fs : List Fragment) (n : ℕ) (f : Fragment) → list_all (is_whole bodies) fs ≡ true → slice_get fs n ≡ Some f → is_whole bodies f ≡ true
+regular_fragment bodies [] n f e at = absurd (cc)
+regular_fragment bodies (g ∷ fs) zero f e at = let same : g ≡ f = cc in ap (is_whole bodies) (sym same) ∙ (both_true (is_whole bodies g) (list_all (is_whole bodies) fs) e).0
+regular_fragment bodies (g ∷ fs) (suc n) f e at = regular_fragment bodies fs n f (both_true (is_whole bodies g) (list_all (is_whole bodies) fs) e).1 at
+
+regular_named : (ts : List Named) (t : ℕ) (x : Named) → AllByRecursion (λ (x : Named). is_regular x.1 ≡ true) ts → slice_get ts t ≡ Some x → is_regular x.1 ≡ true
+regular_named [] t x all at = absurd (cc)
+regular_named (y ∷ ts) zero x all at = let same : y ≡ x = cc in ap (λ (z : Named). is_regular z.1) (sym same) ∙ all.0
+regular_named (y ∷ ts) (suc t) x all at = regular_named ts t x all.1 at
+
+abbrev IsCounted : Fragment → Type 0
+IsCounted f = site_count (steps f.parts) ≡ length f.sites
+
+whole_counted : (bodies : ℕ) (f : Fragment) → is_whole bodies f ≡ true → IsCounted f
+whole_counted bodies f e =
+    let many : length f.sites ≡ 0 + length (holes 0 f.parts) = counted 0 0 (length f.sites) f.parts (whole_count bodies f e) in
+    let as_many : site_count (steps f.parts) ≡ length (holes 0 f.parts) = parts_count 0 f.parts in
+    omega (arith, many, as_many)
+
+pub own_counted : (t : Template) → is_regular t ≡ true → site_count (steps t.own.parts) ≡ length t.own.sites
+own_counted t e = whole_counted (length t.bodies) t.own (both_true (is_whole (length t.bodies) t.own) (list_all (is_whole (length t.bodies)) t.bodies) e).0
+
+-- a fragment of a template that the compiler made has a step for each site
+pub sites_counted : (ts : List Named) (t n : ℕ) → AllByRecursion (λ (x : Named). is_regular x.1 ≡ true) ts → (let f : Fragment = fragments_in ts t n in site_count (steps f.parts) ≡ length f.sites)
+sites_counted ts t n all = by_template (slice_get ts t) refl
+  where
+    by_fragment : (x : Named) → is_regular x.1 ≡ true → (o : Option Fragment) → fragment_at x.1 n ≡ o → IsCounted (unwrap_or o no_fragment)
+    by_fragment x regular None e = refl
+    by_fragment x regular (Some f) e = whole_counted (length x.1.bodies) f (regular_fragment (length x.1.bodies) (x.1.own ∷ x.1.bodies) n f regular e)
+
+    by_template : (o : Option Named) → slice_get ts t ≡ o → IsCounted (unwrap_or (option_and_then (λ (k : Named). fragment_at k.1 n) o) no_fragment)
+    by_template None e = refl
+    by_template (Some x) e = by_fragment x (regular_named ts t x all e) (fragment_at x.1 n) refl
+
+-- numbers that a linking gives come after those that were given before it began
+one_above : (base scope : ℕ) (x : LinkStep) (g : Linking) → base ≤ g.state.core.serial → AllByRecursion (λ (n : ℕ). base ≤ n) g.serials → AllByRecursion (λ (n : ℕ). base ≤ n) (step_linked scope x g).serials
+one_above base scope makes g low all = all
+one_above base scope (starts p) g low all = all
+one_above base scope registers g low all = push_all (λ (n : ℕ). base ≤ n) g.serials g.state.core.serial low all
+
+all_above : (base scope : ℕ) (xs : List LinkStep) (g : Linking) → base ≤ g.state.core.serial → AllByRecursion (λ (n : ℕ). base ≤ n) g.serials → AllByRecursion (λ (n : ℕ). base ≤ n) (steps_linked scope xs g).serials
+all_above base scope [] g low all = all
+all_above base scope (x ∷ xs) g low all =
+    let more : g.state.core.serial ≤ (step_linked scope x g).state.core.serial = (steps_sites scope (x ∷ []) g).core.serial in
+    all_above base scope xs (step_linked scope x g) (omega (arith, low, more)) (one_above base scope x g low all)
+
+pub steps_above : (base scope : ℕ) (xs : List LinkStep) (s : State) → base ≤ s.core.serial → AllByRecursion (λ (n : ℕ). base ≤ n) (steps_linked scope xs (begins_linking s)).serials
+steps_above base scope xs s low = all_above base scope xs (begins_linking s) low tt
