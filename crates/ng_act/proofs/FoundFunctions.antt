@@ -6,8 +6,8 @@ use Rattle.ng_base.specs.Objects.{Object, StandsAmong}
 use Rattle.ng_base.specs.Views.{ViewTree}
 use Rattle.ng_language.specs.Views.{ViewStands}
 use Rattle.ng_store.proofs.Sound.{all_append}
-use Rattle.ng_view.specs.Evaluation.{Local, LocalsStand}
-use Rattle.ng_view.specs.Methods.{argument}
+use Rattle.ng_members.specs.Leaves.{Local, LocalsStand}
+use Rattle.ng_members.specs.Methods.{argument}
 use Rattle.ng_write.specs.Making.{value_in}
 use Rattle.ng_act.specs.Calling.{bound_from, found_as, found_in, no_function}
 use Rattle.ng_act.specs.Frames.{FunStands, fun_of}

@@ -10,7 +10,7 @@ use Rattle.ng_base.specs.declared.value.Value.{Value}
 use Rattle.ng_base.specs.declared.value.Value.TheVariants as value
 use Rattle.ng_language.specs.Objects.{update_at, with_items, with_property, set_name, set_items, items_at, new_object}
 use Rattle.ng_store.proofs.Sound.{length-update_at}
-use Rattle.ng_view.specs.Evaluation.{Local}
+use Rattle.ng_members.specs.Leaves.{Local}
 use Rattle.ng_write.specs.Assigning.{name_assigned, member_assigned}
 use Rattle.std.specs.List.{splice, slice_range}
 use Rattle.ng_write.specs.Changing.{changed, cut_out, cut_from, cut_count}

@@ -11,7 +11,7 @@ use Rattle.ng_behaviour.specs.Listeners.{place_of}
 use Rattle.ng_events.specs.Stands.{Table, Begins, lists_of}
 use Rattle.ng_events.specs.declared.stands.EventWalk.{EventWalk}
 use Rattle.ng_language.specs.Trees.{Trees}
-use Rattle.ng_view.specs.Evaluation.{Local}
+use Rattle.ng_members.specs.Leaves.{Local}
 use Rattle.ng_act.specs.Actions.{Doing, Asked, a_body, an_emit, a_broadcast, Event, announced, finished, emitted, broadcasted, rises, sweeps, visits, visited, many, programmed, body_run, done, does}
 use Rattle.ng_act.specs.Frames.{Acts}
 use Rattle.ng_act.specs.State.{State, Run, with_locals, with_body}

@@ -15,7 +15,7 @@ use Rattle.ng_parse.specs.TreeOf.{tree, pair_tree}
 use Rattle.ng_parse.specs.declared.tree.Expr.{Expr}
 use Rattle.ng_parse.specs.declared.tree.Pair.{Pair}
 use Rattle.ng_store.proofs.Sound.{all_through, all_append}
-use Rattle.ng_view.specs.Evaluation.{Field, FieldsAllStand}
+use Rattle.ng_members.specs.Leaves.{Field, FieldsAllStand}
 use Rattle.ng_write.proofs.More.{view_more}
 use Rattle.ng_act.specs.Actions.{Doing, Place, within, acted, acted_all, acted_pair, acted_pairs, reached, left, made, makes_member, index_name, does}
 use Rattle.ng_act.specs.Calling.{is_nothing}

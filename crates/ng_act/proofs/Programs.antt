@@ -19,9 +19,9 @@ use Rattle.ng_language.specs.declared.snapshots.SnapKind.TheVariants as snaps
 use Rattle.ng_language.specs.Operators.{truthy}
 use Rattle.ng_language.specs.Texts.{to_text}
 use Rattle.ng_language.specs.Trees.{Tree, Trees, PairTree, Pairs, a_number, a_text, a_name, the_scope, a_constant, member_of, item_of, call_of, a_list, a_record, in_brackets, signed, combined, both_of, either_of, choice_of, assigned, filtered, no_trees, tree_then, labelled, shorthand, computed, no_pairs, pair_then}
-use Rattle.ng_view.specs.Evaluation.{Local, Field, named, label_name, sign_value, operator_value}
-use Rattle.ng_view.specs.Members.{member, item}
-use Rattle.ng_view.specs.Methods.{argument, method_value}
+use Rattle.ng_members.specs.Leaves.{Local, Field, named, label_name, sign_value, operator_value}
+use Rattle.ng_members.specs.Members.{member, item}
+use Rattle.ng_members.specs.Methods.{argument, method_value}
 use Rattle.ng_write.specs.Storing.{stored}
 use Rattle.ng_write.specs.Changing.{changed}
 use Rattle.ng_write.specs.Making.{value_in, made_member}

@@ -5,7 +5,7 @@ use Rattle.ng_behaviour.specs.Scopes.{Scope}
 use Rattle.ng_behaviour.specs.ScopeObjects.{AreAmong}
 use Rattle.ng_events.specs.Stands.{open_of}
 use Rattle.ng_store.proofs.Sound.{all_through, stands_more}
-use Rattle.ng_view.specs.Evaluation.{Local, LocalsStand}
+use Rattle.ng_members.specs.Leaves.{Local, LocalsStand}
 use Rattle.ng_base.specs.declared.value.Value.{Value}
 use Rattle.ng_write.specs.Assigning.{locals_after}
 use Rattle.ng_act.proofs.Targets.{after_stand}

@@ -7,7 +7,7 @@ use Rattle.ng_language.specs.Trees.{trees_from, pairs_from}
 use Rattle.ng_parse.specs.TreeOf.{tree, pair_tree}
 use Rattle.ng_parse.specs.declared.tree.Expr.{Expr}
 use Rattle.ng_parse.specs.declared.tree.Pair.{Pair}
-use Rattle.ng_view.specs.Evaluation.{Field}
+use Rattle.ng_members.specs.Leaves.{Field}
 use Rattle.ng_behaviour.specs.Scopes.{parent_at, path_at, next_scope}
 use Rattle.ng_act.specs.Actions.{Doing, Event, acted, acted_all, acted_pair, acted_pairs, statements, does, rises, sweeps, visits, hushes, hushed}
 use Rattle.ng_act.specs.State.{State, Run, is_stopped}

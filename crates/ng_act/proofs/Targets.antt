@@ -10,9 +10,10 @@ use Rattle.ng_base.specs.declared.value.Value.{Value}
 use Rattle.ng_base.specs.declared.value.Value.TheVariants as value
 use Rattle.ng_behaviour.specs.Scopes.{Scope, of_object, scope_from}
 use Rattle.ng_language.specs.Views.{ViewStands}
-use Rattle.ng_view.specs.Evaluation.{Local, LocalsStand, method_of}
-use Rattle.ng_view.specs.Members.{member}
-use Rattle.ng_view.specs.declared.methods.Method.{Method}
+use Rattle.ng_members.specs.Leaves.{Local, LocalsStand}
+use Rattle.ng_members.specs.Callees.{method_of}
+use Rattle.ng_members.specs.Members.{member}
+use Rattle.ng_members.specs.declared.methods.Method.{Method}
 use Rattle.ng_write.specs.Assigning.{locals_after, is_local}
 use Rattle.ng_write.specs.Changing.{change_named}
 use Rattle.ng_write.specs.Events.{event_call_named}

@@ -1,7 +1,7 @@
 -- What a function of the code does, as the definitions have it.
 use Rattle.std.specs.Prelude.{ℕ, ◌<◌}
 use Rattle.ng_parse.specs.ProgramOf.{program}
-use Rattle.ng_view.specs.Evaluation.{LocalsStand}
+use Rattle.ng_members.specs.Leaves.{LocalsStand}
 use Rattle.ng_act.specs.Calling.{Found, no_function, takes, unwatches, opens}
 use Rattle.ng_act.specs.declared.callees.Callee.{Callee}
 use Rattle.ng_act.specs.declared.callees.Callee.TheVariants as callees

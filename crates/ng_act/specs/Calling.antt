@@ -19,11 +19,12 @@ use Rattle.ng_language.specs.declared.syntax.ParseFault.{ParseFault}
 use Rattle.ng_language.specs.Operators.{truthy}
 use Rattle.ng_language.specs.declared.snapshots.SnapKind.{SnapKind}
 use Rattle.ng_language.specs.declared.snapshots.SnapKind.TheVariants as snaps
-use Rattle.ng_view.specs.Evaluation.{Local, method_of}
-use Rattle.ng_view.specs.Members.{member}
-use Rattle.ng_view.specs.Methods.{argument}
+use Rattle.ng_members.specs.Leaves.{Local}
+use Rattle.ng_members.specs.Callees.{method_of}
+use Rattle.ng_members.specs.Members.{member}
+use Rattle.ng_members.specs.Methods.{argument}
 use Rattle.ng_view.specs.Purity.{all_filters_known, are_pure}
-use Rattle.ng_view.specs.declared.methods.Method.{Method}
+use Rattle.ng_members.specs.declared.methods.Method.{Method}
 use Rattle.ng_write.specs.Making.{value_in}
 use Rattle.ng_write.specs.Changing.{change_named}
 use Rattle.ng_write.specs.Events.{event_call_named}

@@ -8,7 +8,7 @@ use Rattle.ng_behaviour.specs.Scopes.{Scope, parent_at}
 use Rattle.ng_chain.specs.declared.chain.Span.{Span}
 use Rattle.ng_events.specs.Stands.{lists_of, walks_at, open_of}
 use Rattle.ng_parse.specs.ProgramOf.{program}
-use Rattle.ng_view.specs.Evaluation.{LocalsStand}
+use Rattle.ng_members.specs.Leaves.{LocalsStand}
 use Rattle.ng_act.specs.State.{State, Run, Fun, a_declared, a_taker, an_unwatcher, an_outer, Task, Declared, Change, adds, removes, leaves}
 use Rattle.ng_act.specs.declared.core_state.Core.{Core}
 use Rattle.ng_act.specs.declared.core_state.Function.{Function}

@@ -3,7 +3,7 @@ use Rattle.std.specs.Prelude.{ℕ, List, Ok}
 use Rattle.ng_base.specs.Views.{ViewTree}
 use Rattle.ng_base.specs.declared.value.Value.{Value}
 use Rattle.ng_language.specs.Trees.{Trees}
-use Rattle.ng_view.specs.Evaluation.{Local}
+use Rattle.ng_members.specs.Leaves.{Local}
 use Rattle.ng_write.specs.Making.{value_in}
 use Rattle.ng_act.specs.Actions.{does, programmed}
 use Rattle.ng_act.specs.State.{State, Run, ◌>>=◌, with_locals}

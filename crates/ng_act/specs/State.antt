@@ -8,7 +8,7 @@ use Rattle.ng_behaviour.specs.Listeners.{Heard}
 use Rattle.ng_behaviour.specs.Scopes.{Scope}
 use Rattle.ng_language.specs.Trees.{Trees}
 use Rattle.ng_language.specs.declared.snapshots.SnapKind.{SnapKind}
-use Rattle.ng_view.specs.Evaluation.{Local}
+use Rattle.ng_members.specs.Leaves.{Local}
 use Rattle.ng_act.specs.declared.core_state.Handed.{Handed}
 use Rattle.ng_write.specs.Written.{Written}
 

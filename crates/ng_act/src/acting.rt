@@ -26,11 +26,11 @@ use ng_base::txt::Txt;
 use ng_base::view::View;
 use ng_parse::{Binary, Expr, Pair, Unary};
 use ng_value::operators::truthy;
-use ng_view::fields::{record_of, record_view};
-use ng_view::lists::list_view;
-use ng_view::literals::{constant, number};
-use ng_view::members::{item, member, undefined};
-use ng_view::operators::{operator_value, sign_value};
+use ng_members::fields::{record_of, record_view};
+use ng_members::lists::list_view;
+use ng_members::literals::{constant, number};
+use ng_members::members::{item, member, undefined};
+use ng_members::operators::{operator_value, sign_value};
 use std::alloc::Global;
 
 /// The value of an expression.

@@ -2,7 +2,7 @@
 ghost use Rattle.std.specs.Prelude.{◌≡◌, ◌<◌, length, IfOk, option_map};
 ghost use Rattle.ng_base.specs.ViewOf.{view_of};
 ghost use Rattle.ng_language.specs.Views.{ViewStands};
-ghost use Rattle.ng_view.specs.Evaluation.{method_of};
+ghost use Rattle.ng_members.specs.Callees.{method_of};
 ghost use Rattle.ng_act.specs.Calling.{is_left_out, scope_method, scope_called, kind_called, value_called, plainly_called, object_called, called_on, is_nothing, outlives};
 
 use ng_base::fault::Memory;
@@ -13,9 +13,9 @@ use ng_base::value::Value;
 use ng_base::view::View;
 use ng_scopes::scopes::Scopes;
 use ng_store::Store;
-use ng_view::items::is_list;
-use ng_view::members::member;
-use ng_view::methods::{Method, list_method, text_method};
+use ng_members::items::is_list;
+use ng_members::members::member;
+use ng_members::methods::{Method, list_method, text_method};
 use ng_write::changing::{Change, change_named};
 use ng_write::events::{EventCall, event_call_named};
 use std::alloc::Global;

@@ -5,7 +5,7 @@ ghost use Rattle.ng_base.specs.Views.{views_list};
 ghost use Rattle.ng_base.specs.ViewOf.{view_of, views_of};
 ghost use Rattle.ng_language.specs.Views.{ViewStands};
 ghost use Rattle.ng_parse.specs.ProgramOf.{program};
-ghost use Rattle.ng_view.specs.Evaluation.{LocalsStand};
+ghost use Rattle.ng_members.specs.Leaves.{LocalsStand};
 ghost use Rattle.ng_act.specs.Actions.{a_body, runs, scope_run, method_run, function_run, does};
 ghost use Rattle.ng_act.specs.Frames.{state_of, held, IsSound, Acts, fun_of};
 ghost use Rattle.ng_act.specs.PlaceOf.{TargetStands};
@@ -27,8 +27,8 @@ use ng_base::view::{View, Views};
 use ng_language::snapshots::SnapKind;
 use ng_parse::Program;
 use ng_value::texts::to_text;
-use ng_view::lists::argument;
-use ng_view::members::undefined;
+use ng_members::lists::argument;
+use ng_members::members::undefined;
 use std::alloc::Global;
 
 /// As many bodies are entered by one command at most.

@@ -25,7 +25,7 @@ use ng_base::txt::Txt;
 use ng_base::value::Value;
 use ng_base::view::{View, Views};
 use ng_store::{Store, StoreFault};
-use ng_view::lists::list_view;
+use ng_members::lists::list_view;
 use std::alloc::Global;
 
 /// As many objects stand at most.

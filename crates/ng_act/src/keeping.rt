@@ -10,7 +10,7 @@ ghost use Rattle.ng_language.specs.Views.{ViewStands};
 ghost use Rattle.ng_act.specs.Actions.{stores, stores_result, filter_result, assigns_name, assigns_member, makes_name, makes_member, is_missing, as_view_run};
 ghost use Rattle.ng_act.specs.Frames.{state_of, held, IsSound, Acts};
 ghost use Rattle.ng_act.specs.State.{written, with_objects};
-ghost use Rattle.ng_view.specs.Methods.{method_value};
+ghost use Rattle.ng_members.specs.Methods.{method_value};
 ghost use Rattle.ng_write.specs.Making.{value_in};
 ghost use Rattle.ng_write.specs.Changing.{changed};
 
@@ -22,10 +22,10 @@ use ng_base::txt::Txt;
 use ng_base::value::Value;
 use ng_base::view::{Fields, View, Views};
 use ng_view::applied::{apply, known};
-use ng_view::calls::method_value;
-use ng_view::fields::record_view;
-use ng_view::literals::named;
-use ng_view::methods::Method;
+use ng_members::calls::method_value;
+use ng_members::fields::record_view;
+use ng_members::literals::named;
+use ng_members::methods::Method;
 use ng_write::assigning::{assign_member, assign_name};
 use ng_write::changing::{Change, change_array as change};
 use ng_write::making::made_member;
@@ -74,7 +74,7 @@ pub fn call_method(
 }
 
 /// What a filter that is there makes of a view.
-#[tactic(auto, using(ng_view::proofs::Stand::views_all_stand))]
+#[tactic(auto, using(ng_members::proofs::Stand::views_all_stand))]
 fn filtered(alloc: Global, core: &Core, name: &Txt, v: &View, args: &Views) -> Result<View, Fault>
     requires view { ViewStands (length core.now.store) (view_of v.now) }
     requires args { AllByRecursion (ViewStands (length core.now.store)) (views_list (views_of args.now)) }

@@ -5,7 +5,7 @@ ghost use Rattle.ng_base.specs.Views.{prim};
 ghost use Rattle.ng_base.specs.ViewOf.{view_of};
 ghost use Rattle.ng_base.specs.declared.value.Value.TheVariants.{Text as a_text_value};
 ghost use Rattle.ng_language.specs.Views.{ViewStands};
-ghost use Rattle.ng_view.specs.Evaluation.{named};
+ghost use Rattle.ng_members.specs.Leaves.{named};
 ghost use Rattle.ng_act.specs.Actions.{object_value};
 ghost use Rattle.ng_act.specs.Frames.{IsSound};
 ghost use Rattle.ng_behaviour.specs.Scopes.{object_at};
@@ -16,7 +16,7 @@ use ng_base::name::ScopeId;
 use ng_base::txt::Txt;
 use ng_base::value::Value;
 use ng_base::view::View;
-use ng_view::literals::named;
+use ng_members::literals::named;
 
 /// A text.
 pub fn text_value(t: &Txt) -> Result<View, Fault>

@@ -3,7 +3,7 @@ ghost use Rattle.std.specs.Prelude.{◌≡◌, ◌<◌, ◌≤◌, ◌+◌, Some
 ghost use Rattle.ng_act.specs.Frames.{state_of, held, IsSound};
 ghost use Rattle.ng_act.specs.State.{with_body, with_locals};
 ghost use Rattle.ng_events.specs.Stands.{open_of, IsOpen, Begins, Goes, Ends};
-ghost use Rattle.ng_view.specs.Evaluation.{LocalsStand};
+ghost use Rattle.ng_members.specs.Leaves.{LocalsStand};
 
 use crate::core_state::Core;
 use ng_base::locals::Locals;

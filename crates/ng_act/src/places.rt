@@ -4,7 +4,7 @@ ghost use Rattle.ng_base.specs.Faults.{is_memory};
 ghost use Rattle.ng_base.specs.Meets.{Meets};
 ghost use Rattle.ng_base.specs.ViewOf.{view_of};
 ghost use Rattle.ng_language.specs.Views.{ViewStands};
-ghost use Rattle.ng_view.specs.Members.{has_members};
+ghost use Rattle.ng_members.specs.Members.{has_members};
 ghost use Rattle.ng_act.specs.Actions.{index_name, item_called, name_called, assigns};
 ghost use Rattle.ng_act.specs.Frames.{state_of, held, IsSound, Acts};
 ghost use Rattle.ng_act.specs.PlaceOf.{place_of, PlaceStands, TargetStands};
@@ -19,7 +19,7 @@ use ng_base::value::Value;
 use ng_base::view::View;
 use ng_store::Store;
 use ng_value::texts::to_text;
-use ng_view::literals::named;
+use ng_members::literals::named;
 use std::alloc::Global;
 
 /// What an assignment writes to: a bare name, or a name of a value.

@@ -17,7 +17,7 @@ use ng_base::fault::Fault;
 use ng_base::name::ScopeId;
 use ng_base::view::View;
 use ng_parse::Expr;
-use ng_view::members::undefined;
+use ng_members::members::undefined;
 use std::alloc::Global;
 
 /// What is called, and the value that it is called on.

@@ -9,7 +9,7 @@ ghost use Rattle.ng_act.specs.Running.{act_run, as_value_run, same};
 ghost use Rattle.ng_act.specs.Frames.{state_of, held, IsSound, Acts};
 ghost use Rattle.ng_act.specs.State.{with_locals};
 ghost use Rattle.ng_parse.specs.ProgramOf.{program};
-ghost use Rattle.ng_view.specs.Evaluation.{LocalsStand};
+ghost use Rattle.ng_members.specs.Leaves.{LocalsStand};
 ghost use Rattle.ng_write.specs.Making.{value_in};
 
 use crate::binding::value_in;

@@ -8,7 +8,7 @@ ghost use Rattle.ng_act.specs.Actions.{listens, ons, event_run, nothing, watches
 ghost use Rattle.ng_act.specs.Calling.{watch_kind};
 ghost use Rattle.ng_act.specs.State.{with_change, removes, with_heard};
 ghost use Rattle.ng_behaviour.specs.Listeners.{without_listener};
-ghost use Rattle.ng_view.specs.Methods.{argument};
+ghost use Rattle.ng_members.specs.Methods.{argument};
 ghost use Rattle.ng_view.specs.Purity.{are_pure, all_filters_known};
 ghost use Rattle.ng_act.specs.Frames.{state_of, held, IsSound, Acts};
 ghost use Rattle.ng_parse.specs.ProgramOf.{program as trees_of};
@@ -25,8 +25,8 @@ use ng_language::snapshots::SnapKind;
 use ng_parse::Program;
 use ng_value::operators::truthy;
 use ng_value::texts::to_text;
-use ng_view::lists::argument;
-use ng_view::members::undefined;
+use ng_members::lists::argument;
+use ng_members::members::undefined;
 use ng_write::events::{EventCall, call_event};
 use std::alloc::Global;
 

@@ -7,7 +7,7 @@ ghost use Rattle.ng_language.specs.Heights.{heights, pair_height, pair_heights};
 ghost use Rattle.ng_language.specs.Trees.{trees_from, pairs_from};
 ghost use Rattle.ng_language.specs.Views.{ViewStands};
 ghost use Rattle.ng_parse.specs.TreeOf.{tree, pair_tree};
-ghost use Rattle.ng_view.specs.Evaluation.{FieldsAllStand};
+ghost use Rattle.ng_members.specs.Leaves.{FieldsAllStand};
 ghost use Rattle.ng_act.specs.Actions.{acted_all, acted_pair, acted_pairs, programmed, does};
 ghost use Rattle.ng_act.specs.Frames.{state_of, held, IsSound, Acts};
 
@@ -20,9 +20,9 @@ use ng_base::txt::Txt;
 use ng_base::view::{View, Views};
 use ng_parse::{Expr, Pair};
 use ng_value::texts::to_text;
-use ng_view::fields::put_field;
-use ng_view::literals::label_name;
-use ng_view::members::undefined;
+use ng_members::fields::put_field;
+use ng_members::literals::label_name;
+use ng_members::members::undefined;
 use std::alloc::Global;
 
 /// The values of expressions, from left to right.

@@ -7,7 +7,7 @@ use Rattle.ng_base.specs.declared.fault.Fault.{Fault}
 use Rattle.ng_base.specs.declared.value.Value.{Value}
 use Rattle.ng_fire.specs.Runs.{back, program_run}
 use Rattle.ng_language.specs.Trees.{Trees}
-use Rattle.ng_view.specs.Evaluation.{Local}
+use Rattle.ng_members.specs.Leaves.{Local}
 
 same_locals : (n c : State) → n.locals ≡ c.locals → with_locals c.locals n ≡ n
 same_locals n c e = ap (λ ls. with_locals ls n) (sym e)

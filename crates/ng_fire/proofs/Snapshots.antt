@@ -31,7 +31,7 @@ use Rattle.ng_store.proofs.ObjectReads.{object_is}
 use Rattle.ng_store.proofs.Sound.{all_append}
 use Rattle.ng_value.proofs.ViewParts.{views_stand, fields_stand}
 use Rattle.ng_value.specs.Taken.{taken, taken_object, collected}
-use Rattle.ng_view.proofs.Stand.{all_more, views_from_stand}
+use Rattle.ng_members.proofs.Stand.{all_more, views_from_stand}
 use Rattle.ng_watch.specs.Now.{value_now, two_way_kind, text_view, word_list}
 use Rattle.ng_watch.specs.Seen.{DestStands, Watcher, WatchStands}
 use Rattle.ng_watch.specs.Verdicts.{Judged, clean, dirty, against, bound, own_value, synced, verdict, verdict_of, won}

@@ -15,7 +15,7 @@ use Rattle.ng_link.specs.Calls.{keeping_at}
 use Rattle.ng_fire.specs.Blocks.{Firing, site_fired}
 use Rattle.ng_link.specs.Instances.{is_site}
 use Rattle.ng_link.specs.State.{State, Listening}
-use Rattle.ng_view.specs.Evaluation.{Local}
+use Rattle.ng_members.specs.Leaves.{Local}
 use Rattle.ng_watch.specs.Keys.{is_key}
 use Rattle.ng_watch.specs.Now.{value_now}
 use Rattle.ng_watch.specs.Seen.{Watcher}

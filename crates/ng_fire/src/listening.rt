@@ -8,7 +8,7 @@ ghost use Rattle.ng_fire.specs.Whole.{KeptStands};
 ghost use Rattle.ng_language.specs.Views.{ViewStands};
 ghost use Rattle.ng_link.specs.State.{listening_of};
 ghost use Rattle.ng_value.specs.Snaps.{snap_of};
-ghost use Rattle.ng_view.specs.Evaluation.{LocalsStand};
+ghost use Rattle.ng_members.specs.Leaves.{LocalsStand};
 
 use crate::tasks::run_first;
 use ng_act::binding::value_in;

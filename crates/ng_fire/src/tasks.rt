@@ -9,7 +9,7 @@ ghost use Rattle.ng_fire.specs.Whole.{IsWhole};
 ghost use Rattle.ng_link.specs.Calls.{with_core};
 ghost use Rattle.ng_link.specs.State.{state_of, templates_of};
 ghost use Rattle.ng_parse.specs.ProgramOf.{program};
-ghost use Rattle.ng_view.specs.Evaluation.{LocalsStand};
+ghost use Rattle.ng_members.specs.Leaves.{LocalsStand};
 
 use crate::following::{Followed, follow};
 use ng_act::core_state::Core;

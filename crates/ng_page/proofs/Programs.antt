@@ -12,7 +12,7 @@ use Rattle.ng_base.specs.declared.value.Value.{Value}
 use Rattle.ng_fire.specs.Runs.{asked_first, destroyed}
 use Rattle.ng_fire.proofs.ProgramRuns.{back_of}
 use Rattle.ng_language.specs.Trees.{Trees}
-use Rattle.ng_view.specs.Evaluation.{Local}
+use Rattle.ng_members.specs.Leaves.{Local}
 use Rattle.ng_page.specs.Commands.{json_run, items_in}
 use Rattle.ng_page.specs.Dispatch.{handler_run}
 

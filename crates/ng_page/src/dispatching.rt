@@ -14,7 +14,7 @@ ghost use Rattle.ng_fire.specs.Whole.{Unless};
 ghost use Rattle.ng_link.specs.Events.{named, handlers_at, scope_of};
 ghost use Rattle.ng_link.specs.State.{state_of};
 ghost use Rattle.ng_parse.specs.ProgramOf.{program};
-ghost use Rattle.ng_view.specs.Evaluation.{LocalsStand};
+ghost use Rattle.ng_members.specs.Leaves.{LocalsStand};
 ghost use Rattle.ng_page.specs.Answered.{WhenOk};
 ghost use Rattle.ng_page.specs.Dispatch.{Happening, Told, bubbles, stays_put, way, is_refused, has_turn, ready, event_of, event_after, handler_run, handling_run, rested, handled, event_then, TakesTurn, MayTakeTurn, Handles, is_stopped, Bubbles, Dispatches, last_digest};
 ghost use Rattle.ng_page.specs.Dispatched.{told_of, told_all, UnlessFailed};

@@ -8,7 +8,7 @@ use Rattle.ng_base.specs.declared.heap.ObjKind.{ObjKind}
 use Rattle.ng_base.specs.declared.heap.ObjKind.TheVariants as kinds
 use Rattle.ng_base.specs.declared.value.Value.TheVariants as value
 use Rattle.ng_behaviour.specs.Scopes.{Scope, of_object}
-use Rattle.ng_view.specs.Purity.{is_pure_method}
+use Rattle.ng_members.specs.Names.{is_pure_method}
 use Rattle.ng_write.specs.Changing.{change_named}
 use Rattle.ng_write.specs.Events.{event_call_named}
 use Rattle.ng_act.specs.Calling.{called_on, plainly_called, scope_called, kind_called, of_method, event_or, change_or, scope_method}

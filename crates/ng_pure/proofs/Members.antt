@@ -12,8 +12,8 @@ use Rattle.ng_language.specs.Objects.{look, look_within, or_else_at}
 use Rattle.ng_language.specs.Texts.{to_text}
 use Rattle.ng_language.specs.Unfolding.{prims}
 use Rattle.ng_write.specs.Storing.{array_with, plain_with}
-use Rattle.ng_view.specs.Evaluation.{named, or_from, Local, LocalsStand}
-use Rattle.ng_view.specs.Members.{member, item, has_members, object_member, list_member, record_member, or_undefined, view_or_undefined, char_or_undefined, indexed, is_length, count}
+use Rattle.ng_members.specs.Leaves.{named, or_from, Local, LocalsStand}
+use Rattle.ng_members.specs.Members.{member, item, has_members, object_member, list_member, record_member, or_undefined, view_or_undefined, char_or_undefined, indexed, is_length, count}
 use Rattle.ng_pure.specs.Showing.{ItemsShow, NamesShow}
 use Rattle.ng_pure.proofs.Shown.{Grown, Seen, AllSeen, ResultBy, items_seen}
 use Rattle.ng_pure.proofs.Looked.{OptionStands, look_looked}

@@ -14,12 +14,12 @@ use Rattle.ng_language.specs.Operators.{strict_eq}
 use Rattle.ng_language.specs.Texts.{to_text}
 use Rattle.ng_language.specs.Unfolding.{prims}
 use Rattle.ng_store.proofs.ObjectReads.{object_is}
-use Rattle.ng_view.specs.Evaluation.{method_of}
-use Rattle.ng_view.specs.Members.{view_or_undefined}
-use Rattle.ng_view.specs.Methods.{is_list, items_of, text_in, place_or_none, place_of, argument, place_at, sliced, parts_of, concatenated, separator, part_text, joined_behind, joined_items, joined, found_from, trimmed, as_text, method_value}
-use Rattle.ng_view.specs.Purity.{list_method}
-use Rattle.ng_view.specs.declared.methods.Method.{Method}
-use Rattle.ng_view.specs.declared.methods.Method.TheVariants as methods
+use Rattle.ng_members.specs.Callees.{method_of}
+use Rattle.ng_members.specs.Members.{view_or_undefined}
+use Rattle.ng_members.specs.Methods.{is_list, items_of, text_in, place_or_none, place_of, argument, place_at, sliced, parts_of, concatenated, separator, part_text, joined_behind, joined_items, joined, found_from, trimmed, as_text, method_value}
+use Rattle.ng_members.specs.Names.{list_method}
+use Rattle.ng_members.specs.declared.methods.Method.{Method}
+use Rattle.ng_members.specs.declared.methods.Method.TheVariants as methods
 use Rattle.std.specs.List.{IsDistinct}
 use Rattle.std.specs.Map.{keys_of}
 use Rattle.std.specs.Prelude.{bytes_eq}

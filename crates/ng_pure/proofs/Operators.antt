@@ -16,8 +16,8 @@ use Rattle.ng_language.specs.declared.syntax.Unary.{Unary}
 use Rattle.ng_language.specs.declared.syntax.Unary.TheVariants as unaries
 use Rattle.ng_language.specs.declared.syntax.Binary.{Binary}
 use Rattle.ng_language.specs.declared.syntax.Binary.TheVariants as binaries
-use Rattle.ng_view.specs.Evaluation.{sign_value, operator_value, truth}
-use Rattle.ng_view.proofs.Stand.{Numeric, mul_stands, sub_stands, div_stands, rem_stands}
+use Rattle.ng_members.specs.Leaves.{sign_value, operator_value, truth}
+use Rattle.ng_members.proofs.Stand.{Numeric, mul_stands, sub_stands, div_stands, rem_stands}
 use Rattle.ng_write.specs.Reading.{Extends}
 use Rattle.ng_pure.proofs.Shown.{Grown, Seen, seen_on}
 use Rattle.ng_pure.proofs.Alike.{truthy_same, num_same, term_same, undefined_same, joined_same, less_same}

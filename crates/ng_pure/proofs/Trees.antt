@@ -21,11 +21,14 @@ use Rattle.ng_language.specs.Trees.{Tree, Trees, PairTree, Pairs, a_number, a_te
 use Rattle.ng_language.specs.declared.syntax.Constant.{Constant}
 use Rattle.ng_language.specs.declared.syntax.Constant.TheVariants as constants
 use Rattle.ng_view.specs.Applied.{known, applied}
-use Rattle.ng_view.specs.Evaluation.{Field, LocalsStand, named, constant_value, label_name, sign_value, operator_value, method_of, member_callee, callee_or, callee, called_on, called, evaluated, evaluated_all, evaluated_pair, evaluated_pairs, evaluated_statements}
-use Rattle.ng_view.specs.Members.{member, item}
-use Rattle.ng_view.specs.Methods.{method_value}
-use Rattle.ng_view.specs.Purity.{is_pure_method, IsPure, ArePure, IsPurePair, ArePurePairs, count_of, IsKnown, FiltersKnown, IsPairKnown, ArePairsKnown}
-use Rattle.ng_view.specs.declared.methods.Method.{Method}
+use Rattle.ng_members.specs.Leaves.{Field, LocalsStand, named, constant_value, label_name, sign_value, operator_value}
+use Rattle.ng_members.specs.Callees.{method_of, member_callee, callee_or, callee, called_on, called}
+use Rattle.ng_view.specs.Evaluation.{evaluated, evaluated_all, evaluated_pair, evaluated_pairs, evaluated_statements}
+use Rattle.ng_members.specs.Members.{member, item}
+use Rattle.ng_members.specs.Methods.{method_value}
+use Rattle.ng_members.specs.Names.{is_pure_method}
+use Rattle.ng_view.specs.Purity.{IsPure, ArePure, IsPurePair, ArePurePairs, count_of, IsKnown, FiltersKnown, IsPairKnown, ArePairsKnown}
+use Rattle.ng_members.specs.declared.methods.Method.{Method}
 use Rattle.ng_act.specs.Actions.{Doing, acted, acted_all, acted_pair, acted_pairs, statements, runs, stores, stores_result, filter_result, nothing}
 use Rattle.ng_act.specs.Calling.{called_on as run_called_on, method_or, value_called, is_nothing as runs_nothing}
 use Rattle.ng_act.specs.State.{State, Run, ◌>>=◌, with_objects, given}

@@ -8,7 +8,8 @@ use Rattle.ng_base.specs.declared.value.Value.{Value}
 use Rattle.ng_behaviour.specs.Scopes.{object_at}
 use Rattle.ng_language.specs.Objects.{AreObjects}
 use Rattle.ng_language.specs.Trees.{Trees}
-use Rattle.ng_view.specs.Evaluation.{Local, LocalsStand, evaluated_program}
+use Rattle.ng_members.specs.Leaves.{Local, LocalsStand}
+use Rattle.ng_view.specs.Evaluation.{evaluated_program}
 use Rattle.ng_view.specs.Purity.{ArePure, FiltersKnown}
 use Rattle.ng_write.specs.Reading.{Extends}
 use Rattle.ng_act.specs.Running.{act_run}

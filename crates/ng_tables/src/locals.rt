@@ -2,7 +2,7 @@
 ghost use Rattle.std.specs.Prelude.{◌<◌, length, IfOk};
 ghost use Rattle.ng_base.specs.ViewOf.{view_of};
 ghost use Rattle.ng_language.specs.Views.{ViewStands};
-ghost use Rattle.ng_view.specs.Evaluation.{LocalsStand};
+ghost use Rattle.ng_members.specs.Leaves.{LocalsStand};
 
 use crate::values::{Of, put};
 use ng_base::heap::ObjKind;

@@ -19,7 +19,7 @@ use Rattle.ng_filters.specs.Matching as matching
 use Rattle.ng_filters.specs.Ordering as ordering
 use Rattle.ng_filters.specs.Applied.{first_of, second_of, applied_if}
 use Rattle.ng_view.specs.Applied.{applied}
-use Rattle.ng_view.proofs.Faults.{only_then, only_if, and_then_only, made_only, json_text_only}
+use Rattle.ng_members.proofs.Faults.{only_then, only_if, and_then_only, made_only, json_text_only}
 
 module _ (Q : Fault → Type 0) (big : Q TooBig) where
   shown_only : (objects : List Object) (t spacing : ViewTree) → IfErr (json_text objects (indent spacing) t >>= λ s. Ok (prim (value.Text s))) Q

@@ -1,9 +1,5 @@
-pub mod Places
-pub mod Stand
 pub mod Pairs
 pub mod Pure
-pub mod Faults
 pub mod FilterFaults
 pub mod TreeFaults
-pub mod Kept
 pub mod TreeNodes

@@ -1,132 +1,22 @@
 -- The value of a program that changes nothing (guide: Expressions): by cases on the tree, from left to right, and the
 -- first fault stands.
-use Rattle.std.specs.Prelude.{ℕ, pos, Bool, true, false, not, List, [], ◌∷◌, ◌++◌, Option, Some, None, Result, Ok, Err, if◌then◌else◌, decimal}
+use Rattle.std.specs.Prelude.{ℕ, pos, List, [], ◌∷◌, ◌++◌, Result, Ok, Err, if◌then◌else◌}
 use Rattle.std.specs.Str.{bytes_eq}
-use Rattle.std.specs.Map.{lookup}
-use Rattle.std.specs.List.{AllByRecursion}
 use Rattle.indexmap.specs.IndexMap.{insert_entry}
 use Rattle.ng_base.specs.Meets.{◌>>=◌}
-use Rattle.ng_base.specs.Objects.{Object, StandsAmong}
+use Rattle.ng_base.specs.Objects.{Object}
 use Rattle.ng_base.specs.Views.{ViewTree, prim, list, rec, views_from, fields_from}
-use Rattle.ng_base.specs.declared.value.Value.{Value}
 use Rattle.ng_base.specs.declared.value.Value.TheVariants as value
 use Rattle.ng_base.specs.declared.fault.Fault.{Fault}
-use Rattle.ng_base.specs.declared.fault.Fault.TheVariants.{NotAFunction, ImpureCall}
-use Rattle.ng_language.specs.Objects.{look}
-use Rattle.ng_language.specs.Operators.{in_range, sub, mul, div, remainder_of, truthy, less, loose_eq, strict_eq}
-use Rattle.ng_language.specs.Sums.{add, as_view}
+use Rattle.ng_base.specs.declared.fault.Fault.TheVariants.{ImpureCall}
+use Rattle.ng_language.specs.Operators.{in_range, truthy}
+use Rattle.ng_language.specs.Sums.{as_view}
 use Rattle.ng_language.specs.Texts.{to_text}
 use Rattle.ng_language.specs.Trees.{Tree, Trees, PairTree, Pairs, a_number, a_text, a_name, the_scope, a_constant, member_of, item_of, call_of, a_list, a_record, in_brackets, signed, combined, both_of, either_of, choice_of, assigned, filtered, no_trees, tree_then, labelled, shorthand, computed, no_pairs, pair_then}
-use Rattle.ng_language.specs.Views.{ViewStands}
-use Rattle.ng_language.specs.declared.syntax.Constant.{Constant}
-use Rattle.ng_language.specs.declared.syntax.Constant.TheVariants as constants
-use Rattle.ng_language.specs.declared.syntax.Unary.{Unary}
-use Rattle.ng_language.specs.declared.syntax.Unary.TheVariants as unaries
-use Rattle.ng_language.specs.declared.syntax.Binary.{Binary}
-use Rattle.ng_language.specs.declared.syntax.Binary.TheVariants as binaries
-use Rattle.ng_language.specs.declared.syntax.Label.{Label}
-use Rattle.ng_language.specs.declared.syntax.Label.TheVariants as labels
 use Rattle.ng_view.specs.Applied.{applied}
-use Rattle.ng_view.specs.Purity.{list_method, text_method}
-use Rattle.ng_view.specs.Members.{or_undefined, member, item}
-use Rattle.ng_view.specs.Methods.{is_list, method_value}
-use Rattle.ng_view.specs.declared.methods.Method.{Method}
-use Rattle.ng_view.specs.declared.calls.Callee.{Callee}
-use Rattle.ng_view.specs.declared.calls.Callee.TheVariants as callees
-
--- a local: a name with its value
-abbrev pub Local : Type 0
-Local = List ℕ × Value
-
--- the values of locals name objects that stand
-abbrev pub LocalsStand : ℕ → List Local → Type 0
-LocalsStand count locals = AllByRecursion (λ (l : Local). StandsAmong count l.1) locals
-
-abbrev pub or_from : Option Value → Option Value → Option Value
-or_from (Some v) o = Some v
-or_from None o = o
-
--- a bare name: a local, else what the scope or its prototypes have
-unfoldable pub named : List Object → ℕ → List Local → List ℕ → ViewTree
-named objects scope locals name = or_undefined (or_from (lookup (bytes_eq name) locals) (look objects scope name))
-
-abbrev pub constant_value : Constant → Value
-constant_value constants.True = value.Bool true
-constant_value constants.False = value.Bool false
-constant_value constants.Null = value.Null
-constant_value constants.Undefined = value.Undefined
-
--- the written name of a pair
-abbrev pub label_name : Label → List ℕ
-label_name (labels.Name n) = n
-label_name (labels.Text t) = t
-label_name (labels.Number n) = decimal n
-
--- `+x` is `x - 0` and `-x` is `0 - x`
-unfoldable pub sign_value : Unary → ViewTree → Result ViewTree Fault
-sign_value unaries.Plus t = as_view (sub t (prim (value.Int (pos 0))))
-sign_value unaries.Minus t = as_view (sub (prim (value.Int (pos 0))) t)
-sign_value unaries.Not t = Ok (prim (value.Bool (not (truthy t))))
-
-abbrev pub truth : Bool → Result ViewTree Fault
-truth b = Ok (prim (value.Bool b))
-
-unfoldable pub operator_value : List Object → Binary → ViewTree → ViewTree → Result ViewTree Fault
-operator_value objects binaries.Multiply t u = as_view (mul t u)
-operator_value objects binaries.Divide t u = as_view (div t u)
-operator_value objects binaries.Remainder t u = as_view (remainder_of t u)
-operator_value objects binaries.Add t u = add objects t u
-operator_value objects binaries.Subtract t u = as_view (sub t u)
-operator_value objects binaries.Less t u = truth (less false t u)
-operator_value objects binaries.Greater t u = truth (less false u t)
-operator_value objects binaries.AtMost t u = truth (less true t u)
-operator_value objects binaries.AtLeast t u = truth (less true u t)
-operator_value objects binaries.Equal t u = truth (loose_eq t u)
-operator_value objects binaries.NotEqual t u = truth (not (loose_eq t u))
-operator_value objects binaries.Same t u = truth (strict_eq t u)
-operator_value objects binaries.NotSame t u = truth (not (strict_eq t u))
-
--- what is called: a method of an array, a fresh list or a text comes before a member of the same name
-abbrev pub method_of : List Object → ViewTree → List ℕ → Option Method
-method_of objects (prim (value.Text t)) name = text_method name
-method_of objects t name = if is_list objects t then list_method name else None
-
-abbrev pub member_callee : ViewTree → Callee
-member_callee (prim value.Undefined) = callees.Nothing
-member_callee (prim value.Null) = callees.Nothing
-member_callee (prim (value.Fun f)) = callees.Function
-member_callee t = callees.Other
-
-abbrev pub callee_or : Option Method → Callee → Callee
-callee_or (Some m) c = callees.Method m
-callee_or None c = c
-
-unfoldable pub callee : List Object → ViewTree → List ℕ → Callee
-callee objects t name = callee_or (method_of objects t name) (member_callee (member objects t name))
-
-abbrev pub is_nothing : Callee → Bool
-is_nothing callees.Nothing = true
-is_nothing (callees.Method m) = false
-is_nothing callees.Function = false
-is_nothing callees.Other = false
-
--- the value of a call with its arguments
-unfoldable pub called_on : List Object → Callee → ViewTree → List ViewTree → Result ViewTree Fault
-called_on objects (callees.Method m) t args = method_value objects m t args
-called_on objects callees.Nothing t args = Ok (prim value.Undefined)
-called_on objects callees.Function t args = Err ImpureCall
-called_on objects callees.Other t args = Err NotAFunction
-
--- where nothing is called the arguments do not count, and else they are evaluated first
-abbrev pub called : List Object → Callee → ViewTree → Result (List ViewTree) Fault → Result ViewTree Fault
-called objects c t args = if is_nothing c then Ok (prim value.Undefined) else (args >>= λ vs. called_on objects c t vs)
-
-abbrev pub Field : Type 0
-Field = List ℕ × ViewTree
-
--- the values of fields name objects that stand
-abbrev pub FieldsAllStand : ℕ → List Field → Type 0
-FieldsAllStand count fs = AllByRecursion (λ (f : Field). ViewStands count f.1) fs
+use Rattle.ng_members.specs.Members.{member, item}
+use Rattle.ng_members.specs.Leaves.{Local, named, constant_value, label_name, sign_value, operator_value, Field}
+use Rattle.ng_members.specs.Callees.{callee, called}
 
 abbrev mutual
   pub evaluated : List Object → ℕ → List Local → Tree → Result ViewTree Fault

@@ -1,32 +1,10 @@
 -- Pure programs: nothing is assigned, and every call is one, in dotted form, of a method that changes nothing.
-use Rattle.std.specs.Prelude.{ℕ, suc, Bool, true, false, ⊤, IsTrue, List, Option, Some, None, is_some, codes, ◌&&◌, if◌then◌else◌}
-use Rattle.std.specs.Str.{bytes_eq}
+use Rattle.std.specs.Prelude.{ℕ, suc, Bool, true, false, ⊤, IsTrue, ◌&&◌}
 use Rattle.ng_language.specs.Trees.{Tree, Trees, PairTree, Pairs, a_number, a_text, a_name, the_scope, a_constant, member_of, item_of, call_of, a_list, a_record, in_brackets, signed, combined, both_of, either_of, choice_of, assigned, filtered, no_trees, tree_then, labelled, shorthand, computed, no_pairs, pair_then}
 use Rattle.ng_view.specs.Applied.{known}
-use Rattle.ng_view.specs.declared.methods.Method.{Method}
-use Rattle.ng_view.specs.declared.methods.Method.TheVariants as methods
-
--- the methods of arrays and fresh lists
-abbrev pub list_method : List ℕ → Option Method
-list_method name =
-    if bytes_eq name (codes "indexOf") then Some methods.IndexOf
-    else (if bytes_eq name (codes "slice") then Some methods.Slice
-    else (if bytes_eq name (codes "concat") then Some methods.Concat
-    else (if bytes_eq name (codes "join") then Some methods.Join
-    else None)))
-
--- the methods of texts
-abbrev pub text_method : List ℕ → Option Method
-text_method name =
-    if bytes_eq name (codes "indexOf") then Some methods.Find
-    else (if bytes_eq name (codes "trim") then Some methods.Trim
-    else (if bytes_eq name (codes "toUpperCase") then Some methods.Upper
-    else (if bytes_eq name (codes "toLowerCase") then Some methods.Lower
-    else None)))
-
--- a method that changes nothing
-abbrev pub is_pure_method : List ℕ → Bool
-is_pure_method name = if is_some (list_method name) then true else is_some (text_method name)
+use Rattle.ng_members.specs.Leaves.{named}
+use Rattle.ng_members.specs.Callees.{called}
+use Rattle.ng_members.specs.Names.{is_pure_method}
 
 -- what is called, in dotted form
 abbrev pub names_method : Tree → Bool

@@ -9,15 +9,16 @@ ghost use Rattle.ng_language.specs.Trees.{trees_from, pairs_from, member_of, ite
 ghost use Rattle.ng_language.specs.Views.{ViewStands};
 ghost use Rattle.ng_parse.specs.TreeOf.{tree, pair_tree};
 ghost use Rattle.ng_view.specs.Purity.{count_of, IsKnown, FiltersKnown, IsPairKnown, ArePairsKnown};
-ghost use Rattle.ng_view.specs.Evaluation.{evaluated, receiver, evaluated_all, evaluated_pair, evaluated_pairs, LocalsStand, Field, FieldsAllStand};
+ghost use Rattle.ng_view.specs.Evaluation.{evaluated, receiver, evaluated_all, evaluated_pair, evaluated_pairs};
+ghost use Rattle.ng_members.specs.Leaves.{LocalsStand, Field, FieldsAllStand};
 
 use crate::applied::apply;
-use crate::calls::{called_on, find_callee, is_nothing};
-use crate::fields::{put_field, record_of, record_view};
-use crate::lists::list_view;
-use crate::literals::{bare_name, constant, label_name, number, text};
-use crate::members::{item, member, undefined};
-use crate::operators::{operator_value, sign_value};
+use ng_members::calls::{called_on, find_callee, is_nothing};
+use ng_members::fields::{put_field, record_of, record_view};
+use ng_members::lists::list_view;
+use ng_members::literals::{bare_name, constant, label_name, number, text};
+use ng_members::members::{item, member, undefined};
+use ng_members::operators::{operator_value, sign_value};
 use indexmap::IndexMap;
 use ng_base::fault::Fault;
 use ng_base::locals::Locals;

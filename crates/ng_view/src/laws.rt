@@ -10,7 +10,7 @@ ghost use Rattle.ng_language.specs.Trees.{a_name, member_of, call_of, no_trees, 
 ghost use Rattle.ng_parse.specs.ProgramOf.{program};
 ghost use Rattle.ng_parse.specs.TreeOf.{tree};
 ghost use Rattle.ng_view.specs.Calls.{calls_nothing, filters_nothing};
-ghost use Rattle.ng_view.specs.Members.{or_undefined};
+ghost use Rattle.ng_members.specs.Members.{or_undefined};
 ghost use Rattle.ng_view.specs.Evaluation.{evaluated, evaluated_program};
 
 use ng_base::locals::Locals;
@@ -21,21 +21,21 @@ use ng_parse::{Expr, Program};
 use ng_store::Store;
 
 /// A local hides what the scope has under its name.
-#[tactic(auto, unfolding(crate::specs::Evaluation::named))]
+#[tactic(auto, unfolding(ng_members::specs::Leaves::named))]
 pub fn local_first(store: &Store, scope: Oid, locals: &Locals, name: &Txt, v: &Value)
     requires { lookup (bytes_eq name.now) locals.now ≡ Some v.now }
     ensures { evaluated store.now scope.0 locals.now (a_name name.now) ≡ Ok (prim v.now) }
 {}
 
 /// A name that is no local is looked up from the scope through its prototypes.
-#[tactic(auto, unfolding(crate::specs::Evaluation::named))]
+#[tactic(auto, unfolding(ng_members::specs::Leaves::named))]
 pub fn scope_next(store: &Store, scope: Oid, locals: &Locals, name: &Txt)
     requires { lookup (bytes_eq name.now) locals.now ≡ None }
     ensures { evaluated store.now scope.0 locals.now (a_name name.now) ≡ Ok (or_undefined (look store.now scope.0 name.now)) }
 {}
 
 /// A call on null or undefined gives undefined, and its arguments do not count.
-#[tactic(auto, unfolding(crate::specs::Evaluation::callee, crate::specs::Members::member))]
+#[tactic(auto, unfolding(ng_members::specs::Callees::callee, ng_members::specs::Members::member))]
 pub fn nothing_called(
     store: &Store,
     scope: Oid,

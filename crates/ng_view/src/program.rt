@@ -8,10 +8,11 @@ ghost use Rattle.ng_language.specs.Views.{ViewStands};
 ghost use Rattle.ng_parse.specs.ProgramOf.{program};
 ghost use Rattle.ng_parse.specs.TreeOf.{tree};
 ghost use Rattle.ng_view.specs.Purity.{ArePure, FiltersKnown};
-ghost use Rattle.ng_view.specs.Evaluation.{evaluated_program, LocalsStand};
+ghost use Rattle.ng_view.specs.Evaluation.{evaluated_program};
+ghost use Rattle.ng_members.specs.Leaves.{LocalsStand};
 
 use crate::evaluation::evaluated;
-use crate::members::undefined;
+use ng_members::members::undefined;
 use ng_base::fault::Fault;
 use ng_base::locals::Locals;
 use ng_base::name::Oid;

@@ -5,7 +5,7 @@ ghost use Rattle.ng_parse.specs.ProgramOf.{program};
 ghost use Rattle.ng_parse.specs.TreeOf.{tree, pair_tree};
 ghost use Rattle.ng_view.specs.Purity.{names_method, is_pure_tree, are_pure, is_pure_pair, are_pure_pairs, ArePure};
 
-use crate::methods::is_pure_method;
+use ng_members::methods::is_pure_method;
 use ng_parse::{Expr, Pair, Program};
 
 /// Whether it is a member with the name of a method that changes nothing.

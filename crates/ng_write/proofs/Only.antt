@@ -10,8 +10,8 @@ use Rattle.ng_base.specs.declared.value.Value.TheVariants as value
 use Rattle.ng_language.specs.Objects.{update_at, with_items, with_property, set_name, set_items, items_at}
 use Rattle.ng_store.proofs.Kept.{other_object}
 use Rattle.ng_store.proofs.Sound.{length-update_at}
-use Rattle.ng_view.specs.Evaluation.{Local}
-use Rattle.ng_view.specs.Members.{is_length}
+use Rattle.ng_members.specs.Leaves.{Local}
+use Rattle.ng_members.specs.Members.{is_length}
 use Rattle.ng_write.specs.Written.{Written}
 use Rattle.ng_write.specs.Reading.{OnlyAt}
 use Rattle.ng_write.specs.Assigning.{is_kept_name, length_assigned, item_assigned, indexed, by_kind, object_assigned, is_local, locals_after, name_assigned}

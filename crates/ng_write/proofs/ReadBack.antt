@@ -16,7 +16,7 @@ use Rattle.ng_base.specs.declared.value.Value.{Value}
 use Rattle.ng_base.specs.declared.value.Value.TheVariants as value
 use Rattle.ng_language.specs.Objects.{look, with_items, with_property, set_name, set_items, items_at}
 use Rattle.ng_store.proofs.Kept.{changed_object, looks_own, set_value_is}
-use Rattle.ng_view.specs.Members.{is_length, object_member, or_undefined, member, count}
+use Rattle.ng_members.specs.Members.{is_length, object_member, or_undefined, member, count}
 use Rattle.ng_write.specs.Written.{Written}
 use Rattle.ng_write.specs.Assigning.{is_kept_name, length_assigned, item_assigned, beyond, indexed, by_kind, object_assigned}
 use Rattle.ng_write.proofs.Filled.{set_items_at}

@@ -13,8 +13,8 @@ use Rattle.ng_base.specs.declared.value.Value.TheVariants as value
 use Rattle.ng_base.specs.declared.fault.Fault.{Fault}
 use Rattle.ng_base.specs.declared.fault.Fault.TheVariants.{NotAssignable, Range}
 use Rattle.ng_language.specs.Objects.{set_name, set_items, items_at}
-use Rattle.ng_view.specs.Evaluation.{Local}
-use Rattle.ng_view.specs.Members.{is_length}
+use Rattle.ng_members.specs.Leaves.{Local}
+use Rattle.ng_members.specs.Members.{is_length}
 use Rattle.ng_write.specs.Written.{Written}
 
 -- a scope's number, its parent and the root are read and not written

@@ -8,7 +8,7 @@ use Rattle.ng_base.specs.declared.value.Value.TheVariants as value
 use Rattle.ng_base.specs.declared.fault.Fault.TheVariants.{StoreFull}
 use Rattle.ng_language.specs.Objects.{set_items, items_at, first_item, last_item}
 use Rattle.ng_language.specs.Operators.{num}
-use Rattle.ng_view.specs.Methods.{from_end}
+use Rattle.ng_members.specs.Methods.{from_end}
 use Rattle.ng_write.specs.declared.changing.Change.{Change}
 use Rattle.ng_write.specs.declared.changing.Change.TheVariants as changes
 use Rattle.ng_write.specs.Storing.{array_with}

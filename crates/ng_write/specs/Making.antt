@@ -6,8 +6,8 @@ use Rattle.ng_base.specs.declared.value.Value.{Value}
 use Rattle.ng_base.specs.declared.value.Value.TheVariants as value
 use Rattle.ng_base.specs.declared.fault.Fault.{Fault}
 use Rattle.ng_language.specs.Texts.{to_text}
-use Rattle.ng_view.specs.Evaluation.{named, Local}
-use Rattle.ng_view.specs.Members.{member, has_members}
+use Rattle.ng_members.specs.Leaves.{named, Local}
+use Rattle.ng_members.specs.Members.{member, has_members}
 use Rattle.ng_write.specs.Written.{Written, ◌>>◌}
 use Rattle.ng_write.specs.Storing.{with_object, plain_with}
 use Rattle.ng_write.specs.Assigning.{member_assigned, name_assigned, locals_after}

@@ -5,7 +5,7 @@ ghost use Rattle.ng_base.specs.Faults.{is_memory};
 ghost use Rattle.ng_base.specs.Meets.{Meets};
 ghost use Rattle.ng_base.specs.Objects.{StandsAmong, is_digit};
 ghost use Rattle.ng_language.specs.Objects.{set_name};
-ghost use Rattle.ng_view.specs.Evaluation.{LocalsStand};
+ghost use Rattle.ng_members.specs.Leaves.{LocalsStand};
 ghost use Rattle.ng_write.specs.Assigning.{is_kept_name, scope_assigned, length_assigned, item_assigned, is_whole_name, beyond, indexed, array_assigned, object_assigned, member_assigned, is_local, place_among, locals_after, name_assigned};
 ghost use Rattle.ng_write.specs.Making.{index_name, item_set};
 ghost use Rattle.ng_write.specs.Written.{Writes};

@@ -4,7 +4,7 @@ ghost use Rattle.std.specs.List.{AllByRecursion};
 ghost use Rattle.ng_base.specs.Objects.{StandsAmong};
 ghost use Rattle.ng_language.specs.Objects.{items_at};
 ghost use Rattle.ng_language.specs.Operators.{num};
-ghost use Rattle.ng_view.specs.Methods.{from_end};
+ghost use Rattle.ng_members.specs.Methods.{from_end};
 ghost use Rattle.ng_write.specs.Changing.{change_named, number, pushed, unshifted, spliced, cut_out, cut_from, cut_count, up_to, changed};
 ghost use Rattle.ng_write.specs.Written.{Writes};
 
@@ -17,7 +17,7 @@ use ng_base::value::Value;
 use ng_base::view::View;
 use ng_store::Store;
 use ng_value::numbers::view_num;
-use ng_view::lists::from_end;
+use ng_members::lists::from_end;
 
 /// A method of arrays that changes them.
 #[derive(Clone, Copy, Debug, PartialEq, Eq)]

@@ -2,7 +2,7 @@
 ghost use Rattle.std.specs.Prelude.{◌≡◌, ◌<◌, Ok, true, false, length};
 ghost use Rattle.ng_base.specs.Views.{prim};
 ghost use Rattle.ng_base.specs.ViewOf.{view_of};
-ghost use Rattle.ng_view.specs.Members.{member};
+ghost use Rattle.ng_members.specs.Members.{member};
 ghost use Rattle.ng_write.specs.Reading.{OnlyAt, Extends, ReadsAs};
 ghost use Rattle.ng_write.specs.Assigning.{object_assigned, is_local, locals_after, name_assigned};
 ghost use Rattle.ng_write.specs.Storing.{stored};

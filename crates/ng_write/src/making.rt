@@ -1,7 +1,7 @@
 //! What is made along the left of an assignment.
 ghost use Rattle.std.specs.Prelude.{◌≡◌, ◌<◌, ◌≤◌, ℕ, length, IfOk, OnOk};
 ghost use Rattle.ng_base.specs.Objects.{StandsAmong};
-ghost use Rattle.ng_view.specs.Evaluation.{LocalsStand};
+ghost use Rattle.ng_members.specs.Leaves.{LocalsStand};
 ghost use Rattle.ng_base.specs.Views.{prim};
 ghost use Rattle.ng_base.specs.ViewOf.{view_of};
 ghost use Rattle.ng_write.specs.Making.{value_in, member_value, name_value, is_nothing, made_member, made_item, made_name, locals_made};
@@ -16,8 +16,8 @@ use ng_base::txt::Txt;
 use ng_base::value::Value;
 use ng_base::view::View;
 use ng_store::Store;
-use ng_view::literals::named;
-use ng_view::members::member;
+use ng_members::literals::named;
+use ng_members::members::member;
 use std::alloc::Global;
 
 fn value_in(view: View) -> Value

@@ -7,7 +7,7 @@ use Rattle.ng_language.specs.Heights.{height, heights, pair_height, pair_heights
 use Rattle.ng_language.specs.Trees.{trees_from, pairs_from}
 use Rattle.ng_language.specs.Views.{ViewStands}
 use Rattle.ng_parse.specs.TreeOf.{tree, pair_tree}
-use Rattle.ng_view.specs.Evaluation.{FieldsAllStand}
+use Rattle.ng_members.specs.Leaves.{FieldsAllStand}
 use Rattle.ng_events.specs.Stands.{open_of, IsOpen}
 use Rattle.ng_act.specs.Actions.{acted_all, acted_pairs, statements, programmed, does, rises, sweeps, many}
 use Rattle.ng_act.specs.EventOf.{event_of}

@@ -1,5 +1,5 @@
 use Rattle.std.proofs.Common.{◌≡◌, ◌++◌, map, drop, length}
-use Rattle.ng_view.specs.Evaluation.{LocalsStand}
+use Rattle.ng_members.specs.Leaves.{LocalsStand}
 use Rattle.ng_act.specs.Calling.{name_bound}
 use Rattle.ng_act.proofs.binding.names_bound_of.Given as goal
 

@@ -7,7 +7,7 @@ use Rattle.ng_fire.proofs.Runs.{asked_rises}
 use Rattle.ng_fire.proofs.Wholes.{whole_run}
 use Rattle.ng_fire.specs.Runs.{asked_first}
 use Rattle.ng_parse.specs.ProgramOf.{program}
-use Rattle.ng_view.specs.Evaluation.{Local}
+use Rattle.ng_members.specs.Leaves.{Local}
 use Rattle.ng_fire.proofs.tasks.run_alone.Goals as goal
 
 pub follow-requires : goal.follow-requires

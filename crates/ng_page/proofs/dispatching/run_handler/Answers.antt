@@ -4,7 +4,7 @@ use Rattle.ng_act.specs.Frames.{Acts}
 use Rattle.ng_act.specs.Running.{act_run, same}
 use Rattle.ng_act.specs.State.{with_locals}
 use Rattle.ng_parse.specs.ProgramOf.{program}
-use Rattle.ng_view.specs.Evaluation.{LocalsStand}
+use Rattle.ng_members.specs.Leaves.{LocalsStand}
 use Rattle.ng_page.proofs.Programs.{handler_acts}
 use Rattle.ng_page.proofs.dispatching.run_handler.Goals as goal
 

@@ -7,7 +7,8 @@ use Rattle.ng_language.specs.Trees.{trees_from, pairs_from}
 use Rattle.ng_language.specs.Views.{ViewStands}
 use Rattle.ng_parse.specs.TreeOf.{tree, pair_tree}
 use Rattle.ng_view.specs.Purity.{count_of, FiltersKnown, ArePairsKnown}
-use Rattle.ng_view.specs.Evaluation.{evaluated_all, evaluated_pairs, FieldsAllStand}
+use Rattle.ng_view.specs.Evaluation.{evaluated_all, evaluated_pairs}
+use Rattle.ng_members.specs.Leaves.{FieldsAllStand}
 use Rattle.ng_view.proofs.evaluation.+evaluation.Given as goal
 
 -- a height, and how far a function stands above the walk at this height

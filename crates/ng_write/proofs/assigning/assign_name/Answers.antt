@@ -1,5 +1,5 @@
 use Rattle.std.proofs.Common.{length, sym, subst}
-use Rattle.ng_view.specs.Evaluation.{LocalsStand}
+use Rattle.ng_members.specs.Leaves.{LocalsStand}
 use Rattle.ng_write.proofs.More.{locals_after_stand}
 use Rattle.ng_write.proofs.assigning.assign_name.Goals as goal
 
