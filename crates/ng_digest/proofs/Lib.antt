@@ -1,6 +1,7 @@
 pub mod Stages
 pub mod Keys
 pub mod Steps
+pub mod Passing
 pub mod Finishes
 pub mod Counts
 pub mod Why

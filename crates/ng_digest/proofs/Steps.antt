@@ -1,14 +1,14 @@
 -- What a walk did, from what its calls ensure.
-use Rattle.std.proofs.Common.{refl, ◌≡◌, ◌≢◌, ◌⊎◌, inl, inr, true, false, sym, subst, ap, ◌∙◌, Option, Some, None, is_some}
-use Rattle.ng_digest.specs.Machine.{Machine, found_dirty, next_key}
+use Rattle.std.proofs.Common.{◌≡◌, ◌≢◌, ◌⊎◌, inl, inr, true, false, sym, subst, ap, ◌∙◌}
+use Rattle.ng_digest.specs.Machine.{Machine, found_dirty}
 use Rattle.ng_digest.specs.Laws.{InOrder}
-use Rattle.ng_digest.specs.Place.{Place, advanced, at_next, after_test, is_remembered, found, stage_tested, OnTested}
+use Rattle.ng_digest.specs.Place.{Place, advanced, after_test, is_remembered, found, stage_tested, OnTested}
 use Rattle.ng_digest.specs.declared.rounds.Found.{Found}
-use Rattle.ng_digest.specs.declared.rounds.Found.TheVariants.{Nothing, Stopped, Fireable}
+use Rattle.ng_digest.specs.declared.rounds.Found.TheVariants.{Stopped, Fireable}
 use Rattle.ng_digest.specs.declared.world.Tested.{Tested}
 use Rattle.ng_digest.specs.declared.world.Tested.TheVariants.{Clean, Faulted}
 use Rattle.ng_digest.specs.declared.world.Stage.TheVariants.{Passed, Through, Pending}
-use Rattle.ng_digest.specs.Short.{has_more, Skips, none_above, at_remembered, at_dirty, passed_by}
+use Rattle.ng_digest.specs.Short.{has_more, Skips, at_remembered, at_dirty, passed_by}
 use Rattle.ng_digest.proofs.Stages.{passed_after, through_after}
 
 pub was_tested : (t : Tested) (P : Type 0) → (t ≡ Clean) ⊎ (t ≡ Faulted) → OnTested t P → P
@@ -16,9 +16,6 @@ was_tested t P (inl e) h = subst (λ u. OnTested u P) e h
 was_tested t P (inr e) h = subst (λ u. OnTested u P) e h
 
 module _ {S K : Type 0} (m : Machine S K) where
-  pub none_found : (p q : Place S K) → false ≡ has_more m p → InOrder m p.state → q ≡ advanced m p → Skips m p Nothing q
-  none_found p q e o a = subst (Skips m p Nothing) (sym a) (none_above (sym e) o)
-
   pub dirty_found : (p q r : Place S K) → true ≡ has_more m p → InOrder m p.state → q ≡ advanced m p → found m q ≡ found_dirty → r ≡ after_test m q → Skips m p Fireable r
   dirty_found p q r e o a d t =
       subst (Skips m p Fireable) (sym (t ∙ ap (after_test m) a)) (at_dirty (sym e) o (subst (λ x. found m x ≡ found_dirty) a d))
@@ -40,10 +37,3 @@ module _ {S K : Type 0} (m : Machine S K) where
 
   pub stage_stopped : (q r : Place S K) → is_remembered m q ≡ true → found m q ≢ found_dirty → r ≡ after_test m q → r.stage ≡ Through
   stage_stopped q r s n t = ap (λ x. x.stage) t ∙ through_after (is_remembered m q) (found m q) n s
-
-  stage_at : (p : Place S K) (o : Option K) → false ≡ is_some o → (at_next p o).stage ≡ Through
-  stage_at p None e = refl
-  stage_at p (Some k) e = cc
-
-  pub stage_none : (p q : Place S K) → false ≡ has_more m p → q ≡ advanced m p → q.stage ≡ Through
-  stage_none p q e a = ap (λ x. x.stage) a ∙ stage_at p (next_key m p.state p.cursor) e

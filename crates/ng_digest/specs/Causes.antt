@@ -7,7 +7,7 @@ use Rattle.ng_digest.specs.declared.rounds.DigestFault.{DigestFault}
 use Rattle.ng_digest.specs.declared.rounds.DigestFault.TheVariants as fault
 use Rattle.ng_digest.specs.declared.world.Stage.TheVariants.{Draining, Pending, Over}
 use Rattle.ng_digest.specs.Machine.{Machine}
-use Rattle.ng_digest.specs.Place.{Place}
+use Rattle.ng_digest.specs.Place.{Place, WhenWorn}
 
 -- what holds unless memory was wanted
 abbrev pub Unless : Result Report DigestFault → Type 0 → Type 0
@@ -29,3 +29,8 @@ HasSettled m faults p = (p.stage ≡ Over) × (m.handed p.state ≡ faults)
 -- the rounds, fires and tests are those of the log
 abbrev pub IsReport : Report → Log → Type 0
 IsReport r l = (r.rounds ≡ l.rounds) × (r.fires ≡ l.fires) × (r.tests ≡ l.tests)
+
+-- what holds where a digest answers that a counter stands at its last value
+abbrev pub WhereWorn : Result Report DigestFault → Type 0 → Type 0
+WhereWorn (Err (fault.Memory e)) c = WhenWorn e c
+WhereWorn _ c = Unit {0}

@@ -3,6 +3,7 @@ pub mod Machine
 pub mod Place
 pub mod Progress
 pub mod Laws
+pub mod Passing
 pub mod Short
 pub mod Ends
 pub mod Causes

@@ -1,5 +1,5 @@
 -- The log of a digest: counters, each of which stays at its type's last value once it is there.
-use Rattle.std.specs.Prelude.{ℕ, ◌+◌, ◌-◌, ◌^◌, min, Bool, true, false, if◌then◌else◌}
+use Rattle.std.specs.Prelude.{ℕ, zero, suc, ◌+◌, ◌-◌, ◌^◌, min, Bool, true, false, if◌then◌else◌}
 use Rattle.ng_digest.specs.declared.log.Log.{Log}
 use Rattle.ng_digest.specs.declared.log.Report.{Report}
 
@@ -9,6 +9,11 @@ more32 n = min (n + 1) (2 ^ 32 - 1)
 abbrev pub more64 : ℕ → ℕ
 more64 n = min (n + 1) (2 ^ 64 - 1)
 
+-- so many more, one after another
+abbrev pub many64 : ℕ → ℕ → ℕ
+many64 zero n = n
+many64 (suc k) n = many64 k (more64 n)
+
 abbrev pub zero_log : Log
 zero_log = record { rounds = 0; dirty_rounds = 0; fires = 0; round_fires = 0; tasks = 0; tests = 0; tests_since_fire = 0; round_tests = 0 }
 
@@ -17,6 +22,9 @@ with_round l = record l { rounds = more32 l.rounds; round_fires = 0; round_tests
 
 abbrev pub with_test : Log → Log
 with_test l = record l { tests = more64 l.tests; tests_since_fire = more64 l.tests_since_fire; round_tests = more64 l.round_tests }
+
+abbrev pub with_tests : ℕ → Log → Log
+with_tests k l = record l { tests = many64 k l.tests; tests_since_fire = many64 k l.tests_since_fire; round_tests = many64 k l.round_tests }
 
 abbrev pub with_fire : Log → Log
 with_fire l = record l { fires = more32 l.fires; round_fires = more32 l.round_fires; tests_since_fire = 0 }

@@ -1,5 +1,7 @@
 -- Where a world stands in a digest, and where each call takes it.
-use Rattle.std.specs.Prelude.{◌≡◌, Bool, true, false, Option, Some, None, ◌||◌, nat_lt, if◌then◌else◌}
+use Rattle.std.specs.Prelude.{◌≡◌, Bool, true, false, Option, Some, None, Result, Ok, Err, ◌||◌, nat_lt, if◌then◌else◌}
+use Rattle.ng_base.specs.declared.fault.Memory.{Memory as Wanted}
+use Rattle.ng_base.specs.declared.fault.Memory.TheVariants.{Refused, Worn}
 use Rattle.ng_digest.specs.declared.world.Tested.{Tested}
 use Rattle.ng_digest.specs.declared.world.Tested.TheVariants.{Clean, Dirty, Faulted, Memory}
 use Rattle.ng_digest.specs.declared.log.Log.{Log}
@@ -25,6 +27,8 @@ pub record Moves (W : Type 0) : Type 1 where
   -- what else holds of a world between its calls, and what holds once its rounds are over, unless memory ran out
   pub Holds : W → Type 0
   pub Rests : W → Type 0
+  -- what is used up where a call answers that a counter stands at its last value
+  pub IsWorn : W → Type 0
 
 -- the cursor may move: behind a key that was dealt with, or once no task waits
 abbrev pub MayAdvance : Stage → Bool → Type 0
@@ -104,3 +108,17 @@ Answers v (Memory e) = Unit {0}
 abbrev pub OnTested : Tested → Type 0 → Type 0
 OnTested (Memory e) p = Unit {0}
 OnTested _ p = p
+
+-- what holds where memory was wanted since a counter stands at its last value
+abbrev pub WhenWorn : Wanted → Type 0 → Type 0
+WhenWorn Worn p = p
+WhenWorn Refused p = Unit {0}
+
+-- the same of a call's answer, and of a test's
+abbrev pub OnWorn : {T : Type 0} → Result T Wanted → Type 0 → Type 0
+OnWorn (Ok v) p = Unit {0}
+OnWorn (Err e) p = WhenWorn e p
+
+abbrev pub OnWornTest : Tested → Type 0 → Type 0
+OnWornTest (Memory e) p = WhenWorn e p
+OnWornTest _ p = Unit {0}

@@ -1,11 +1,11 @@
 -- Where a digest stands, but for its world's state, and where each call takes that.
-use Rattle.std.specs.Prelude.{Bool, true, false, Option, Some, None, if◌then◌else◌}
+use Rattle.std.specs.Prelude.{ℕ, Bool, true, false, Option, Some, None, if◌then◌else◌}
 use Rattle.ng_digest.specs.declared.log.Log.{Log}
 use Rattle.ng_digest.specs.declared.progress.Last.{Last}
 use Rattle.ng_digest.specs.declared.progress.Last.TheVariants.{Nothing, AtCursor, Key}
 use Rattle.ng_digest.specs.declared.world.Stage.{Stage}
 use Rattle.ng_digest.specs.declared.world.Stage.TheVariants.{Between, Draining, AtKey, Passed, Through, Over}
-use Rattle.ng_digest.specs.Log.{zero_log, with_round, with_test, with_fire, with_task, with_close}
+use Rattle.ng_digest.specs.Log.{zero_log, with_round, with_test, with_tests, with_fire, with_task, with_close}
 use Rattle.ng_digest.specs.Machine.{Verdict}
 use Rattle.ng_digest.specs.Place.{Place, stage_tested, stage_closed}
 
@@ -43,6 +43,10 @@ task_done false p = p
 abbrev pub came_to : {K : Type 0} → Option K → Standing K → Standing K
 came_to None p = record p { stage = Through }
 came_to (Some k) p = record p { cursor = Some k; stage = AtKey }
+
+-- so many keys were tested and passed, the last of which is the cursor's
+abbrev pub passed : {K : Type 0} → ℕ → Option K → Standing K → Standing K
+passed n c p = record p { cursor = c; log = with_tests n p.log }
 
 -- as `after_test`
 abbrev pub test_done : {K : Type 0} → Bool → Verdict → Standing K → Standing K

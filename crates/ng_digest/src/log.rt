@@ -1,6 +1,6 @@
 //! The log of a digest: counters, each of which stays at its type's last value once it is there.
 ghost use Rattle.std.specs.Prelude.{◌≡◌};
-ghost use Rattle.ng_digest.specs.Log.{zero_log, with_round, with_test, with_fire, with_task, with_close, report_of};
+ghost use Rattle.ng_digest.specs.Log.{zero_log, with_round, with_test, with_tests, many64, with_fire, with_task, with_close, report_of};
 
 /// What was counted in a digest so far.
 #[derive(Clone, Copy, Debug, PartialEq, Eq)]
@@ -22,6 +22,13 @@ pub struct Report {
     pub fires: u32,
     pub tests: u64,
     pub tests_after_last_fire: u64,
+}
+
+/// A count and so many more.
+fn with_more(count: u64, more: u64) -> u64
+    ensures { result ≡ many64 more count }
+{
+    count.saturating_add(more)
 }
 
 impl Log {
@@ -57,6 +64,15 @@ impl Log {
         self.tests = self.tests.saturating_add(1);
         self.tests_since_fire = self.tests_since_fire.saturating_add(1);
         self.round_tests = self.round_tests.saturating_add(1);
+    }
+
+    /// So many watchers were tested.
+    pub fn count_tests(&mut self, tests: u64)
+        ensures { self.new ≡ with_tests tests self.old }
+    {
+        self.tests = with_more(self.tests, tests);
+        self.tests_since_fire = with_more(self.tests_since_fire, tests);
+        self.round_tests = with_more(self.round_tests, tests);
     }
 
     /// A watcher fired.

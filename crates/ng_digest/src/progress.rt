@@ -2,7 +2,7 @@
 ghost use Rattle.std.specs.Prelude.{◌≡◌, Option, Some, None, is_some, option_copied, ◌||◌, nat_lt};
 ghost use Rattle.ng_digest.specs.Machine.{Verdict, same_key};
 ghost use Rattle.ng_digest.specs.Place.{Answers, OnTested, stage_tested};
-ghost use Rattle.ng_digest.specs.Progress.{last_key, at_start, round_begun, task_done, came_to, test_done, fire_done, round_closed, rounds_over};
+ghost use Rattle.ng_digest.specs.Progress.{last_key, at_start, round_begun, task_done, came_to, passed, test_done, fire_done, round_closed, rounds_over};
 
 use crate::log::Log;
 use crate::world::{Stage, Tested};
@@ -96,7 +96,7 @@ impl<K> Progress<K> {
     }
 
     /// The key that was last dirty.
-    fn remembered(&self) -> Option<&K>
+    pub fn remembered(&self) -> Option<&K>
         ensures { option_copied result ≡ self.now.remembered }
     {
         match &self.last {
@@ -171,6 +171,15 @@ impl<K: Drop> Progress<K> {
                 true
             }
         }
+    }
+
+    /// Keys were tested and passed, so many, and none of them was dirty; the last is the cursor's.
+    pub fn pass(&mut self, tests: u64, last: Option<K>)
+        ensures { self.new ≡ passed tests last self.old }
+    {
+        leave(&mut self.last, &mut self.cursor);
+        self.cursor = last;
+        self.log.count_tests(tests);
     }
 
     /// The watcher at the cursor fired, and its key is remembered unless that added a watcher.

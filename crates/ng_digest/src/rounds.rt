@@ -1,13 +1,13 @@
 //! Rounds, up to one that isn't dirty.
 ghost use Rattle.std.specs.Prelude.{◌≡◌, ◌<◌, ◌≤◌, ◌↔◌, ℕ, true, false, Some, None, Result, Err, IfOk, OnOk, IsOk};
 ghost use Rattle.ng_digest.specs.Log.{zero_log};
-ghost use Rattle.ng_digest.specs.Place.{MayAdvance};
+ghost use Rattle.ng_digest.specs.Place.{MayAdvance, OnWorn};
 ghost use Rattle.ng_digest.specs.declared.world.Stage.TheVariants.{Between, Draining, Calm};
 ghost use Rattle.ng_digest.specs.Short.{Drains, Skips, Walks, Round, Rounds, Digests};
 ghost use Rattle.ng_base.specs.declared.fault.Fault.{Fault};
 ghost use Rattle.ng_digest.specs.declared.rounds.DigestFault.{DigestFault};
 ghost use Rattle.ng_digest.specs.declared.rounds.DigestFault.TheVariants.{Infdig, FireLimit, AsyncLimit, Faulted};
-ghost use Rattle.ng_digest.specs.Causes.{Unless, IsOverFires, IsOverTasks, HasSettled, IsReport};
+ghost use Rattle.ng_digest.specs.Causes.{Unless, WhereWorn, IsOverFires, IsOverTasks, HasSettled, IsReport};
 ghost use Rattle.ng_digest.specs.Plain.{Plain, PlainDigests};
 ghost use Rattle.ng_digest.specs.Early.{plain_of, plain_answer, IsFresh, OnSettled};
 ghost use Rattle.ng_digest.specs.Ends.{StageFound, StageWalked, StageRound, StageEnd, CountsRound, Finishes};
@@ -84,6 +84,7 @@ fn drain<W: World>(w: &mut W) -> Result<bool, Memory>
     ensures calm { IfOk result (λ over. over ≡ false → W.moves.machine.waits (W.moves.at w.new).state ≡ false) }
     ensures holds { OnOk result (W.moves.Holds w.new) }
     ensures rounds { OnOk result ((W.moves.at w.new).log.dirty_rounds ≡ (W.moves.at w.old).log.dirty_rounds) }
+    ensures worn { OnWorn result (W.moves.IsWorn w.new) }
 {
     while w.waits() {
         if w.log().tasks >= MANY_TASKS {
@@ -103,8 +104,9 @@ fn next_dirty<W: World>(w: &mut W) -> Result<Found, Memory>
     ensures holds { OnOk result (W.moves.Holds w.new) }
     ensures fires { OnOk result ((W.moves.at w.new).log.fires ≡ (W.moves.at w.old).log.fires) }
     ensures rounds { OnOk result ((W.moves.at w.new).log.dirty_rounds ≡ (W.moves.at w.old).log.dirty_rounds) }
+    ensures worn { OnWorn result (W.moves.IsWorn w.new) }
 {
-    while w.next_after()? {
+    while w.advance()? {
         let remembered = w.last_dirty();
         let tested = w.test();
         match tested {
@@ -127,6 +129,7 @@ fn walk<W: World>(w: &mut W) -> Result<Walked, Memory>
     ensures stage { IfOk result (λ end. (W.moves.at w.new).stage ≡ StageWalked end) }
     ensures holds { OnOk result (W.moves.Holds w.new) }
     ensures rounds { OnOk result ((W.moves.at w.new).log.dirty_rounds ≡ (W.moves.at w.old).log.dirty_rounds) }
+    ensures worn { OnWorn result (W.moves.IsWorn w.new) }
 {
     loop {
         match next_dirty(w)? {
@@ -149,6 +152,7 @@ fn round<W: World>(w: &mut W) -> Result<RoundEnd, Memory>
     ensures stage { IfOk result (λ end. StageRound end (W.moves.at w.new).stage) }
     ensures holds { OnOk result (W.moves.Holds w.new) }
     ensures count { IfOk result (λ end. CountsRound end (W.moves.at w.old).log.dirty_rounds (W.moves.at w.new).log.dirty_rounds) }
+    ensures worn { OnWorn result (W.moves.IsWorn w.new) }
 {
     w.start_round();
     if drain(w)? {
@@ -175,6 +179,7 @@ fn settle<W: World>(w: &mut W) -> Result<End, Memory>
     ensures run { IfOk result (λ end. Rounds W.moves.machine (W.moves.at w.old) end (W.moves.at w.new)) }
     ensures stage { IfOk result (λ end. StageEnd end (W.moves.at w.new).stage) }
     ensures holds { OnOk result (W.moves.Holds w.new) }
+    ensures worn { OnWorn result (W.moves.IsWorn w.new) }
 {
     'rounds: loop {
         match round(w)? {
@@ -195,6 +200,7 @@ fn finish<W: World>(w: &mut W, report: Report) -> Result<Report, DigestFault>
     requires holds { W.moves.Holds w.old }
     ensures end { Finishes W.moves.machine (W.moves.at w.old) report result (W.moves.at w.new) }
     ensures rests { Unless result (W.moves.Rests w.new) }
+    ensures worn { WhereWorn result (W.moves.IsWorn w.new) }
 {
     match w.post() {
         Ok(()) => {}
@@ -213,6 +219,7 @@ fn run<W: World>(w: &mut W) -> Result<Report, DigestFault>
     requires holds { W.moves.Holds w.old }
     ensures run { Digests W.moves.machine (W.moves.at w.old) result (W.moves.at w.new) }
     ensures rests { Unless result (W.moves.Rests w.new) }
+    ensures worn { WhereWorn result (W.moves.IsWorn w.new) }
 {
     let end = match settle(w) {
         Ok(end) => end,
@@ -254,6 +261,7 @@ pub fn digest<W: World>(w: &mut W) -> Result<Report, DigestFault>
     ensures settled { Unless result (IsOk result ↔ HasSettled W.moves.machine None (W.moves.at w.new)) }
     ensures report { IfOk result (λ report. IsReport report (W.moves.at w.new).log) }
     ensures rests { Unless result (W.moves.Rests w.new) }
+    ensures worn { WhereWorn result (W.moves.IsWorn w.new) }
 {
     run(w)
 }

@@ -2,7 +2,8 @@
 ghost use Rattle.std.specs.Prelude.{◌≡◌, ◌≢◌, ◌<◌, ◌+◌, ◌↔◌, Option, Some, None, IfOk, OnOk, is_some};
 ghost use Rattle.ng_digest.specs.Laws.{HasLaws, InOrder};
 ghost use Rattle.ng_digest.specs.Machine.{next_key, ahead, found_dirty};
-ghost use Rattle.ng_digest.specs.Place.{Moves, MayAdvance, begun, after_task, advanced, found, after_test, after_fire, is_remembered, is_dirty, closed, posted, given_up, Answers, OnTested};
+ghost use Rattle.ng_digest.specs.Passing.{Passes};
+ghost use Rattle.ng_digest.specs.Place.{Moves, MayAdvance, begun, after_task, advanced, found, after_test, after_fire, is_remembered, is_dirty, closed, posted, given_up, Answers, OnTested, OnWorn, OnWornTest};
 
 use crate::log::Log;
 use ng_base::fault::{Fault, Memory};
@@ -40,7 +41,8 @@ pub enum Stage {
 /// Watchers under keys, a cursor that goes up over the live keys, and tasks.
 pub trait World {
     /// Its states and keys, what its calls do to a state, where it stands, what else holds of it between its calls, and what
-    /// holds once its rounds are over. After a call that wanted memory nothing is said of it.
+    /// holds once its rounds are over. After a call that wanted memory nothing else is said of it than, where a counter stands at
+    /// its last value, which one.
     ghost moves: { Moves Self };
 
     /// Begins a round, and puts the cursor before the least key.
@@ -61,7 +63,8 @@ pub trait World {
         requires holds { moves.Holds self.old }
         ensures answer { IfOk result (λ ran. ran ≡ moves.machine.waits (moves.at self.old).state) }
         ensures step { IfOk result (λ ran. moves.at self.new ≡ after_task ran moves.machine (moves.at self.old)) }
-        ensures holds { OnOk result (moves.Holds self.new) };
+        ensures holds { OnOk result (moves.Holds self.new) }
+        ensures worn { OnWorn result (moves.IsWorn self.new) };
 
     /// Moves the cursor to the least live key above it. False where there is none.
     fn next_after(&mut self) -> Result<bool, Memory>
@@ -70,7 +73,20 @@ pub trait World {
         ensures answer { IfOk result (λ more. more ≡ is_some (next_key moves.machine (moves.at self.old).state (moves.at self.old).cursor)) }
         ensures step { OnOk result (moves.at self.new ≡ advanced moves.machine (moves.at self.old)) }
         ensures sorted { OnOk result (InOrder moves.machine (moves.at self.old).state) }
-        ensures holds { OnOk result (moves.Holds self.new) };
+        ensures holds { OnOk result (moves.Holds self.new) }
+        ensures worn { OnWorn result (moves.IsWorn self.new) };
+
+    /// Moves the cursor up to a live key, by which a digest goes. Keys on the way are tested and passed, none of which is dirty,
+    /// or is the remembered one. False where no key is left. A world for which that saves nothing passes none.
+    fn advance(&mut self) -> Result<bool, Memory>
+        requires stage { MayAdvance (moves.at self.old).stage (moves.machine.waits (moves.at self.old).state) }
+        requires holds { moves.Holds self.old }
+        ensures way { IfOk result (λ more. Passes moves.machine (moves.at self.old) more (moves.at self.new)) }
+        ensures holds { OnOk result (moves.Holds self.new) }
+        ensures worn { OnWorn result (moves.IsWorn self.new) }
+    {
+        self.next_after()
+    }
 
     /// Whether the cursor stands at the remembered key.
     fn last_dirty(&self) -> bool
@@ -82,7 +98,8 @@ pub trait World {
         requires holds { moves.Holds self.old }
         ensures answer { Answers (found moves.machine (moves.at self.old)) result }
         ensures step { OnTested result (moves.at self.new ≡ after_test moves.machine (moves.at self.old)) }
-        ensures holds { OnTested result (moves.Holds self.new) };
+        ensures holds { OnTested result (moves.Holds self.new) }
+        ensures worn { OnWornTest result (moves.IsWorn self.new) };
 
     /// Fires the watcher at the cursor, which was dirty.
     fn fire(&mut self) -> Result<(), Memory>
@@ -90,7 +107,8 @@ pub trait World {
         requires few { (moves.at self.old).log.fires < 1000000 }
         requires holds { moves.Holds self.old }
         ensures step { OnOk result (moves.at self.new ≡ after_fire moves.machine (moves.at self.old)) }
-        ensures holds { OnOk result (moves.Holds self.new) };
+        ensures holds { OnOk result (moves.Holds self.new) }
+        ensures worn { OnWorn result (moves.IsWorn self.new) };
 
     /// Ends the round, and tells whether it was dirty.
     fn close_round(&mut self) -> bool
@@ -105,7 +123,8 @@ pub trait World {
         requires stage { (moves.at self.old).stage ≡ Stage.Calm }
         requires holds { moves.Holds self.old }
         ensures step { OnOk result (moves.at self.new ≡ posted moves.machine (moves.at self.old)) }
-        ensures rests { OnOk result (moves.Rests self.new) };
+        ensures rests { OnOk result (moves.Rests self.new) }
+        ensures worn { OnWorn result (moves.IsWorn self.new) };
 
     /// Does what comes once the rounds were given up.
     fn fail(&mut self)

@@ -25,8 +25,9 @@ board_machine = record {
 abbrev pub place_of : Sheet → Place State ℕ
 place_of w = place (view w.board) w.progress
 
+-- a sheet has no counter that could stand at its last value
 abbrev pub sheet_moves : Moves Sheet
-sheet_moves = record { State = State; Key = ℕ; machine = board_machine; at = place_of; Holds = λ w. Unit {0}; Rests = λ w. Unit {0} }
+sheet_moves = record { State = State; Key = ℕ; machine = board_machine; at = place_of; Holds = λ w. Unit {0}; Rests = λ w. Unit {0}; IsWorn = λ w. ⊥ }
 
 -- a state before a digest: nothing was handed over
 abbrev pub readied : State → State

@@ -2,10 +2,10 @@
 ghost use Rattle.std.specs.Prelude.{◌≡◌, IfOk, Option};
 ghost use Rattle.std.specs.Ordering.{nat_cmp};
 ghost use Rattle.std.specs.List.Sorted.{IsStrictlySortedBy};
-ghost use Rattle.ng_digest.specs.Causes.{Unless, IsReport};
+ghost use Rattle.ng_digest.specs.Causes.{Unless, WhereWorn, IsReport};
 ghost use Rattle.ng_digest.specs.Early.{plain_of, plain_answer, IsFresh, OnSettled};
 ghost use Rattle.ng_digest.specs.Machine.{verdict_at, next_key};
-ghost use Rattle.ng_digest.specs.Place.{Answers, OnTested, state_tested};
+ghost use Rattle.ng_digest.specs.Place.{Answers, OnTested, OnWornTest, state_tested};
 ghost use Rattle.ng_digest.specs.Plain.{PlainDigests};
 ghost use Rattle.ng_digest.specs.Short.{Digests};
 ghost use Rattle.ng_sheets.specs.Board.{view, live_from};
@@ -27,6 +27,13 @@ pub struct Sheet {
     pub progress: Progress<usize>,
 }
 
+/// The key at the cursor.
+fn cursor_of(progress: &Progress<usize>) -> Option<usize>
+    ensures { result ≡ progress.now.cursor }
+{
+    progress.cursor().copied()
+}
+
 /// The least live key above the cursor.
 fn next_of(board: &Board, cursor: Option<usize>) -> Option<usize>
     ensures next { result ≡ next_key board_machine (view board.now) cursor }
@@ -42,6 +49,7 @@ fn next_of(board: &Board, cursor: Option<usize>) -> Option<usize>
 fn test_at(board: &mut Board, cursor: Option<usize>) -> Tested
     ensures answer { Answers (verdict_at board_machine (view board.old) cursor) result }
     ensures state { OnTested result (view board.new ≡ state_tested board_machine (view board.old) cursor (verdict_at board_machine (view board.old) cursor)) }
+    ensures refused { OnWornTest result ⊥ }
 {
     match cursor {
         None => Tested::Clean,
@@ -76,6 +84,7 @@ impl Sheet {
         ensures plain { Unless result (PlainDigests board_machine (readied (view self.old.board)) (plain_answer result) (plain_of (place_of self.new))) }
         ensures fresh { OnSettled result (λ tests. IsFresh board_machine tests (view self.new.board)) }
         ensures report { IfOk result (λ report. IsReport report (place_of self.new).log) }
+        ensures refused { WhereWorn result ⊥ }
     {
         self.ready();
         digest(self)
@@ -102,7 +111,7 @@ impl World for Sheet {
     }
 
     fn next_after(&mut self) -> Result<bool, Memory> {
-        let next = next_of(&self.board, self.progress.cursor().copied());
+        let next = next_of(&self.board, cursor_of(&self.progress));
         Ok(self.progress.come_to(next))
     }
 
@@ -112,13 +121,13 @@ impl World for Sheet {
 
     fn test(&mut self) -> Tested {
         let same = self.last_dirty();
-        let tested = test_at(&mut self.board, self.progress.cursor().copied());
+        let tested = test_at(&mut self.board, cursor_of(&self.progress));
         self.progress.after_test(tested, same);
         tested
     }
 
     fn fire(&mut self) -> Result<(), Memory> {
-        if let Some(key) = self.progress.cursor().copied() {
+        if let Some(key) = cursor_of(&self.progress) {
             watches::fire(&mut self.board, key)?;
         }
         self.progress.after_fire(self.board.added);

@@ -3,7 +3,7 @@ ghost use Rattle.std.specs.Prelude.{◌≡◌, ◌<◌, ◌+◌, IfOk, IfErr, On
 ghost use Rattle.ng_base.specs.declared.fault.Memory.TheVariants.{Refused};
 ghost use Rattle.ng_sheets.specs.Board.{view, run_body, run_at, verdict, tell, tested, hand_over, mark, marked, keep, fired, ran, waits, unset, unset_found, first_live};
 ghost use Rattle.ng_digest.specs.Machine.{found_faulted};
-ghost use Rattle.ng_digest.specs.Place.{Answers, OnTested};
+ghost use Rattle.ng_digest.specs.Place.{Answers, OnTested, OnWornTest};
 
 use crate::board::{Board, Body, Watch, do_act};
 use ng_base::fault::{Fault, Memory};
@@ -51,6 +51,7 @@ fn hand_over(board: &mut Board, fault: Fault)
 fn tell(board: &mut Board, key: usize) -> Tested
     ensures answer { Answers found_faulted result }
     ensures state { OnTested result (view board.new ≡ tell key found_faulted (view board.old)) }
+    ensures refused { OnWornTest result ⊥ }
 {
     if board.told.contains(&key) {
         return Tested::Faulted;
@@ -67,6 +68,7 @@ fn tell(board: &mut Board, key: usize) -> Tested
 pub fn test(board: &mut Board, key: usize) -> Tested
     ensures answer { Answers (verdict (view board.old) key) result }
     ensures state { OnTested result (view board.new ≡ tested (view board.old) key) }
+    ensures refused { OnWornTest result ⊥ }
 {
     let watch = match board.watches.get(key) {
         None => return Tested::Clean,

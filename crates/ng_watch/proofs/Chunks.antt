@@ -284,11 +284,21 @@ next_within cs i j r l is m =
     let p = get_there (chunk_at cs i) (suc j) (subst (λ (c : Rows). suc j < length c) (read_at cs i r l is) (omega arith)) in
     ap (row_at cs i) next ∙ p.1 ∙ sym (ap (λ (es : Rows). slice_get es 0) (after_row cs i (suc j) p.0 p.1))
 
-pub next_chunk : (cs : List Rows) (i j : ℕ) (r : Rows) → i < length cs → r ≡ get_or cs i r → length r - 1 ≤ j → slice_get (after cs (i + 1) 0) 0 ≡ slice_get (after cs i (suc j)) 0
-next_chunk cs i j r l is m =
+-- past the last row of a chunk the next one follows
+pub rest_chunk : (cs : List Rows) (i j : ℕ) (r : Rows) → i < length cs → r ≡ get_or cs i r → length r - 1 ≤ j → after cs (i + 1) 0 ≡ after cs i (suc j)
+rest_chunk cs i j r l is m =
     let next : i + 1 ≡ suc i = omega arith in
     let end : drop (suc j) (chunk_at cs i) ≡ [] = drop_all (suc j) (chunk_at cs i) (subst (λ (c : Rows). length c ≤ suc j) (read_at cs i r l is) (omega arith)) in
-    ap (λ (k : ℕ). slice_get (after cs k 0) 0) next ∙ ap (λ (es : Rows). slice_get es 0) (sym (back_next cs i) ∙ ap (λ (es : Rows). es ++ back cs i) (sym end))
+    ap (λ (k : ℕ). after cs k 0) next ∙ sym (back_next cs i) ∙ ap (λ (es : Rows). es ++ back cs i) (sym end)
+
+pub next_chunk : (cs : List Rows) (i j : ℕ) (r : Rows) → i < length cs → r ≡ get_or cs i r → length r - 1 ≤ j → slice_get (after cs (i + 1) 0) 0 ≡ slice_get (after cs i (suc j)) 0
+next_chunk cs i j r l is m = ap (λ (es : Rows). slice_get es 0) (rest_chunk cs i j r l is m)
+
+pub rest_within : (cs : List Rows) (i j : ℕ) → after cs i (j + 1) ≡ after cs i (suc j)
+rest_within cs i j = let next : j + 1 ≡ suc j = omega arith in ap (after cs i) next
+
+pub rest_past : (cs : List Rows) (i j : ℕ) → length cs ≤ i → after cs i j ≡ after cs i (suc j)
+rest_past cs i j l = after_past cs i j l ∙ sym (after_past cs i (suc j) l)
 
 -- ---- the end
 

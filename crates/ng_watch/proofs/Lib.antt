@@ -4,6 +4,7 @@ pub mod Rows
 pub mod Chunks
 pub mod AtPlaces
 pub mod Tables
+pub mod Stepping
 pub mod Taking
 pub mod Under
 pub mod Words

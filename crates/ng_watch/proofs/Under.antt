@@ -1,8 +1,9 @@
 -- The rows under a path stand side by side.
-use Rattle.std.proofs.Common.{◌≡◌, ◌<◌, ◌≤◌, ◌-◌, ℕ, suc, Bool, true, false, cond, List, [], ◌∷◌, ◌++◌, Option, Some, None, refl, ap, sym, subst, ◌∙◌, arith}
-use Rattle.std.specs.Prelude.{◌&&◌, ◌==◌, not}
+use Rattle.std.proofs.Common.{◌≡◌, ◌<◌, ◌≤◌, ◌-◌, ℕ, suc, Bool, true, false, cond, List, [], ◌∷◌, ◌++◌, Option, Some, None, refl, ap, sym, subst, ◌∙◌, append_assoc, arith}
+use Rattle.std.specs.Prelude.{◌&&◌, ◌==◌, not, slice_get}
 use Rattle.std.specs.List.{AllByRecursion, filter}
-use Rattle.std.specs.Option.{IsSomeAnd}
+use Rattle.std.specs.Map.{keys_of}
+use Rattle.std.specs.Option.{ForSome, IsSomeAnd}
 use Rattle.std.specs.Ordering.{nat_cmp, ordering_then, is_eq, is_lt, is_gt}
 use Rattle.std.specs.declared.cmp.Ordering.{Ordering}
 use Rattle.std.specs.declared.cmp.Ordering.TheVariants.{Less, Equal, Greater}
@@ -11,12 +12,12 @@ use Rattle.std.proofs.lemmas.Cmp.{ranked, tied_itself}
 use Rattle.ng_base.specs.Order.{path_cmp}
 use Rattle.ng_base.specs.declared.name.Serial.{Serial}
 use Rattle.ng_base.specs.declared.path.Key.{Key}
-use Rattle.ng_watch.specs.Chunks.{Rows, joined, before, after, row_at, has_key, key_from, is_below, AllBelow, AllAbove, IsCounted, IsEdge}
-use Rattle.ng_watch.specs.Keys.{key_cmp_total, begins}
+use Rattle.ng_watch.specs.Chunks.{Rows, joined, before, after, row_at, has_key, key_from, is_below, AllBelow, AllAbove, NotBefore, IsCounted, IsEdge}
+use Rattle.ng_watch.specs.Keys.{key_cmp, key_cmp_total, begins}
 use Rattle.ng_watch.specs.declared.watched.Watched.{Watched}
 use Rattle.ng_watch.proofs.AtPlaces.{counted_less, some_row}
 use Rattle.ng_watch.proofs.Chunks.{parts, parts_row, after_row, none_after}
-use Rattle.ng_watch.proofs.Rows.{Sorted, rest_above, sorted_second}
+use Rattle.ng_watch.proofs.Rows.{Sorted, below_is, rest_above, sorted_second}
 
 abbrev Row : Type 0
 Row = Key × Watched
@@ -101,9 +102,9 @@ then_less Less b h = refl
 then_less Equal b h = refl
 then_less Greater b h = absurd (cc)
 
-all_past : (p : List ℕ) (z : Serial) (e : Row) (es : Rows) → is_below (key_from p z) e ≡ false → begins p e.0.path ≡ false → AllAbove e.0 es → AllByRecursion (λ f. begins p f.0.path ≡ false) es
-all_past p z e [] n b a = tt
-all_past p z e (f ∷ es) n b a = (path_past p e.0.path f.0.path (then_lt (path_cmp e.0.path p) (nat_cmp e.0.serial.0 z.0) n) b (then_less (path_cmp e.0.path f.0.path) (nat_cmp e.0.serial.0 f.0.serial.0) a.0), all_past p z e es n b a.1)
+all_past : (p : List ℕ) (e : Row) (es : Rows) → is_lt (path_cmp e.0.path p) ≡ false → begins p e.0.path ≡ false → AllAbove e.0 es → AllByRecursion (λ f. begins p f.0.path ≡ false) es
+all_past p e [] n b a = tt
+all_past p e (f ∷ es) n b a = (path_past p e.0.path f.0.path n b (then_less (path_cmp e.0.path f.0.path) (nat_cmp e.0.serial.0 f.0.serial.0) a.0), all_past p e es n b a.1)
 
 all_before : (p : List ℕ) (z : Serial) (es : Rows) → z.0 ≡ 0 → AllBelow (key_from p z) es → AllByRecursion (λ f. begins p f.0.path ≡ false) es
 all_before p z [] o a = tt
@@ -124,7 +125,7 @@ none_under p z cs i j s g n o =
     by_row (Some e) is =
         let rest : after cs i j ≡ e ∷ after cs i (suc j) = after_row cs i j e is in
         let sorted : Sorted (e ∷ after cs i (suc j)) = subst Sorted rest (sorted_second (before cs i j) (after cs i j) (subst Sorted (parts cs i j) s)) in
-        subst (AllByRecursion (λ (f : Row). begins p f.0.path ≡ false)) (sym rest) (n e is, all_past p z e (after cs i (suc j)) (g.upper e is) (n e is) (rest_above e (after cs i (suc j)) sorted))
+        subst (AllByRecursion (λ (f : Row). begins p f.0.path ≡ false)) (sym rest) (n e is, all_past p e (after cs i (suc j)) (then_lt (path_cmp e.0.path p) (nat_cmp e.0.serial.0 z.0) (g.upper e is)) (n e is) (rest_above e (after cs i (suc j)) sorted))
 
 -- a row of the path's makes no difference to the others
 pub under_cut : (p : List ℕ) (es fs : Rows) (e : Row) → begins p e.0.path ≡ true → filter (λ e. not (begins p e.0.path)) (es ++ e ∷ fs) ≡ filter (λ e. not (begins p e.0.path)) (es ++ fs)
@@ -161,3 +162,61 @@ drops_one_at p cs ds i j n new c d h m = drops_one p cs i j n new c (subst (λ (
 
 pub some_under : (p : List ℕ) (cs ds : List Rows) (i j n : ℕ) → IsCounted n (joined cs) → ds ≡ cs → IsSomeAnd (row_at ds i j) (λ e. begins p e.0.path ≡ true) → 1 ≤ n
 some_under p cs ds i j n c d h = (drops_one_at p cs ds i j n (before cs i j ++ after cs i (suc j)) c d h refl).some
+
+-- ---- the rows under a path, one after another
+
+-- behind a row that is not below a key none is
+all_behind : (k : Key) (e : Row) (es : Rows) → is_below k e ≡ false → AllAbove e.0 es → NotBefore k.path es
+all_behind k e [] n a = tt
+all_behind k e (f ∷ es) n a = (then_lt (path_cmp f.0.path k.path) (nat_cmp f.0.serial.0 k.serial.0) (by_order (key_cmp f.0 k) refl), all_behind k e es n a.1)
+  where
+    by_order : (o : Ordering) → key_cmp f.0 k ≡ o → is_lt o ≡ false
+    by_order Less is = sym (below_is k e (key_cmp_total.trans e.0 f.0 k a.0 is)) ∙ n
+    by_order Equal is = refl
+    by_order Greater is = refl
+
+module _ (p : List ℕ) where
+  -- rows that are not under it count for nothing
+  others_before : (es fs : Rows) → AllByRecursion (λ f. begins p f.0.path ≡ false) es → filter (λ e. begins p e.0.path) (es ++ fs) ≡ filter (λ e. begins p e.0.path) fs
+  others_before [] fs a = refl
+  others_before (e ∷ es) fs a = rw a.0 (others_before es fs a.1)
+
+  no_others : (es : Rows) → AllByRecursion (λ f. begins p f.0.path ≡ false) es → filter (λ e. begins p e.0.path) es ≡ []
+  no_others [] a = refl
+  no_others (e ∷ es) a = rw a.0 (no_others es a.1)
+
+  module _ (cs : List Rows) (i j : ℕ) where
+    -- where a search for a path's rows ends, they begin
+    pub begin_here : (z : Serial) → IsEdge (key_from p z) cs i j → z.0 ≡ 0 → filter (λ e. begins p e.0.path) (joined cs) ≡ filter (λ e. begins p e.0.path) (after cs i j)
+    begin_here z g o = ap (filter (λ (e : Row). begins p e.0.path)) (parts cs i j) ∙ others_before (before cs i j) (after cs i j) (all_before p z (before cs i j) o g.lower)
+
+    pub none_before : (z : Serial) → Sorted (joined cs) → IsEdge (key_from p z) cs i j → NotBefore p (after cs i j)
+    none_before z s g = by_row (row_at cs i j) refl
+      where
+        by_row : (r : Option Row) → row_at cs i j ≡ r → NotBefore p (after cs i j)
+        by_row None is = subst (NotBefore p) (sym (none_after (after cs i j) (g.row ∙ is))) tt
+        by_row (Some e) is =
+            let rest : after cs i j ≡ e ∷ after cs i (suc j) = after_row cs i j e is in
+            let sorted : Sorted (e ∷ after cs i (suc j)) = subst Sorted rest (sorted_second (before cs i j) (after cs i j) (subst Sorted (parts cs i j) s)) in
+            subst (NotBefore p) (sym rest) (then_lt (path_cmp e.0.path p) (nat_cmp e.0.serial.0 z.0) (g.upper e is), all_behind (key_from p z) e (after cs i (suc j)) (g.upper e is) (rest_above e (after cs i (suc j)) sorted))
+
+    -- one row more
+    pub row_more : (ks more : List Key) (e : Row) → row_at cs i j ≡ Some e → begins p e.0.path ≡ true → keys_of (filter (λ e. begins p e.0.path) (joined cs)) ≡ ks ++ keys_of (filter (λ e. begins p e.0.path) (after cs i j)) → more ≡ ks ++ e.0 ∷ [] → keys_of (filter (λ e. begins p e.0.path) (joined cs)) ≡ more ++ keys_of (filter (λ e. begins p e.0.path) (after cs i (suc j)))
+    row_more ks more e is b h m =
+        let first : keys_of (filter (λ e. begins p e.0.path) (e ∷ after cs i (suc j))) ≡ e.0 ∷ keys_of (filter (λ e. begins p e.0.path) (after cs i (suc j))) = rw b refl in
+        h
+        ∙ ap (λ (es : Rows). ks ++ keys_of (filter (λ (e : Row). begins p e.0.path) es)) (after_row cs i j e is)
+        ∙ ap (λ (xs : List Key). ks ++ xs) first
+        ∙ sym (append_assoc ks (e.0 ∷ []) (keys_of (filter (λ (e : Row). begins p e.0.path) (after cs i (suc j)))))
+        ∙ ap (λ (xs : List Key). xs ++ keys_of (filter (λ (e : Row). begins p e.0.path) (after cs i (suc j)))) (sym m)
+
+    -- past a row that is not under the path, or the last, there is none
+    pub rows_over : Sorted (joined cs) → NotBefore p (after cs i j) → slice_get (after cs i j) 0 ≡ row_at cs i j → ForSome (row_at cs i j) (λ e. begins p e.0.path ≡ false) → filter (λ e. begins p e.0.path) (after cs i j) ≡ []
+    rows_over s n g b = no_others (after cs i j) (by_row (row_at cs i j) refl)
+      where
+        by_row : (r : Option Row) → row_at cs i j ≡ r → AllByRecursion (λ f. begins p f.0.path ≡ false) (after cs i j)
+        by_row None is = subst (AllByRecursion (λ (f : Row). begins p f.0.path ≡ false)) (sym (none_after (after cs i j) (g ∙ is))) tt
+        by_row (Some e) is =
+            let rest : after cs i j ≡ e ∷ after cs i (suc j) = after_row cs i j e is in
+            let sorted : Sorted (e ∷ after cs i (suc j)) = subst Sorted rest (sorted_second (before cs i j) (after cs i j) (subst Sorted (parts cs i j) s)) in
+            subst (AllByRecursion (λ (f : Row). begins p f.0.path ≡ false)) (sym rest) (b e is, all_past p e (after cs i (suc j)) (subst (NotBefore p) rest n).0 (b e is) (rest_above e (after cs i (suc j)) sorted))

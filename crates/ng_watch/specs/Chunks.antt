@@ -6,6 +6,7 @@ use Rattle.std.specs.Map.{keys_of}
 use Rattle.std.specs.Option.{ForSome}
 use Rattle.std.specs.Ordering.{is_lt}
 use Rattle.std.specs.declared.cmp.Ordering.TheVariants.{Less}
+use Rattle.ng_base.specs.Order.{path_cmp}
 use Rattle.ng_base.specs.declared.name.Serial.{Serial}
 use Rattle.ng_base.specs.declared.path.Key.{Key}
 use Rattle.ng_watch.specs.Keys.{key_cmp, is_key}
@@ -68,6 +69,10 @@ NoneBelow k es = AllByRecursion (λ e. is_below k e ≡ false) es
 
 abbrev pub AllAbove : Key → Rows → Type 0
 AllAbove k es = AllByRecursion (λ e. key_cmp k e.0 ≡ Less) es
+
+-- no row comes before a path
+abbrev pub NotBefore : List ℕ → Rows → Type 0
+NotBefore p es = AllByRecursion (λ e. is_lt (path_cmp e.0.path p) ≡ false) es
 
 -- a key's rows, if it had any, would stand between these
 pub record IsGap (k : Key) (es fs : Rows) : Type 0 where

@@ -6,11 +6,12 @@
 //! words, or the side of a two-way binding that was changed.
 //!
 //! [`watchers::Watchers`] is seen by contracts as a list of keys and watchers in key order: by the path of the scope,
-//! parents first, and then by number of registration. The digest finds its way by `first` and `next_after`, which need
-//! no watcher at the key where it stands, so that watchers may come and go while it walks.
+//! parents first, and then by number of registration. The digest finds its way by `walk`, which needs no watcher at the
+//! key where it stands, so that watchers may come and go between its walks.
 //!
 //! What the crate above uses:
 //!
+//! - `walk` goes over clean watchers by reference, and comes to the first that isn't clean, with what its test found;
 //! - `test` is the verdict of one watcher by the definition in specs/Verdicts.antt, and changes nothing. Where text,
 //!   number, truth value or nothing is compared with its like, no text is copied and nothing is allocated. A verdict
 //!   of dirty hands on the snapshot that it was found by, so that no program is evaluated twice;
@@ -19,7 +20,7 @@
 //!
 //! In reading order: `watch` has the types, `watchers` the list, `testing` and `bindings` the verdict, and `laws` what a
 //! reader may take from the definitions. Below `watchers`: `table` keeps its rows, in chunks of neighbours (`chunk`), in
-//! which `places` finds a key and `edits` changes a row.
+//! which `places` finds a key, `walking` goes from row to row and `edits` changes one.
 //!
 //! Not here: what a listener does (`ng_link`), the rounds of a digest (`ng_digest`), and which watcher a page needs.
 #![tactic(auto)]
@@ -33,6 +34,7 @@ mod paths;
 mod places;
 mod table;
 mod testing;
+pub mod walking;
 pub mod watch;
 pub mod watched;
 pub mod watchers;

@@ -1,6 +1,9 @@
-//! Paths of scopes that are above one another.
-ghost use Rattle.std.specs.Prelude.{◌≡◌};
+//! Paths of scopes that are above one another, and copies of keys.
+ghost use Rattle.std.specs.Prelude.{◌≡◌, IfOk};
 ghost use Rattle.ng_watch.specs.Keys.{begins};
+
+use ng_base::path::Key;
+use std::alloc::AllocError;
 
 /// Whether a path begins with another.
 pub(crate) fn begins(u: &[u32], p: &[u32]) -> bool
@@ -13,4 +16,15 @@ pub(crate) fn begins(u: &[u32], p: &[u32]) -> bool
             Some((y, ys)) => *x == *y && begins(xs, ys),
         },
     }
+}
+
+/// A copy of a key.
+pub(crate) fn copied(key: &Key) -> Result<Key, AllocError>
+    ensures { IfOk result (λ k. k ≡ key.now) }
+{
+    let path = key.path.copied()?;
+    Ok(Key {
+        path,
+        serial: key.serial,
+    })
 }

@@ -3,9 +3,11 @@ ghost use Rattle.std.specs.Prelude.{◌≡◌, find as find_first, ◌<◌, ◌�
 ghost use Rattle.std.specs.List.{filter};
 ghost use Rattle.std.specs.List.Sorted.{IsStrictlySortedBy};
 ghost use Rattle.std.specs.Map.{keys_of};
-ghost use Rattle.std.specs.Option.{IsSomeAnd};
-ghost use Rattle.ng_watch.specs.Chunks.{joined, before, after, front, chunk_at, row_at, has_key, key_from, is_passed, AllBelow, IsEdge, IsGap};
+ghost use Rattle.std.specs.Option.{ForSome, IsSomeAnd};
+ghost use Rattle.ng_watch.specs.Chunks.{joined, before, after, front, chunk_at, row_at, has_key, key_from, is_passed, AllBelow, NotBefore, IsEdge, IsGap};
 ghost use Rattle.ng_watch.specs.Keys.{begins, is_above, is_key, key_cmp};
+ghost use Rattle.ng_watch.specs.Table.{watchers_of};
+ghost use Rattle.ng_watch.specs.Walks.{next_of};
 
 use crate::chunk::{Chunk, is_below};
 use crate::paths::begins;
@@ -42,7 +44,8 @@ pub(crate) fn first_row(chunks: &[Chunk]) -> Option<&(Key, Watched)>
 
 /// The place of the first row of the chunks from one on.
 fn start(chunks: &[Chunk], chunk: usize) -> Place
-    ensures { row_at chunks.now result.chunk result.row ≡ slice_get (after chunks.now chunk 0) 0 }
+    ensures row { row_at chunks.now result.chunk result.row ≡ slice_get (after chunks.now chunk 0) 0 }
+    ensures rest { after chunks.now result.chunk result.row ≡ after chunks.now chunk 0 }
 {
     let at = Place { chunk, row: 0 };
     match chunks.get(chunk) {
@@ -55,8 +58,9 @@ fn start(chunks: &[Chunk], chunk: usize) -> Place
 }
 
 /// The place after one that has a row.
-fn step(chunks: &[Chunk], at: Place) -> Place
-    ensures { row_at chunks.now result.chunk result.row ≡ slice_get (after chunks.now at.chunk (suc at.row)) 0 }
+pub(crate) fn step(chunks: &[Chunk], at: Place) -> Place
+    ensures row { row_at chunks.now result.chunk result.row ≡ slice_get (after chunks.now at.chunk (suc at.row)) 0 }
+    ensures rest { after chunks.now result.chunk result.row ≡ after chunks.now at.chunk (suc at.row) }
 {
     match chunks.get(at.chunk) {
         None => at,
@@ -175,6 +179,40 @@ pub(crate) fn next_place(chunks: &[Chunk], at: Place, key: &Key) -> Place
         Ok(at) => step(chunks, at),
         Err(at) => at,
     }
+}
+
+/// The place of the first row above a key, or of the first row of all. A place where the key may stand is looked at first.
+pub(crate) fn place_from(chunks: &[Chunk], at: Place, from: Option<&Key>) -> Place
+    requires { IsStrictlySortedBy key_cmp (keys_of (joined chunks.now)) }
+    ensures { option_map (λ e. e.0) (row_at chunks.now result.chunk result.row) ≡ next_of (option_copied from.entry) (watchers_of (joined chunks.now)) }
+{
+    match from {
+        None => start(chunks, 0),
+        Some(key) => next_place(chunks, at, key),
+    }
+}
+
+/// The row of a place, where that is under a path.
+pub(crate) fn row_under<'a>(chunks: &'a [Chunk], at: Place, p: &Path) -> Option<&'a (Key, Watched)>
+    ensures there { IfSome result (λ e. (row_at chunks.now at.chunk at.row ≡ Some e.now) × (begins p.now e.now.0.path ≡ true)) }
+    ensures none { IsNone result → ForSome (row_at chunks.now at.chunk at.row) (λ e. begins p.now e.0.path ≡ false) }
+{
+    let row = row_at(chunks, at)?;
+    if begins(p.as_slice(), row.0.path.as_slice()) {
+        Some(row)
+    } else {
+        None
+    }
+}
+
+/// The place where the rows that are under a path begin, if there are any.
+pub(crate) fn edge_under(chunks: &[Chunk], p: &Path) -> Place
+    requires { IsStrictlySortedBy key_cmp (keys_of (joined chunks.now)) }
+    ensures apart { filter (λ e. begins p.now e.0.path) (joined chunks.now) ≡ filter (λ e. begins p.now e.0.path) (after chunks.now result.chunk result.row) }
+    ensures behind { NotBefore p.now (after chunks.now result.chunk result.row) }
+    ensures row { slice_get (after chunks.now result.chunk result.row) 0 ≡ row_at chunks.now result.chunk result.row }
+{
+    edge(chunks, p, Serial(0))
 }
 
 /// The place of a row that is under a path, if there is one.

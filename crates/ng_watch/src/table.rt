@@ -1,6 +1,6 @@
 //! The rows of the watchers in key order, in chunks, so that a row comes and goes at the cost of its chunk, with the
 //! place where a walk stands, so that a walk finds its rows without a search.
-ghost use Rattle.std.specs.Prelude.{◌≡◌, [], Some, find, length, not, IfErr, MatchOption, OnOk, OnErr, option_copied, option_map, slice_get};
+ghost use Rattle.std.specs.Prelude.{◌≡◌, [], Some, find, length, not, IfErr, IfOk, MatchOption, OnOk, OnErr, option_copied, option_map, slice_get};
 ghost use Rattle.std.specs.BTreeMap.{insert_entry};
 ghost use Rattle.std.specs.List.{filter};
 ghost use Rattle.std.specs.List.Sorted.{IsStrictlySortedBy};
@@ -9,13 +9,19 @@ ghost use Rattle.ng_base.specs.declared.path.Key.{Key as Name};
 ghost use Rattle.ng_watch.specs.declared.watched.Watched.{Watched as Row};
 ghost use Rattle.ng_watch.specs.Chunks.{joined};
 ghost use Rattle.ng_watch.specs.Keys.{key_cmp, is_key, is_above, begins};
+ghost use Rattle.ng_watch.specs.Table.{watchers_of, AllStand};
+ghost use Rattle.ng_watch.specs.Walks.{Walks, reached_of};
 
 use crate::chunk::Chunk;
 use crate::edits::{drop_under, put_in, set_kept, set_watched, take_row};
-use crate::places::{Place, edge, find, first_row, is_at, is_of, next_place, row_at, search};
+use crate::places::{
+    Place, edge, find, first_row, is_at, is_of, next_place, place_from, row_at, search,
+};
+use crate::walking::{Walk, walk_on};
 use crate::watched::Watched;
 use ng_base::fault::Memory;
 use ng_base::path::{Key, Path};
+use ng_store::store::Store;
 use ng_value::snapshot::Snap;
 use std::alloc::Global;
 use std::cell::Cell;
@@ -105,6 +111,25 @@ impl RowTable {
         let next = next_place(&self.chunks, self.at.get(), key);
         self.at.set(next);
         key_of(row_at(&self.chunks, next))
+    }
+
+    /// A walk over the rows above a key, or over all of them, up to the row of another key. The place moves on to the row to
+    /// which it comes.
+    pub(crate) fn walk<'a>(
+        &'a self,
+        alloc: Global,
+        store: &Store,
+        from: Option<&'a Key>,
+        last: Option<&Key>,
+    ) -> Result<Walk, Memory>
+        requires { AllStand (length store.now) (watchers_of self.now) }
+        ensures { IfOk result (λ w. Walks store.now (watchers_of self.now) (option_copied last.entry) (option_copied from.entry) w.passed (reached_of w.reached)) }
+    {
+        let rows = self.chunks();
+        let start = place_from(rows, self.at.get(), from);
+        let stop = walk_on(alloc, store, rows, self.count, from, start, last)?;
+        self.at.set(stop.at);
+        Ok(stop.walk)
     }
 
     /// The watcher of a key.

@@ -15,12 +15,15 @@ ghost use Rattle.ng_watch.specs.Ended.{is_over, over, without_over};
 ghost use Rattle.ng_watch.specs.Seen.{watching_of, watcher_of, WatchStands};
 ghost use Rattle.ng_watch.specs.Table.{watchers_of, found, kept_at, with_watch, without_watch, under, without_under, first_key, key_after, with_kept, AllStand};
 ghost use Rattle.ng_watch.specs.Verdicts.{judged_of, verdict};
+ghost use Rattle.ng_watch.specs.Walks.{Walks, reached_of};
 
 use crate::chunk::Chunk;
 use crate::ended::is_over;
-use crate::paths::begins;
+use crate::paths::copied;
+use crate::places::{edge_under, row_under, step};
 use crate::table::RowTable;
 use crate::testing::verdict;
+use crate::walking::Walk;
 use crate::watch::{Verdict, Watch};
 use crate::watched::Watched;
 use ng_base::fault::{Fault, Memory};
@@ -51,36 +54,16 @@ impl Model for Watchers {
     ghost view = { λ w. w.table };
 }
 
-/// A copy of a key.
-fn copied(key: &Key) -> Result<Key, AllocError>
-    ensures { IfOk result (λ k. k ≡ key.now) }
-{
-    let path = key.path.copied()?;
-    Ok(Key {
-        path,
-        serial: key.serial,
-    })
-}
-
-/// Adds the keys of those of some rows that are under a path.
-fn add_under(keys: &mut Vec<Key>, rows: &[(Key, Watched)], p: &Path) -> Result<(), AllocError>
-    ensures { OnOk result (keys.new.items ≡ keys.old.items ++ keys_of (filter (λ e. begins p.now e.0.path) rows.now)) }
-{
-    for (key, _) in rows {
-        if begins(p.as_slice(), key.path.as_slice()) {
-            keys.push(copied(key)?)?;
-        }
-    }
-    Ok(())
-}
-
-/// The keys of a scope and of those below it.
+/// The keys of a scope and of those below it, which stand side by side.
 fn keys_under(alloc: Global, chunks: &[Chunk], p: &Path) -> Result<Vec<Key>, AllocError>
+    requires { IsStrictlySortedBy key_cmp (keys_of (joined chunks.now)) }
     ensures { IfOk result (λ ks. ks.items ≡ keys_of (filter (λ e. begins p.now e.0.path) (joined chunks.now))) }
 {
     let mut keys = Vec::new(alloc);
-    for chunk in chunks {
-        add_under(&mut keys, chunk.rows(), p)?;
+    let mut at = edge_under(chunks, p);
+    while let Some(row) = row_under(chunks, at, p) {
+        keys.push(copied(&row.0)?)?;
+        at = step(chunks, at);
     }
     Ok(keys)
 }
@@ -183,7 +166,8 @@ impl Watchers {
         self.table.remove_under(p);
     }
 
-    /// Takes the watchers of a scope, and of those below it, out, and hands them over in key order.
+    /// Takes the watchers of a scope, and of those below it, out, and hands them over in key order. Other watchers are not
+    /// looked at, but for the few by which a search finds the way.
     pub fn take_under(&mut self, alloc: Global, p: &Path) -> Result<Vec<(Key, Watched)>, Memory>
         ensures taken { IfOk result (λ rows. watchers_of rows.items ≡ under p.now (watchers_of self.old)) }
         ensures removed { OnOk result (watchers_of self.new ≡ without_under p.now (watchers_of self.old)) }
@@ -291,6 +275,21 @@ impl Watchers {
         ensures { watchers_of self.new ≡ with_kept key.now None (watchers_of self.old) }
     {
         let _former = self.table.set_kept(key, None);
+    }
+
+    /// A walk over the watchers above a key, or over all: it passes those that are clean, up to the first that isn't, to the one that has
+    /// the key `last`, or to the end. The next call at the key to which it comes needs no search.
+    pub fn walk<'a>(
+        &'a self,
+        alloc: Global,
+        store: &Store,
+        from: Option<&'a Key>,
+        last: Option<&Key>,
+    ) -> Result<Walk, Memory>
+        requires { AllStand (length store.now) (watchers_of self.now) }
+        ensures { IfOk result (λ w. Walks store.now (watchers_of self.now) (option_copied last.entry) (option_copied from.entry) w.passed (reached_of w.reached)) }
+    {
+        self.table.walk(alloc, store, from, last)
     }
 
     /// The verdict of the watcher of a key, with the snapshot that is to be kept where it is dirty.

@@ -18,4 +18,5 @@ returns g c =
       settled = why_settled m.machine run c.requires.log;
       report = why_report m.machine run;
       rests = c.run.ensures.rests;
+      worn = c.run.ensures.worn;
     }
