@@ -24,13 +24,13 @@ use ng_base::fault::Fault;
 use ng_base::name::ScopeId;
 use ng_base::txt::Txt;
 use ng_base::view::View;
-use ng_parse::{Binary, Expr, Pair, Unary};
-use ng_value::operators::truthy;
 use ng_members::fields::{record_of, record_view};
 use ng_members::lists::list_view;
 use ng_members::literals::{constant, number};
 use ng_members::members::{item, member, undefined};
 use ng_members::operators::{operator_value, sign_value};
+use ng_parse::{Binary, Expr, Pair, Unary};
+use ng_value::operators::truthy;
 use std::alloc::Global;
 
 /// The value of an expression.

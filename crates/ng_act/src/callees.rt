@@ -15,9 +15,9 @@ use ng_base::fault::Memory;
 use ng_base::locals::Locals;
 use ng_base::name::{FunId, ScopeId, Serial};
 use ng_base::view::Views;
-use ng_parse::Program;
 use ng_members::lists::argument;
 use ng_members::members::undefined;
+use ng_parse::Program;
 use std::alloc::Global;
 
 /// What a function does when it is called: nothing is declared under its name; it takes a listener or a declared watch

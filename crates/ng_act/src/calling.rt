@@ -25,10 +25,10 @@ use ng_base::locals::Locals;
 use ng_base::name::{FunId, ScopeId};
 use ng_base::view::{View, Views};
 use ng_language::snapshots::SnapKind;
-use ng_parse::Program;
-use ng_value::texts::to_text;
 use ng_members::lists::argument;
 use ng_members::members::undefined;
+use ng_parse::Program;
+use ng_value::texts::to_text;
 use std::alloc::Global;
 
 /// As many bodies are entered by one command at most.

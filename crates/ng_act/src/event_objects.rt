@@ -24,8 +24,8 @@ use ng_base::name::{Oid, ScopeId};
 use ng_base::txt::Txt;
 use ng_base::value::Value;
 use ng_base::view::{View, Views};
-use ng_store::{Store, StoreFault};
 use ng_members::lists::list_view;
+use ng_store::{Store, StoreFault};
 use std::alloc::Global;
 
 /// As many objects stand at most.

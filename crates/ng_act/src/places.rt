@@ -17,9 +17,9 @@ use ng_base::name::ScopeId;
 use ng_base::txt::Txt;
 use ng_base::value::Value;
 use ng_base::view::View;
+use ng_members::literals::named;
 use ng_store::Store;
 use ng_value::texts::to_text;
-use ng_members::literals::named;
 use std::alloc::Global;
 
 /// What an assignment writes to: a bare name, or a name of a value.

@@ -16,8 +16,8 @@ use crate::places::{Place, index_name, item_called, name_called};
 use ng_base::fault::Fault;
 use ng_base::name::ScopeId;
 use ng_base::view::View;
-use ng_parse::Expr;
 use ng_members::members::undefined;
+use ng_parse::Expr;
 use std::alloc::Global;
 
 /// What is called, and the value that it is called on.

@@ -22,11 +22,11 @@ use ng_base::txt::Txt;
 use ng_base::value::Value;
 use ng_base::view::{View, Views};
 use ng_language::snapshots::SnapKind;
+use ng_members::lists::argument;
+use ng_members::members::undefined;
 use ng_parse::Program;
 use ng_value::operators::truthy;
 use ng_value::texts::to_text;
-use ng_members::lists::argument;
-use ng_members::members::undefined;
 use ng_write::events::{EventCall, call_event};
 use std::alloc::Global;
 

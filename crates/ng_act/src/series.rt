@@ -18,11 +18,11 @@ use ng_base::fault::Fault;
 use ng_base::name::ScopeId;
 use ng_base::txt::Txt;
 use ng_base::view::{View, Views};
-use ng_parse::{Expr, Pair};
-use ng_value::texts::to_text;
 use ng_members::fields::put_field;
 use ng_members::literals::label_name;
 use ng_members::members::undefined;
+use ng_parse::{Expr, Pair};
+use ng_value::texts::to_text;
 use std::alloc::Global;
 
 /// The values of expressions, from left to right.

@@ -1,9 +1,9 @@
 -- The nodes of a drawing.
 use Rattle.std.proofs.Common.{◌≡◌, ◌+◌, ℕ, refl, ◌∙◌, arith}
-use Rattle.ng_markup.specs.Forest.{Node, Forest, no_nodes, node}
+use Rattle.ng_markup.specs.Forest.{Forest, no_nodes, node}
 use Rattle.ng_drawing.specs.Template.{Part, Contents, Parts, text_part, comment_part, element_part, anchor_part, children, bound, no_parts, part_then}
 use Rattle.ng_drawing.specs.Drawing.{Look, Groups, followed_by, draw_part, draw_contents, draw}
-use Rattle.ng_drawing.specs.Nodes.{node_count, forest_count, part_nodes, content_nodes, nodes, part_filled, content_filled, filled}
+use Rattle.ng_drawing.specs.Nodes.{forest_count, part_nodes, content_nodes, nodes, part_filled, content_filled, filled}
 
 -- one forest after another has the nodes of both
 count-followed : (f g : Forest) → forest_count (followed_by f g) ≡ forest_count f + forest_count g

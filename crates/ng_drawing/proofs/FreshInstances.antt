@@ -5,16 +5,17 @@ use Rattle.ng_base.specs.Views.{ViewTree}
 use Rattle.ng_behaviour.specs.Scopes.{Scope}
 use Rattle.ng_markup.specs.Forest.{Forest, no_nodes}
 use Rattle.ng_drawing.specs.Drawing.{Now, Rendered, ◌>>-◌, shown_as}
-use Rattle.ng_drawing.specs.Instance.{SiteState, Instance, Instances, Outlets, instance_with, no_instances, instance_then, no_outlets, outlet_then, kept_by, shown, shown_all, shown_in, instance_now, is_filled, rests_in, outlet_now, rendering, rendering_all, rendering_in, IsFilled, IsFresh, AllFresh, AreFilled}
+use Rattle.ng_drawing.specs.Cases.{cases_of}
+use Rattle.ng_drawing.specs.Instance.{SiteState, CasesAt, Instance, Instances, Outlets, instance_with, no_instances, instance_then, no_outlets, outlet_then, kept_by, shown, shown_all, shown_in, instance_now, is_filled, rests_in, outlet_now, rendering, rendering_all, rendering_in, IsFilled, IsFresh, AllFresh, AreFilled}
 use Rattle.ng_drawing.specs.Template.{Outlet}
 use Rattle.ng_drawing.proofs.Fresh.{on, fresh_parts}
 
 -- an outlet that has its bodies shows them
-module _ (now : Now) (states : List SiteState) (fresh : (n : ℕ) → now n ≡ shown_as (kept_by states n)) (o : Outlet) (is : Instances) (r : Rendered Forest) where
+module _ (now : Now) (states : List SiteState) (fresh : (n : ℕ) → now n ≡ shown_as (kept_by states n)) (cases : CasesAt) (o : Outlet) (is : Instances) (r : Rendered Forest) where
   abbrev called_for : Option ViewTree → Rendered Forest
-  called_for v = cond (is_filled o.filling v is) r (Ok None)
+  called_for v = cond (is_filled (cases o.site) o.filling v is) r (Ok None)
 
-  kept_outlet : (b : Bool) → rests_in states o.site ≡ b → IsFilled states o is → outlet_now now states o is r ≡ r
+  kept_outlet : (b : Bool) → rests_in states o.site ≡ b → IsFilled states cases o is → outlet_now now states cases o is r ≡ r
   kept_outlet true e h = ap (λ c. cond c r (now o.site >>- called_for)) e
   kept_outlet false e h = ap (λ c. cond c r (now o.site >>- called_for)) e ∙ on called_for (fresh o.site) (ap (λ c. cond c r (Ok None)) (h e))
 
@@ -23,17 +24,17 @@ module _ (objects : List Object) (scopes : List Scope) where
     pub fresh_instance : (i : Instance) → IsFresh objects scopes i → rendering objects scopes i ≡ shown_as (shown i)
     fresh_instance (instance_with f scope states outlets) h =
         fresh_parts (kept_by states) (instance_now objects scopes f.sites states) h.0 (λ o. slice_index_or (shown_in outlets) o no_nodes)
-        (λ o. slice_index_or (rendering_in objects scopes (instance_now objects scopes f.sites states) states f.outlets outlets) o (shown_as no_nodes))
-        (λ o. fresh_outlets (instance_now objects scopes f.sites states) states h.0 f.outlets outlets h.1 o) f.parts
+        (λ o. slice_index_or (rendering_in objects scopes (instance_now objects scopes f.sites states) states (cases_of f.outlets) f.outlets outlets) o (shown_as no_nodes))
+        (λ o. fresh_outlets (instance_now objects scopes f.sites states) states h.0 (cases_of f.outlets) f.outlets outlets h.1 o) f.parts
 
     fresh_all : (is : Instances) → AllFresh objects scopes is → rendering_all objects scopes is ≡ shown_as (shown_all is)
     fresh_all no_instances h = refl
     fresh_all (instance_then i is) h = on _ (fresh_instance i h.0) (on _ (fresh_all is h.1) refl)
 
-    fresh_outlets : (now : Now) (states : List SiteState) → ((n : ℕ) → now n ≡ shown_as (kept_by states n)) → (os : List Outlet) (outlets : Outlets) → AreFilled objects scopes states os outlets → (k : ℕ)
-        → slice_index_or (rendering_in objects scopes now states os outlets) k (shown_as no_nodes) ≡ shown_as (slice_index_or (shown_in outlets) k no_nodes)
-    fresh_outlets now states fresh os no_outlets h k = refl
-    fresh_outlets now states fresh [] (outlet_then is rest) h zero = fresh_all is h.0
-    fresh_outlets now states fresh [] (outlet_then is rest) h (suc k) = fresh_outlets now states fresh [] rest h.1 k
-    fresh_outlets now states fresh (o ∷ os) (outlet_then is rest) h zero = kept_outlet now states fresh o is (rendering_all objects scopes is) (rests_in states o.site) refl h.0 ∙ fresh_all is h.1
-    fresh_outlets now states fresh (o ∷ os) (outlet_then is rest) h (suc k) = fresh_outlets now states fresh os rest h.2 k
+    fresh_outlets : (now : Now) (states : List SiteState) → ((n : ℕ) → now n ≡ shown_as (kept_by states n)) → (cases : CasesAt) (os : List Outlet) (outlets : Outlets) → AreFilled objects scopes states cases os outlets → (k : ℕ)
+        → slice_index_or (rendering_in objects scopes now states cases os outlets) k (shown_as no_nodes) ≡ shown_as (slice_index_or (shown_in outlets) k no_nodes)
+    fresh_outlets now states fresh cases os no_outlets h k = refl
+    fresh_outlets now states fresh cases [] (outlet_then is rest) h zero = fresh_all is h.0
+    fresh_outlets now states fresh cases [] (outlet_then is rest) h (suc k) = fresh_outlets now states fresh cases [] rest h.1 k
+    fresh_outlets now states fresh cases (o ∷ os) (outlet_then is rest) h zero = kept_outlet now states fresh cases o is (rendering_all objects scopes is) (rests_in states o.site) refl h.0 ∙ fresh_all is h.1
+    fresh_outlets now states fresh cases (o ∷ os) (outlet_then is rest) h (suc k) = fresh_outlets now states fresh cases os rest h.2 k

@@ -15,8 +15,8 @@ use Rattle.ng_language.specs.declared.snapshots.SnapKind.TheVariants as snaps
 use Rattle.ng_markup.specs.Forest.{Forest, no_nodes}
 use Rattle.ng_value.specs.Taken.{taken}
 use Rattle.ng_view.specs.Evaluation.{evaluated_program}
-use Rattle.ng_drawing.specs.Template.{Site, Filling, body_if, Outlet, Fragment}
-use Rattle.ng_drawing.specs.Looks.{is_kept_true}
+use Rattle.ng_drawing.specs.Cases.{Case, cases_of, calls_for}
+use Rattle.ng_drawing.specs.Template.{Site, Filling, Outlet, Fragment}
 use Rattle.ng_drawing.specs.Drawing.{Look, followed_by, draw, Now, Rendered, ◌>>-◌, shown_as, render}
 use Rattle.ng_drawing.specs.declared.kind.SiteKind.{SiteKind}
 use Rattle.ng_drawing.specs.declared.kind.SiteKind.TheVariants as kinds
@@ -108,55 +108,59 @@ site_now objects scopes (Some x) (Some s) = if s.rests then shown_as s.kept else
 abbrev pub instance_now : List Object → List Scope → List Site → List SiteState → Now
 instance_now objects scopes sites states n = site_now objects scopes (slice_get sites n) (slice_get states n)
 
--- whether the bodies that stand are those that a value calls for
-abbrev pub is_filled : Filling → Option ViewTree → Instances → Bool
-is_filled (body_if b) v is = if is_kept_true v then has_any is else not (has_any is)
+-- the cases of the switch of each site
+abbrev pub CasesAt : Type 0
+CasesAt = ℕ → List Case
+
+-- whether the bodies that stand are those that a value calls for, beside the cases of the same switch
+abbrev pub is_filled : List Case → Filling → Option ViewTree → Instances → Bool
+is_filled cases f v is = if calls_for cases f v then has_any is else not (has_any is)
 
 abbrev pub rests_in : List SiteState → ℕ → Bool
 rests_in states n = option_map_or (λ (s : SiteState). s.rests) (slice_get states n) true
 
 -- What fills an outlet now: the bodies that stand, which must be those that the value of its site calls for now. A site that rests calls
 -- for nothing.
-abbrev pub outlet_now : Now → List SiteState → Outlet → Instances → Rendered Forest → Rendered Forest
-outlet_now now states o is bodies = if rests_in states o.site then bodies else now o.site >>- λ v. if is_filled o.filling v is then bodies else Ok None
+abbrev pub outlet_now : Now → List SiteState → CasesAt → Outlet → Instances → Rendered Forest → Rendered Forest
+outlet_now now states cases o is bodies = if rests_in states o.site then bodies else now o.site >>- λ v. if is_filled (cases o.site) o.filling v is then bodies else Ok None
 
 -- an outlet that the fragment doesn't have is filled anyhow
-abbrev pub outlet_at : Now → List SiteState → Option Outlet → Instances → Rendered Forest → Rendered Forest
-outlet_at now states None is bodies = bodies
-outlet_at now states (Some o) is bodies = outlet_now now states o is bodies
+abbrev pub outlet_at : Now → List SiteState → CasesAt → Option Outlet → Instances → Rendered Forest → Rendered Forest
+outlet_at now states cases None is bodies = bodies
+outlet_at now states cases (Some o) is bodies = outlet_now now states cases o is bodies
 
 -- The rendering of an instance over data and scopes: no watcher and no node is asked.
 abbrev mutual
   pub rendering : List Object → List Scope → Instance → Rendered Forest
   rendering objects scopes (instance_with f scope states outlets) =
       render (instance_now objects scopes f.sites states)
-      (λ o. slice_index_or (rendering_in objects scopes (instance_now objects scopes f.sites states) states f.outlets outlets) o (shown_as no_nodes)) f.parts
+      (λ o. slice_index_or (rendering_in objects scopes (instance_now objects scopes f.sites states) states (cases_of f.outlets) f.outlets outlets) o (shown_as no_nodes)) f.parts
 
   pub rendering_all : List Object → List Scope → Instances → Rendered Forest
   rendering_all objects scopes no_instances = shown_as no_nodes
   rendering_all objects scopes (instance_then i is) = rendering objects scopes i >>- λ f. rendering_all objects scopes is >>- λ g. shown_as (followed_by f g)
 
-  pub rendering_in : List Object → List Scope → Now → List SiteState → List Outlet → Outlets → List (Rendered Forest)
-  rendering_in objects scopes now states os no_outlets = []
-  rendering_in objects scopes now states [] (outlet_then is rest) = rendering_all objects scopes is ∷ rendering_in objects scopes now states [] rest
-  rendering_in objects scopes now states (o ∷ os) (outlet_then is rest) =
-      outlet_now now states o is (rendering_all objects scopes is) ∷ rendering_in objects scopes now states os rest
+  pub rendering_in : List Object → List Scope → Now → List SiteState → CasesAt → List Outlet → Outlets → List (Rendered Forest)
+  rendering_in objects scopes now states cases os no_outlets = []
+  rendering_in objects scopes now states cases [] (outlet_then is rest) = rendering_all objects scopes is ∷ rendering_in objects scopes now states cases [] rest
+  rendering_in objects scopes now states cases (o ∷ os) (outlet_then is rest) =
+      outlet_now now states cases o is (rendering_all objects scopes is) ∷ rendering_in objects scopes now states cases os rest
 
 -- an outlet has the bodies that its site has kept to call for
-abbrev pub IsFilled : List SiteState → Outlet → Instances → Type 0
-IsFilled states o is = rests_in states o.site ≡ false → is_filled o.filling (kept_by states o.site) is ≡ true
+abbrev pub IsFilled : List SiteState → CasesAt → Outlet → Instances → Type 0
+IsFilled states cases o is = rests_in states o.site ≡ false → is_filled (cases o.site) o.filling (kept_by states o.site) is ≡ true
 
 -- each site of an instance and of the bodies in it shows now what it has kept, and each outlet has the bodies that this calls for
 abbrev mutual
   pub IsFresh : List Object → List Scope → Instance → Type 0
   IsFresh objects scopes (instance_with f scope states outlets) =
-      ((n : ℕ) → instance_now objects scopes f.sites states n ≡ shown_as (kept_by states n)) × AreFilled objects scopes states f.outlets outlets
+      ((n : ℕ) → instance_now objects scopes f.sites states n ≡ shown_as (kept_by states n)) × AreFilled objects scopes states (cases_of f.outlets) f.outlets outlets
 
   pub AllFresh : List Object → List Scope → Instances → Type 0
   AllFresh objects scopes no_instances = Unit {0}
   AllFresh objects scopes (instance_then i is) = IsFresh objects scopes i × AllFresh objects scopes is
 
-  pub AreFilled : List Object → List Scope → List SiteState → List Outlet → Outlets → Type 0
-  AreFilled objects scopes states os no_outlets = Unit {0}
-  AreFilled objects scopes states [] (outlet_then is rest) = AllFresh objects scopes is × AreFilled objects scopes states [] rest
-  AreFilled objects scopes states (o ∷ os) (outlet_then is rest) = IsFilled states o is × AllFresh objects scopes is × AreFilled objects scopes states os rest
+  pub AreFilled : List Object → List Scope → List SiteState → CasesAt → List Outlet → Outlets → Type 0
+  AreFilled objects scopes states cases os no_outlets = Unit {0}
+  AreFilled objects scopes states cases [] (outlet_then is rest) = AllFresh objects scopes is × AreFilled objects scopes states cases [] rest
+  AreFilled objects scopes states cases (o ∷ os) (outlet_then is rest) = IsFilled states cases o is × AllFresh objects scopes is × AreFilled objects scopes states cases os rest

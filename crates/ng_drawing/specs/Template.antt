@@ -74,9 +74,11 @@ pub record Site : Type 0 where
   pub one_time : Bool
   pub program : Trees
 
--- how an outlet is filled: the body of this number stands while the value of its site is true (API: ngIf)
+-- How an outlet is filled: the body of this number stands while the value of its site is true (API: ngIf); or it is a case of a switch, with
+-- its text, or a default (API: ngSwitch).
 pub data Filling : Type 0 where
   body_if : (body : ℕ) → Filling
+  on_case : (text : Option (List ℕ)) → (body : ℕ) → Filling
 
 -- an outlet is filled by the value of a site
 pub record Outlet : Type 0 where

@@ -4,7 +4,6 @@ ghost use Rattle.ng_base.specs.Views.{views_from};
 ghost use Rattle.ng_base.specs.ViewOf.{view_of, views_of};
 ghost use Rattle.ng_drawing.specs.Drawing.{class_words};
 ghost use Rattle.ng_drawing.specs.Looks.{word_of, words_of, kept_words};
-ghost use Rattle.ng_language.specs.Texts.{words_in};
 ghost use Rattle.ng_markup.specs.Attributes.{with_once, once_after, spaced, class_value};
 ghost use Rattle.ng_value.specs.Snaps.{snap_of};
 
@@ -29,7 +28,7 @@ fn push_word(words: &mut Words, part: &View) -> Result<(), AllocError>
 
 /// The parts of a list.
 #[tactic(auto, using(ng_value::proofs::ViewParts::view_parts))]
-fn parts_in(list: &Views) -> &[View]
+pub(crate) fn parts_in(list: &Views) -> &[View]
     ensures { views_from (map view_of result.now) ≡ views_of list.now }
 {
     list.as_slice()

@@ -1,9 +1,9 @@
 -- The watchers stand in key order, whatever programs and a linking leave for them.
-use Rattle.std.proofs.Common.{◌-◌, Bool, true, false, List, [], ◌∷◌, Some, cond}
+use Rattle.std.proofs.Common.{◌-◌, Bool, true, false, List, [], ◌∷◌, cond}
 use Rattle.std.specs.BTreeMap.{insert_entry}
 use Rattle.std.specs.List.Sorted.{IsStrictlySortedBy}
 use Rattle.std.specs.Map.{keys_of, remove_entry}
-use Rattle.std.specs.Prelude.{ℕ, not, None, Result, Ok, Err}
+use Rattle.std.specs.Prelude.{ℕ, ◌&&◌, not, None, Result, Ok, Err}
 use Rattle.ng_act.specs.State.{Run, Change, adds, removes, leaves, handed}
 use Rattle.ng_base.specs.declared.fault.Fault.{Fault}
 use Rattle.ng_base.specs.declared.path.Key.{Key}
@@ -12,13 +12,13 @@ use Rattle.ng_drawing.specs.Nodes.{node_limit}
 use Rattle.ng_base.specs.Views.{ViewTree}
 use Rattle.ng_act.specs.Actions.{buried}
 use Rattle.ng_act.specs.State as act
-use Rattle.ng_drawing.specs.Looks.{is_kept_true}
-use Rattle.ng_drawing.specs.Template.{Filling, body_if, Fragment, Site}
+use Rattle.ng_drawing.specs.Cases.{Case}
+use Rattle.ng_drawing.specs.Template.{Fragment, Site}
 use Rattle.ng_template.specs.Kept.{fragments_in}
 use Rattle.ng_link.proofs.Sorted.{insert_sorted, filter_sorted, remove_sorted}
 use Rattle.ng_fire.specs.Changes.{applied, applied_all, changed, without_changes}
 use Rattle.ng_fire.specs.Links.{Linking, begins_linking, step_linked, steps_linked, link_by, link_at}
-use Rattle.ng_fire.specs.Blocks.{Firing, begins_firing, gone, all_gone, child_run, linked_then, body_made, filled, has_bodies, outlet_fired, outlets_fired, site_fired}
+use Rattle.ng_fire.specs.Blocks.{Firing, begins_firing, gone, all_gone, child_run, linked_then, body_made, filled, goes, outlet_emptied, outlets_emptied, cases_due, body_of, comes, outlet_filled, outlets_filled, outlets_fired, site_fired}
 use Rattle.ng_fire.specs.Runs.{program_run, followed, destroy_run}
 use Rattle.ng_link.specs.Calls.{Place, in_outlet, with_core, declared_at, undeclared_at, left_at, placed_on, unlinked_at}
 use Rattle.ng_link.specs.Due.{Due, all_due}
@@ -138,15 +138,20 @@ firing_either : (b : Bool) (g k : Firing) → IsOrdered g.state → IsOrdered k.
 firing_either true g k h j = h
 firing_either false g k h j = j
 
-outlet_ordered : (holder : List ℕ) (scope : ℕ) (v : ViewTree) (d : Due) (x : Filling) (g : Firing) → IsOrdered g.state → IsOrdered (outlet_fired holder scope v d x g).state
-outlet_ordered holder scope v d (body_if body) g h =
-    let full : Firing = filled holder scope d.outlet (d.template, body) g in
-    firing_either (is_kept_true (Some v)) (cond (has_bodies d.bodies) g full) (all_gone holder d.bodies g)
-    (firing_either (has_bodies d.bodies) g full h (filled_ordered holder scope d.outlet (d.template, body) g h)) (all_gone_ordered holder d.bodies g h)
+emptied_ordered : (holder : List ℕ) (v : ViewTree) (ds : List Due) (g : Firing) → IsOrdered g.state → IsOrdered (outlets_emptied holder v ds g).state
+emptied_ordered holder v [] g h = h
+emptied_ordered holder v (d ∷ ds) g h =
+    emptied_ordered holder v ds (outlet_emptied holder v d g) (firing_either (goes d.filling v) (all_gone holder d.bodies g) g (all_gone_ordered holder d.bodies g h) h)
+
+filled_all_ordered : (holder : List ℕ) (scope : ℕ) (cases : List Case) (v : ViewTree) (ds : List Due) (g : Firing) → IsOrdered g.state → IsOrdered (outlets_filled holder scope cases v ds g).state
+filled_all_ordered holder scope cases v [] g h = h
+filled_all_ordered holder scope cases v (d ∷ ds) g h =
+    let full : Firing = filled holder scope d.outlet (d.template, body_of d.filling) g in
+    filled_all_ordered holder scope cases v ds (outlet_filled holder scope cases v d g)
+    (firing_either (comes cases v d && not g.faulted) full g (filled_ordered holder scope d.outlet (d.template, body_of d.filling) g h) h)
 
 outlets_ordered : (holder : List ℕ) (scope : ℕ) (v : ViewTree) (ds : List Due) (g : Firing) → IsOrdered g.state → IsOrdered (outlets_fired holder scope v ds g).state
-outlets_ordered holder scope v [] g h = h
-outlets_ordered holder scope v (d ∷ ds) g h = outlets_ordered holder scope v ds (outlet_fired holder scope v d d.filling g) (outlet_ordered holder scope v d d.filling g h)
+outlets_ordered holder scope v ds g h = filled_all_ordered holder scope (cases_due ds) v ds (outlets_emptied holder v ds g) (emptied_ordered holder v ds g h)
 
 pub site_ordered : (k : Key) (v : ViewTree) (s : State) → IsOrdered s → IsOrdered (site_fired k v s).state
 site_ordered k v s h = outlets_ordered k.path (scope_in (linked_at k.path s.instances)) v (all_due k.serial.0 (linked_at k.path s.instances)) (begins_firing s) h

@@ -5,10 +5,11 @@ use Rattle.std.proofs.lemmas.Bool.Decides.{nat_tests}
 use Rattle.std.specs.Prelude.{◌&&◌, nat_le, nat_lt, not, IsSome, option_and_then, option_map, slice_get}
 use Rattle.ng_base.specs.declared.path.Key.{Key}
 use Rattle.ng_behaviour.specs.Scopes.{Scope, path_at, object_at}
-use Rattle.ng_drawing.specs.Template.{Filling, body_if, Outlet, Fragment, Site, fragment_at}
+use Rattle.ng_drawing.specs.Template.{Filling, body_if, on_case, Outlet, Fragment, Site, fragment_at}
 use Rattle.ng_fire.proofs.Rows.{all_filtered, rows_filtered, rows_watched, rows_wider}
 use Rattle.ng_fire.proofs.Wholes.{Stays}
 use Rattle.ng_fire.specs.Whole.{HasBody, HasScope, HaveBodies, HaveScopes, RowsStand}
+use Rattle.ng_link.proofs.Numbers.{whole_numbers}
 use Rattle.ng_link.proofs.Lookups.{changed_all, changed_here, changed_other, inserted_all, inserted_other, kept_all, kept_found}
 use Rattle.ng_link.proofs.Paths.{path_is}
 use Rattle.ng_link.specs.Calls.{Place, at_top, in_outlet, taken_in, outlets_on, linked_on, placed_on, unlinked_at}
@@ -19,7 +20,7 @@ use Rattle.ng_link.specs.Shape.{anchors, key_on}
 use Rattle.ng_link.specs.State.{State, Listening, templates_of}
 use Rattle.ng_link.specs.declared.works.Works.{Works}
 use Rattle.ng_template.specs.Kept.{Named, named_of, fragment_in}
-use Rattle.ng_template.specs.Numbering.{after_outlets, after_parts, is_body, is_outlet, is_number, is_whole, is_regular}
+use Rattle.ng_template.specs.Numbering.{is_body, is_outlet, is_whole, is_regular}
 use Rattle.ng_template.specs.declared.templates.Kept.{Kept}
 use Rattle.ng_watch.specs.Keys.{begins}
 use Rattle.ng_watch.specs.Table.{Table, with_watch}
@@ -127,7 +128,7 @@ fragment_kept all t n f at = by_kept (slice_get all t) refl at
     by_kept (Some k) e at = (k, e, at)
 
 -- a number up to that of the bodies is that of a fragment
-body_there : (own : Fragment) (bodies : List Fragment) (b : ℕ) → is_body (length bodies) (body_if b) ≡ true → IsSome (slice_get (own ∷ bodies) b)
+body_there : (own : Fragment) (bodies : List Fragment) (b : ℕ) → (nat_lt 0 b && nat_le b (length bodies)) ≡ true → IsSome (slice_get (own ∷ bodies) b)
 body_there own bodies b h =
     let two = both (nat_lt 0 b) (nat_le b (length bodies)) h in
     there (own ∷ bodies) b (le_lt b (length bodies) two.1)
@@ -142,9 +143,10 @@ body_there own bodies b h =
 
 filling_there : (all : List Named) (t : ℕ) (k : Named) (x : Filling) → slice_get all t ≡ Some k → is_body (length k.1.bodies) x ≡ true → HasBody all t x
 filling_there all t k (body_if b) at h = subst (λ (o : Option Named). IsSome (option_and_then (λ (y : Named). fragment_at y.1 b) o)) (sym at) (body_there k.1.own k.1.bodies b h)
+filling_there all t k (on_case c b) at h = subst (λ (o : Option Named). IsSome (option_and_then (λ (y : Named). fragment_at y.1 b) o)) (sym at) (body_there k.1.own k.1.bodies b h)
 
 pub fragment_bodies : (all : List Named) (t n : ℕ) (f : Fragment) → AreRegular all → fragment_in all t n ≡ Some f → AllByRecursion (λ (o : Outlet). HasBody all t o.filling) f.outlets
-fragment_bodies all t n f regular at = each f.outlets (both (is_number (length f.outlets) (after_outlets 0 f.parts)) (list_all (is_outlet (length f.sites) bodies) f.outlets) (both (is_number (length f.sites) (after_parts 0 f.parts)) (is_number (length f.outlets) (after_outlets 0 f.parts) && list_all (is_outlet (length f.sites) bodies) f.outlets) whole).1).1
+fragment_bodies all t n f regular at = each f.outlets (whole_numbers bodies f whole)
   where
     kept : (k : Named) × (slice_get all t ≡ Some k) × (fragment_at k.1 n ≡ Some f)
     kept = fragment_kept all t n f at

@@ -59,7 +59,7 @@ due_one all holder is d ds h = record { there = (h.there.0, tt); bodies = λ q. 
 pub due_held : (all : List Named) (holder : List ℕ) (is : Instances) (d : Due) (ds : List Due) → AreDue all holder is (d ∷ ds) → AreHeldBy holder d.bodies is
 due_held all holder is d ds h = λ q. (let many = h.bodies q in omega (arith, many))
 
-there_still : (all : List Named) (holder : List ℕ) (old new : Instances) (ds : List Due) → outlet_count holder new ≡ outlet_count holder old → AllByRecursion (IsThere all holder old) ds → AllByRecursion (IsThere all holder new) ds
+pub there_still : (all : List Named) (holder : List ℕ) (old new : Instances) (ds : List Due) → outlet_count holder new ≡ outlet_count holder old → AllByRecursion (IsThere all holder old) ds → AllByRecursion (IsThere all holder new) ds
 there_still all holder old new [] e h = tt
 there_still all holder old new (d ∷ ds) e h = (record { outlet = (let lt = h.0.outlet in omega (arith, lt, e)); body = h.0.body }, there_still all holder old new ds e h.1)
 

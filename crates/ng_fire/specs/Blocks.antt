@@ -1,6 +1,7 @@
--- What the fire of a block's site does (API: ngIf). Where a body is called for that doesn't stand, a child scope is made and the body is
--- linked on it; where one stands that isn't called for, its scope is destroyed, and then the body is gone.
-use Rattle.std.specs.Prelude.{ℕ, ◌||◌, Bool, true, false, List, [], ◌∷◌, length, nat_lt, Option, Some, Result, Ok, Err, if◌then◌else◌}
+-- What the fire of a site does that fills outlets (API: ngIf, ngSwitch). First the scopes of bodies that are not to stay are destroyed, each
+-- before its body is gone. Then, where a body is called for that doesn't stand, a child scope is made and the body is linked on it, up to the
+-- first fault.
+use Rattle.std.specs.Prelude.{ℕ, ◌||◌, ◌&&◌, not, ◌++◌, Bool, true, false, List, [], ◌∷◌, length, nat_lt, Option, Some, Result, Ok, Err, if◌then◌else◌}
 use Rattle.ng_act.specs.Actions.{buried}
 use Rattle.ng_act.specs.State as act
 use Rattle.ng_act.specs.State.{Run, with_fault, with_objects, with_scopes}
@@ -10,8 +11,9 @@ use Rattle.ng_base.specs.declared.fault.Fault.TheVariants.{StoreFull}
 use Rattle.ng_base.specs.declared.path.Key.{Key}
 use Rattle.ng_behaviour.specs.ScopeObjects.{with_scope_object}
 use Rattle.ng_behaviour.specs.Scopes.{object_at, with_child}
+use Rattle.ng_drawing.specs.Cases.{Case, case_in, calls_for}
 use Rattle.ng_drawing.specs.Looks.{is_kept_true}
-use Rattle.ng_drawing.specs.Template.{Fragment, Filling, body_if}
+use Rattle.ng_drawing.specs.Template.{Fragment, Filling, body_if, on_case}
 use Rattle.ng_template.specs.Kept.{fragments_in}
 use Rattle.ng_link.specs.Calls.{with_core, in_outlet, unlinked_at}
 use Rattle.ng_link.specs.Events.{scope_in}
@@ -93,17 +95,49 @@ abbrev pub has_bodies : List Body → Bool
 has_bodies [] = false
 has_bodies (b ∷ bs) = true
 
--- an outlet of an instance on a scope gets what a value calls for
-abbrev pub outlet_fired : List ℕ → ℕ → ViewTree → Due → Filling → Firing → Firing
-outlet_fired holder scope v d (body_if body) g =
-    if is_kept_true (Some v) then (if has_bodies d.bodies then g else filled holder scope d.outlet (d.template, body) g)
-    else all_gone holder d.bodies g
+-- the bodies that stand go at a value: that of `ng-if` where it is not called for, those of a switch anyhow
+abbrev pub goes : Filling → ViewTree → Bool
+goes (body_if body) v = not (is_kept_true (Some v))
+goes (on_case c body) v = true
 
+abbrev pub outlet_emptied : List ℕ → ViewTree → Due → Firing → Firing
+outlet_emptied holder v d g = if goes d.filling v then all_gone holder d.bodies g else g
+
+abbrev pub outlets_emptied : List ℕ → ViewTree → List Due → Firing → Firing
+outlets_emptied holder v [] g = g
+outlets_emptied holder v (d ∷ ds) g = outlets_emptied holder v ds (outlet_emptied holder v d g)
+
+-- whether a body stays in an outlet at a value
+abbrev pub stays : ViewTree → Due → Bool
+stays v d = has_bodies d.bodies && not (goes d.filling v)
+
+-- the cases of a switch whose outlets are these
+abbrev pub cases_due : List Due → List Case
+cases_due [] = []
+cases_due (d ∷ ds) = case_in d.filling ++ cases_due ds
+
+-- the number of the body of an outlet
+abbrev pub body_of : Filling → ℕ
+body_of (body_if body) = body
+body_of (on_case c body) = body
+
+-- whether a body is to be made in an outlet, beside these cases
+abbrev pub comes : List Case → ViewTree → Due → Bool
+comes cases v d = calls_for cases d.filling (Some v) && not (stays v d)
+
+-- it is made, unless one before it faulted
+abbrev pub outlet_filled : List ℕ → ℕ → List Case → ViewTree → Due → Firing → Firing
+outlet_filled holder scope cases v d g = if comes cases v d && not g.faulted then filled holder scope d.outlet (d.template, body_of d.filling) g else g
+
+abbrev pub outlets_filled : List ℕ → ℕ → List Case → ViewTree → List Due → Firing → Firing
+outlets_filled holder scope cases v [] g = g
+outlets_filled holder scope cases v (d ∷ ds) g = outlets_filled holder scope cases v ds (outlet_filled holder scope cases v d g)
+
+-- outlets of an instance on a scope get what a value of their site calls for
 abbrev pub outlets_fired : List ℕ → ℕ → ViewTree → List Due → Firing → Firing
-outlets_fired holder scope v [] g = g
-outlets_fired holder scope v (d ∷ ds) g = outlets_fired holder scope v ds (outlet_fired holder scope v d d.filling g)
+outlets_fired holder scope v ds g = outlets_filled holder scope (cases_due ds) v ds (outlets_emptied holder v ds g)
 
--- the site of a key has this value: each outlet that it fills gets what that calls for, in order; another site fills none
+-- the site of a key has this value; a site that fills no outlet does nothing more
 abbrev pub site_fired : Key → ViewTree → State → Firing
 site_fired k v s = by (linked_at k.path s.instances)
   where

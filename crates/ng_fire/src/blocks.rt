@@ -1,16 +1,17 @@
-//! The fire of a block's site (API: ngIf): a body is made, or is gone.
-ghost use Rattle.std.specs.Prelude.{ℕ, List, [], ◌∷◌, ◌≡◌, ◌<◌, ◌≤◌, length, map, None, Some, IsSome, IfSome, IfOk, OnOk};
+//! The fire of a site that fills outlets (API: ngIf, ngSwitch): bodies go, and bodies are made.
+ghost use Rattle.std.specs.Prelude.{[], ◌∷◌, ◌≡◌, ◌&&◌, ◌<◌, ◌≤◌, length, map, None, Some, IsSome, IfSome, IfOk, OnOk};
 ghost use Rattle.ng_act.specs.Frames as cores;
 ghost use Rattle.ng_act.specs.Frames.{IsSound};
-ghost use Rattle.ng_base.specs.Views.{ViewTree};
 ghost use Rattle.ng_behaviour.specs.Scopes.{path_at};
-ghost use Rattle.ng_drawing.specs.Looks.{is_kept_true};
+ghost use Rattle.std.specs.List.{AllByRecursion, list_any};
+ghost use Rattle.ng_blocks.specs.Switching.{matches};
+ghost use Rattle.ng_drawing.specs.Cases.{case_in, is_chosen as is_chosen_of, calls_for as calls_for_of};
 ghost use Rattle.ng_drawing.specs.Template.{Fragment};
-ghost use Rattle.ng_fire.specs.Blocks.{child_run, ended, gone, all_gone, linked_then, filled, outlet_fired, site_fired, discarded, faulted_with};
+ghost use Rattle.ng_fire.specs.Blocks.{begins_firing, child_run, ended, gone, all_gone, linked_then, filled, goes as goes_at, outlet_emptied, outlets_emptied, cases_due, body_of as body_of_filling, comes as comes_at, outlet_filled, outlets_filled, outlets_fired, discarded, faulted_with};
 ghost use Rattle.ng_fire.specs.FiringOf.{firing, child_made, bodies_on};
 ghost use Rattle.ng_fire.specs.Links.{link_at as linked_at_place};
 ghost use Rattle.ng_fire.specs.Runs.{destroyed};
-ghost use Rattle.ng_fire.specs.Serving.{outlet_count, AreHeldBy, AreDue, Serves};
+ghost use Rattle.ng_fire.specs.Serving.{outlet_count, IsThere, AreHeldBy, AreDue, Serves};
 ghost use Rattle.ng_fire.specs.Whole.{IsWhole};
 ghost use Rattle.ng_link.specs.Calls.{with_core};
 ghost use Rattle.ng_link.specs.Due.{due_of};
@@ -22,6 +23,7 @@ ghost use Rattle.ng_link.specs.Standing.{IsIn, IsHeld};
 ghost use Rattle.ng_link.specs.State.{state_of, templates_of, live_nodes};
 ghost use Rattle.ng_template.specs.FragmentOf.{filling_of};
 ghost use Rattle.ng_template.specs.Kept.{fragment_in};
+ghost use Rattle.ng_value.specs.Snaps.{snap_of};
 
 use crate::changing::apply_changes;
 use crate::following::Followed;
@@ -31,13 +33,17 @@ use ng_act::core_state::Core;
 use ng_act::running::destroy;
 use ng_base::fault::{Fault, Memory};
 use ng_base::name::{ScopeId, TplId};
-use ng_base::path::{Key, Path};
+use ng_base::path::Path;
+use ng_base::txt::Txt;
+use ng_drawing::cases::{has_text, kept_as_text};
 use ng_link::filling::Due;
 use ng_link::linking::Place;
 use ng_link::works::Works;
 use ng_store::store::StoreFault;
 use ng_template::Filling;
-use std::alloc::Global;
+use ng_value::operators::truthy;
+use ng_value::snapshot::Snap;
+use std::alloc::{AllocError, Global};
 
 /// A scope is destroyed while no body and no event is open (API: `$destroy`).
 #[tactic(auto, using(crate::proofs::Runs::destroyed_is))]
@@ -213,44 +219,188 @@ fn make_body(
     }
 }
 
-/// An outlet gets what the value of its site calls for.
-fn fire_outlet(
+/// Whether the bodies that stand go at a value.
+fn goes(filling: &Filling, value: &Snap) -> bool
+    ensures { result ≡ goes_at (filling_of filling.now) (snap_of value.now) }
+{
+    match filling {
+        Filling::BodyIf(_) => !truthy(value.view()),
+        Filling::OnCase(_, _) => true,
+    }
+}
+
+/// The bodies of an outlet go, unless they stay at the value of its site.
+fn empty_outlet(
     works: &mut Works,
     alloc: Global,
     holder: &Path,
+    value: &Snap,
     due: &Due,
-    truth: bool,
     told: &mut Followed,
 ) -> Result<(), Memory>
     requires whole { IsWhole works.old }
-    requires due { AreDue (templates_of works.old) holder.now (state_of works.old).instances (due_of due.now ∷ []) }
-    ensures fired { OnOk result ((v : ViewTree) → is_kept_true (Some v) ≡ truth → firing works.new told.new ≡ outlet_fired holder.now (scope_in (linked_at holder.now (state_of works.old).instances)) v (due_of due.now) (filling_of due.now.filling) (firing works.old told.old)) }
+    requires held { AreHeldBy holder.now (bodies_on due.now.bodies.items) (state_of works.old).instances }
+    ensures fired { OnOk result (firing works.new told.new ≡ outlet_emptied holder.now (snap_of value.now) (due_of due.now) (firing works.old told.old)) }
     ensures serves { OnOk result (Serves holder.now (bodies_on due.now.bodies.items) (state_of works.old).instances (state_of works.new).instances) }
     ensures whole { OnOk result (IsWhole works.new) }
     ensures templates { templates_of works.new ≡ templates_of works.old }
 {
-    match due.filling {
-        Filling::BodyIf(body) => {
-            if !truth {
-                return take_bodies(works, alloc, holder, due.bodies.as_slice(), told);
-            }
-            if !due.bodies.is_empty() {
-                return Ok(());
-            }
-            make_body(works, alloc, holder, due.outlet, due.template, body, told)
+    if !goes(&due.filling, value) {
+        return Ok(());
+    }
+    take_bodies(works, alloc, holder, due.bodies.as_slice(), told)
+}
+
+/// The bodies of outlets go, in order, unless they stay at the value of their site.
+fn empty_outlets(
+    works: &mut Works,
+    alloc: Global,
+    holder: &Path,
+    value: &Snap,
+    all: &[Due],
+    told: &mut Followed,
+) -> Result<(), Memory>
+    requires whole { IsWhole works.old }
+    requires due { AreDue (templates_of works.old) holder.now (state_of works.old).instances (map due_of all.now) }
+    ensures fired { OnOk result (firing works.new told.new ≡ outlets_emptied holder.now (snap_of value.now) (map due_of all.now) (firing works.old told.old)) }
+    ensures there { OnOk result (AllByRecursion (IsThere (templates_of works.new) holder.now (state_of works.new).instances) (map due_of all.now)) }
+    ensures scope { OnOk result (scope_in (linked_at holder.now (state_of works.new).instances) ≡ scope_in (linked_at holder.now (state_of works.old).instances)) }
+    ensures whole { OnOk result (IsWhole works.new) }
+    ensures templates { templates_of works.new ≡ templates_of works.old }
+{
+    for due in all {
+        empty_outlet(works, alloc, holder, value, due, told)?;
+    }
+    Ok(())
+}
+
+/// Whether an outlet is that of a case that has a text.
+fn case_has(due: &Due, value: &Txt) -> bool
+    ensures { result ≡ list_any (matches value.now) (case_in (filling_of due.now.filling)) }
+{
+    match &due.filling {
+        Filling::BodyIf(_) => false,
+        Filling::OnCase(case, _) => has_text(value, case),
+    }
+}
+
+/// Whether a case among outlets has a text.
+#[tactic(auto, using(ng_drawing::proofs::Choices::any_case))]
+fn any_has(all: &[Due], value: &Txt) -> bool
+    ensures { result ≡ list_any (matches value.now) (cases_due (map due_of all.now)) }
+{
+    for due in all {
+        if case_has(due, value) {
+            return true;
+        }
+    }
+    false
+}
+
+/// Whether a case is shown beside those of the same switch, where the value has this text.
+fn is_chosen(all: &[Due], value: &Txt, case: &Option<Txt>) -> bool
+    ensures { result ≡ is_chosen_of (cases_due (map due_of all.now)) value.now case.now }
+{
+    match case {
+        Some(_) => has_text(value, case),
+        None => !any_has(all, value),
+    }
+}
+
+/// Whether a value calls for the body of an outlet beside the others of its site.
+fn calls_for(
+    alloc: Global,
+    all: &[Due],
+    filling: &Filling,
+    value: &Snap,
+) -> Result<bool, AllocError>
+    ensures { IfOk result (λ b. b ≡ calls_for_of (cases_due (map due_of all.now)) (filling_of filling.now) (Some (snap_of value.now))) }
+{
+    match filling {
+        Filling::BodyIf(_) => Ok(truthy(value.view())),
+        Filling::OnCase(case, _) => {
+            let text = kept_as_text(alloc, value.view())?;
+            Ok(is_chosen(all, &text, case))
         }
     }
 }
 
-/// The value of a site is true or not: each outlet that it fills gets what that calls for, in order.
-pub(crate) fn fire_site(
+/// Whether a body is to be made in an outlet.
+fn comes(alloc: Global, all: &[Due], value: &Snap, due: &Due) -> Result<bool, AllocError>
+    ensures { IfOk result (λ b. b ≡ comes_at (cases_due (map due_of all.now)) (snap_of value.now) (due_of due.now)) }
+{
+    if !due.bodies.is_empty() && !goes(&due.filling, value) {
+        return Ok(false);
+    }
+    calls_for(alloc, all, &due.filling, value)
+}
+
+/// The number of the body of an outlet.
+fn body_of(filling: &Filling) -> u32
+    ensures { result ≡ body_of_filling (filling_of filling.now) }
+{
+    match filling {
+        Filling::BodyIf(body) => *body,
+        Filling::OnCase(_, body) => *body,
+    }
+}
+
+/// The body of an outlet is made where it is to be, unless one before it faulted.
+fn fill_outlet(
     works: &mut Works,
     alloc: Global,
-    key: &Key,
-    truth: bool,
+    holder: &Path,
+    all: &[Due],
+    value: &Snap,
+    due: &Due,
+    told: &mut Followed,
+) -> Result<(), Memory>
+    requires whole { IsWhole works.old }
+    requires there { IsThere (templates_of works.old) holder.now (state_of works.old).instances (due_of due.now) }
+    ensures fired { OnOk result (firing works.new told.new ≡ outlet_filled holder.now (scope_in (linked_at holder.now (state_of works.old).instances)) (cases_due (map due_of all.now)) (snap_of value.now) (due_of due.now) (firing works.old told.old)) }
+    ensures serves { OnOk result (Serves holder.now [] (state_of works.old).instances (state_of works.new).instances) }
+    ensures whole { OnOk result (IsWhole works.new) }
+    ensures templates { templates_of works.new ≡ templates_of works.old }
+{
+    if told.faulted || !comes(alloc, all, value, due)? {
+        return Ok(());
+    }
+    let body = body_of(&due.filling);
+    make_body(works, alloc, holder, due.outlet, due.template, body, told)
+}
+
+/// The bodies of outlets are made where they are to be, in order, up to the first fault.
+fn fill_outlets(
+    works: &mut Works,
+    alloc: Global,
+    holder: &Path,
+    value: &Snap,
+    all: &[Due],
+    told: &mut Followed,
+) -> Result<(), Memory>
+    requires whole { IsWhole works.old }
+    requires there { AllByRecursion (IsThere (templates_of works.old) holder.now (state_of works.old).instances) (map due_of all.now) }
+    ensures fired { OnOk result (firing works.new told.new ≡ outlets_filled holder.now (scope_in (linked_at holder.now (state_of works.old).instances)) (cases_due (map due_of all.now)) (snap_of value.now) (map due_of all.now) (firing works.old told.old)) }
+    ensures whole { OnOk result (IsWhole works.new) }
+    ensures templates { templates_of works.new ≡ templates_of works.old }
+{
+    for due in all {
+        fill_outlet(works, alloc, holder, all, value, due, told)?;
+    }
+    Ok(())
+}
+
+/// Outlets that a site fills get what its value calls for: bodies that are not to stay go, and then those that come are made.
+pub(crate) fn fire_outlets(
+    works: &mut Works,
+    alloc: Global,
+    holder: &Path,
+    all: &[Due],
+    value: &Snap,
 ) -> Result<Followed, Memory>
     requires whole { IsWhole works.old }
-    ensures fired { IfOk result (λ f. (v : ViewTree) → is_kept_true (Some v) ≡ truth → firing works.new f ≡ site_fired key.now v (state_of works.old)) }
+    requires due { AreDue (templates_of works.old) holder.now (state_of works.old).instances (map due_of all.now) }
+    ensures fired { IfOk result (λ f. firing works.new f ≡ outlets_fired holder.now (scope_in (linked_at holder.now (state_of works.old).instances)) (snap_of value.now) (map due_of all.now) (begins_firing (state_of works.old))) }
     ensures whole { OnOk result (IsWhole works.new) }
     ensures templates { templates_of works.new ≡ templates_of works.old }
 {
@@ -258,9 +408,7 @@ pub(crate) fn fire_site(
         faulted: false,
         added: false,
     };
-    let all = works.filled_outlets(key)?;
-    for due in all.as_slice() {
-        fire_outlet(works, alloc, &key.path, due, truth, &mut told)?;
-    }
+    empty_outlets(works, alloc, holder, value, all, &mut told)?;
+    fill_outlets(works, alloc, holder, value, all, &mut told)?;
     Ok(told)
 }

@@ -1,5 +1,5 @@
 //! The fire of a watcher.
-ghost use Rattle.std.specs.Prelude.{◌≡◌, ◌<◌, length, false, true, Some, option_map, IsSome, IfOk, OnOk};
+ghost use Rattle.std.specs.Prelude.{◌≡◌, ◌<◌, length, map, false, true, Some, option_map, IsSome, IfOk, OnOk};
 ghost use Rattle.ng_base.specs.Faults.{is_memory};
 ghost use Rattle.ng_base.specs.Meets.{Gives};
 ghost use Rattle.ng_base.specs.ViewOf.{view_of};
@@ -9,22 +9,24 @@ ghost use Rattle.ng_fire.specs.Whole.{IsWhole, KeptStands};
 ghost use Rattle.ng_language.specs.Views.{ViewStands};
 ghost use Rattle.ng_link.specs.Calls.{keeping_at};
 ghost use Rattle.ng_link.specs.State.{state_of, templates_of, listening_of};
-ghost use Rattle.ng_link.specs.Instances.{is_site};
+ghost use Rattle.ng_link.specs.Due.{due_of, all_due};
+ghost use Rattle.ng_link.specs.Instances.{linked_at, is_site};
 ghost use Rattle.ng_value.specs.Snaps.{snap_of};
 ghost use Rattle.ng_watch.specs.Now.{value_now};
 ghost use Rattle.ng_watch.specs.Seen.{watching_of};
 ghost use Rattle.ng_watch.specs.Table.{found, kept_at};
 
-use crate::blocks::fire_site;
+use crate::blocks::fire_outlets;
 use crate::following::{Followed, follow};
 use crate::listening::run_listener;
 use ng_base::fault::{Fault, Memory};
 use ng_base::locals::Locals;
 use ng_base::path::Key;
 use ng_base::view::View;
+use ng_link::filling::Due;
 use ng_link::works::{Listener, Works};
 use ng_store::store::Store;
-use ng_value::operators::truthy;
+use ng_value::copies::copied;
 use ng_value::snapshot::Snap;
 use ng_view::view;
 use ng_watch::watch::Watch;
@@ -103,6 +105,35 @@ fn keep_site(works: &mut Works, key: &Key, snapshot: Snap) -> Result<(), Memory>
     Ok(())
 }
 
+/// A snapshot again.
+fn copy_of(alloc: Global, snapshot: &Snap) -> Result<Snap, Memory>
+    ensures { IfOk result (λ s. snap_of s ≡ snap_of snapshot.now) }
+{
+    Ok(Snap::of_view(copied(alloc, snapshot.view())?))
+}
+
+/// The fire of a site that fills outlets: it keeps the snapshot, and they get what the value calls for.
+fn fire_filling(
+    works: &mut Works,
+    alloc: Global,
+    key: &Key,
+    snapshot: Snap,
+    all: &[Due],
+) -> Result<Followed, Memory>
+    requires whole { IsWhole works.old }
+    requires there { IsSome (found key.now (state_of works.old).watchers) }
+    requires site { is_site (state_of works.old).instances key.now ≡ true }
+    requires due { map due_of all.now ≡ all_due key.now.serial.0 (linked_at key.now.path (state_of works.old).instances) }
+    ensures state { IfOk result (λ f. (state_of works.new, f.faulted) ≡ fired key.now (snap_of snapshot) (state_of works.old)) }
+    ensures added { IfOk result (λ f. f.added ≡ fire_adds key.now (snap_of snapshot) (state_of works.old)) }
+    ensures whole { OnOk result (IsWhole works.new) }
+    ensures templates { templates_of works.new ≡ templates_of works.old }
+{
+    let value = copy_of(alloc, &snapshot)?;
+    keep_site(works, key, snapshot)?;
+    fire_outlets(works, alloc, &key.path, all, &value)
+}
+
 /// The fire of a site: it keeps the snapshot and shows it, and each outlet that it fills gets what the value calls for.
 fn fire_drawn(
     works: &mut Works,
@@ -118,9 +149,12 @@ fn fire_drawn(
     ensures whole { OnOk result (IsWhole works.new) }
     ensures templates { templates_of works.new ≡ templates_of works.old }
 {
-    let truth = truthy(snapshot.view());
-    keep_site(works, key, snapshot)?;
-    fire_site(works, alloc, key, truth)
+    let all = works.filled_outlets(key)?;
+    if all.is_empty() {
+        keep_site(works, key, snapshot)?;
+        return Ok(quiet());
+    }
+    fire_filling(works, alloc, key, snapshot, all.as_slice())
 }
 
 /// The program of a declared watch runs, and what comes after it is done.

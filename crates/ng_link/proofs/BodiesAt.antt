@@ -9,7 +9,8 @@ use Rattle.ng_dom.specs.Lists.{list_at}
 use Rattle.ng_dom.specs.Nodes.{group_then, name_of, names_of, group_names}
 use Rattle.ng_dom.specs.Removal.{group_emptied}
 use Rattle.ng_link.specs.Instances.{Body, OutletState, is_path, read_bodies, bodies_from, groups_from, body_added, body_gone}
-use Rattle.ng_link.specs.Standing.{IsIn, AreIn, AreAnchored, body_count, held_count}
+use Rattle.ng_drawing.specs.Template.{Parts}
+use Rattle.ng_link.specs.Standing.{IsIn, AreIn, AreUndrawn, body_count, held_count}
 use Rattle.ng_link.proofs.Paths.{path_is, is_that}
 
 -- a body is put before the i-th, or at the end where there are fewer; the i-th is taken out; nothing stands in the i-th any more
@@ -111,10 +112,10 @@ added_anchors b [] o = refl
 added_anchors b (y ∷ ys) zero = refl
 added_anchors b (y ∷ ys) (suc o) = ap (λ (ns : List ℕ). y.anchor ∷ ns) (added_anchors b ys o)
 
-pub added_filled : (places : Key → Option ℕ) (p : List ℕ) (b : Body) (os : List OutletState) (o : ℕ) → AreAnchored places p os → AreAnchored places p (body_added o b os)
-added_filled places p b [] o all = tt
-added_filled places p b (y ∷ ys) zero all = all
-added_filled places p b (y ∷ ys) (suc o) all = (all.0, added_filled places p b ys o all.1)
+pub added_undrawn : (serials : List ℕ) (ps : Parts) (b : Body) (os : List OutletState) (o : ℕ) → AreUndrawn serials ps os → AreUndrawn serials ps (body_added o b os)
+added_undrawn serials ps b [] o all = tt
+added_undrawn serials ps b (y ∷ ys) zero all = all
+added_undrawn serials ps b (y ∷ ys) (suc o) all = (all.0, added_undrawn serials ps b ys o all.1)
 
 pushed_in : (p : List ℕ) (b : Body) → IsIn p b → (bs : List Body) → AllByRecursion (IsIn p) bs → AllByRecursion (IsIn p) (bs ++ b ∷ [])
 pushed_in p b i [] all = (i, tt)
@@ -220,9 +221,9 @@ module _ (p : List ℕ) where
   gone_anchors [] = refl
   gone_anchors (y ∷ ys) = ap (λ (ns : List ℕ). y.anchor ∷ ns) (gone_anchors ys)
 
-  pub gone_filled : (places : Key → Option ℕ) (q : List ℕ) (os : List OutletState) → AreAnchored places q os → AreAnchored places q (body_gone p os)
-  gone_filled places q [] all = tt
-  gone_filled places q (y ∷ ys) all = (all.0, gone_filled places q ys all.1)
+  pub gone_undrawn : (serials : List ℕ) (ps : Parts) (os : List OutletState) → AreUndrawn serials ps os → AreUndrawn serials ps (body_gone p os)
+  gone_undrawn serials ps [] all = tt
+  gone_undrawn serials ps (y ∷ ys) all = (all.0, gone_undrawn serials ps ys all.1)
 
   left_in : (q : List ℕ) (bs : List Body) → AllByRecursion (IsIn q) bs → AllByRecursion (IsIn q) (left bs)
   left_in q [] all = tt

@@ -16,7 +16,7 @@ use Rattle.ng_link.specs.Standing.{IsBuilt, Standing}
 use Rattle.ng_link.specs.State.{outlet_of, linked_of, instances_of, state_of, looks_of, looks_in, places_of}
 use Rattle.ng_link.specs.declared.works.Linked as code
 use Rattle.ng_link.specs.declared.works.Works.{Works}
-use Rattle.ng_link.proofs.Anchored.{filling_forgotten}
+use Rattle.ng_link.proofs.Undrawn.{filling_forgotten}
 use Rattle.ng_link.proofs.BuiltSame.{built_same}
 use Rattle.ng_link.proofs.Fired.{kept_differs}
 use Rattle.ng_link.proofs.Grown.{is_some_of}

@@ -10,9 +10,9 @@ use Rattle.ng_base.specs.Order.{path_cmp, path_cmp_total}
 use Rattle.ng_base.specs.declared.path.Key.{Key}
 use Rattle.ng_link.specs.Building.{AllAt}
 use Rattle.ng_link.specs.Instances.{Body, OutletState, Linked, Instances, is_path, linked_at, keys_of, with_outlets, outlets_changed, body_added, with_instance}
-use Rattle.ng_link.specs.Shape.{key_on, holes}
-use Rattle.ng_link.specs.Standing.{AreAnchored, IsPlaced, ArePlaced, Apart, AreApart, IsHeldIn, AreHeld, held_count}
-use Rattle.ng_link.proofs.BodiesAt.{added_anchors, added_filled, added_in, added_count, added_more, added_there}
+use Rattle.ng_link.specs.Shape.{holes}
+use Rattle.ng_link.specs.Standing.{IsPlaced, ArePlaced, Apart, AreApart, IsHeldIn, AreHeld, held_count}
+use Rattle.ng_link.proofs.BodiesAt.{added_anchors, added_undrawn, added_in, added_count, added_more, added_there}
 use Rattle.ng_link.proofs.Lookups.{changed_keys, changed_other, changed_here, changed_all, changed_apart, inserted_here, inserted_other, inserted_all, inserted_apart}
 use Rattle.ng_link.proofs.Paths.{path_is, same_path, other_path, less_other, longer}
 use Rattle.ng_link.proofs.ReadOff.{at_path}
@@ -57,10 +57,6 @@ pub still_at : (site same : Key → Option ℕ) (keys : ℕ → Key) → ((n : �
 still_at site same keys h n [] at = tt
 still_at site same keys h n (x ∷ xs) at = (h n ∙ at.0, still_at site same keys h (n + 1) xs at.1)
 
-pub still_anchored : (places same : Key → Option ℕ) (p : List ℕ) → ((k : Key) → k.path ≡ p → same k ≡ places k) → (os : List OutletState) → AreAnchored places p os → AreAnchored same p os
-still_anchored places same p h [] all = tt
-still_anchored places same p h (o ∷ os) all = (h (key_on p o.serial) refl ∙ all.0, still_anchored places same p h os all.1)
-
 pub still_placed : (places same : Key → Option ℕ) (next end : ℕ) (p : List ℕ) (l : Linked) → ((k : Key) → k.path ≡ p → same k ≡ places k) → next ≤ end → IsPlaced places next p l → IsPlaced same end p l
 still_placed places same next end p l h le placed = record {
   path = placed.path;
@@ -69,7 +65,8 @@ still_placed places same next end p l h le placed = record {
   count = placed.count;
   sites = still_at places same (keys_of l.page) (λ n. h (keys_of l.page n) placed.path) 0 (holes l.page.node l.fragment.parts) placed.sites;
   anchors = placed.anchors;
-  filled = still_anchored places same p h l.page.outlets placed.filled;
+  rising = placed.rising;
+  undrawn = placed.undrawn;
   bodies = placed.bodies;
   once = placed.once;
   end = let first = placed.end in omega (arith, first, le);
@@ -186,7 +183,8 @@ module _ (holder : List ℕ) (n o : ℕ) (m : Linked) (x : OutletState) (l : Lin
           count = p.count;
           sites = p.sites;
           anchors = added_anchors body k.page.outlets o ∙ p.anchors;
-          filled = added_filled same holder body k.page.outlets o p.filled;
+          rising = p.rising;
+          undrawn = added_undrawn k.page.serials k.fragment.parts body k.page.outlets o p.undrawn;
           bodies = added_in holder body (n, refl) k.page.outlets o p.bodies;
           once = one_at_most k none p.once;
           end = p.end;

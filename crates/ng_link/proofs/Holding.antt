@@ -22,7 +22,7 @@ at_append site keys n k (x ∷ xs) ys e h = let more = at_append site keys (n + 
 
 -- what is drawn has its sites in a node, where all that a test lets in are
 module _ (site : Key → Option ℕ) (keys : ℕ → Key) (m : ℕ) (test : ℕ → Bool) (at : (k : ℕ) → test k ≡ true → site (keys k) ≡ Some m) where
-  drawn_holes : (ps : List template.Piece) → list_all (is_piece_drawn test) ps ≡ true → HolesAt site m (linked_pieces keys ps)
+  pub drawn_holes : (ps : List template.Piece) → list_all (is_piece_drawn test) ps ≡ true → HolesAt site m (linked_pieces keys ps)
   drawn_holes [] e = tt
   drawn_holes (word w ∷ ps) e = drawn_holes ps e
   drawn_holes (hole k ∷ ps) e = let two = both_true (test k) (list_all (is_piece_drawn test) ps) e in (at k two.0, drawn_holes ps two.1)
@@ -45,7 +45,7 @@ module _ (site : Key → Option ℕ) (keys : ℕ → Key) (m : ℕ) (test : ℕ 
       let three = both_true (list_all test p.words) (list_all (is_hiding_drawn test) p.hidings) two.1 in
       (drawn_holes p.pieces two.0, drawn_words p.words three.0, drawn_hidings p.hidings three.1)
 
-  drawn_values : (ats : PartAttributes) → are_drawn test ats ≡ true → AttributesAt site m (linked_values keys ats)
+  pub drawn_values : (ats : PartAttributes) → are_drawn test ats ≡ true → AttributesAt site m (linked_values keys ats)
   drawn_values [] e = tt
   drawn_values (a ∷ ats) e = let two = both_true (is_value_drawn test a.1) (are_drawn test ats) e in (drawn_value a.1 two.0, drawn_values ats two.1)
 

@@ -30,7 +30,7 @@ pub mod BuiltMore
 pub mod BuiltTop
 pub mod BuiltLess
 pub mod Listed
-pub mod Longest
+pub mod Ahead
 pub mod Rolled
 pub mod Places
 pub mod Rested
@@ -52,5 +52,5 @@ pub mod Cuts
 pub mod Firsts
 pub mod HeldCut
 pub mod Unlinked
-pub mod Anchored
+pub mod Undrawn
 pub mod Forgotten

@@ -32,7 +32,7 @@ use Rattle.ng_link.specs.Handlers.{Handled, handled}
 use Rattle.ng_link.specs.Rows.{with_sites}
 use Rattle.ng_link.specs.Shape.{key_on, keys_in, holes, anchors}
 use Rattle.ng_link.specs.Sources.{sources}
-use Rattle.ng_link.specs.Standing.{AreIn, IsPlaced, IsBuilt, WatchersStand, IsStanding, Standing}
+use Rattle.ng_link.specs.Standing.{AreIn, AreUndrawn, IsPlaced, IsBuilt, WatchersStand, IsStanding, Standing}
 use Rattle.ng_link.specs.State.{State, kept_or, look_of, handled_of, outlet_of, linked_of, instances_of, templates_of, spot_at, spot_in, places_of, state_of, looks_in}
 use Rattle.ng_link.specs.declared.works.Linked as code
 use Rattle.ng_link.specs.declared.works.Works.{Works}
@@ -43,7 +43,6 @@ use Rattle.ng_link.proofs.BuiltMore.{AreBare, bare_count, built_more}
 use Rattle.ng_link.proofs.BuiltTop.{built_top}
 use Rattle.ng_link.proofs.Homed.{homed_more, all_stay}
 use Rattle.ng_link.proofs.Listed.{noted-seen, noted_found}
-use Rattle.ng_link.proofs.Grown.{all_weaker}
 use Rattle.ng_link.proofs.Numbers.{counted}
 use Rattle.ng_link.proofs.Paths.{path_is, same_path}
 use Rattle.ng_link.proofs.Places.{linked_seen, number_below}
@@ -170,7 +169,7 @@ module _ (w : Works) (ws : List (Key × Watched)) (d : Dom) (is : BTreeMap (List
     (room : object < length (state_of w).core.objects) (rising : IsStrictlySortedBy nat_cmp serials)
     (all_below : AllByRecursion (λ n. n < (state_of w).core.serial) serials) (count : length serials ≡ length f.sites)
     (spots : one.spots.entries ≡ paired serials (holes m f.parts))
-    (anchored : AllByRecursion (λ (o : OutletState). lookup (is_at (nat_cmp o.serial)) one.spots.entries ≡ Some o.anchor) (linked_on which scope path f serials m).page.outlets)
+    (undrawn : AreUndrawn serials f.parts (linked_on which scope path f serials m).page.outlets)
     (watchers : watchers_of ws ≡ with_sites path object serials f.sites (state_of w).watchers) where
   abbrev new : Works
   new = after w ws d is os
@@ -244,9 +243,8 @@ module _ (w : Works) (ws : List (Key × Watched)) (d : Dom) (is : BTreeMap (List
     count = count;
     sites = places;
     anchors = outlets_anchors which.0 serials f.outlets (anchors m f.parts) outlets_many;
-    filled =
-        all_weaker (λ (o : OutletState). lookup (is_at (nat_cmp o.serial)) one.spots.entries ≡ Some o.anchor) (λ (o : OutletState). places_of new (key_on path o.serial) ≡ Some o.anchor)
-        (λ o at. spot_here o.serial o.anchor at) l.page.outlets anchored;
+    rising = rising;
+    undrawn = undrawn;
     bodies = outlets_in which.0 serials path f.outlets (anchors m f.parts);
     once = λ q. let none = bare_count q l.page.outlets bare in omega (arith, none);
     end = end;

@@ -1,7 +1,7 @@
 -- A table by paths, whose instances are seen as what they stand for.
 use Rattle.std.proofs.Common.{◌≡◌, ℕ, Bool, true, false, cond, List, [], ◌∷◌, Option, Some, None, refl, ap, ◌∙◌, sym, map}
 use Rattle.std.specs.BTreeMap.{insert_entry}
-use Rattle.std.specs.Map.{lookup}
+use Rattle.std.specs.Map.{lookup, keys_of}
 use Rattle.std.specs.Ordering.{is_eq, match_ordering}
 use Rattle.std.specs.Prelude.{option_map}
 use Rattle.std.specs.declared.cmp.Ordering.{Ordering}
@@ -14,6 +14,10 @@ use Rattle.ng_link.proofs.Paths.{path_is, is_that, other_path, not_path}
 module _ {X Y : Type 0} (f : List ℕ → X → Y) where
   abbrev pub seen_at : List (List ℕ × X) → List (List ℕ × Y)
   seen_at es = map (λ e. (e.0, f e.0 e.1)) es
+
+  pub keys-seen : (es : List (List ℕ × X)) → keys_of (seen_at es) ≡ keys_of es
+  keys-seen [] = refl
+  keys-seen (e ∷ es) = ap (λ (ps : List (List ℕ)). e.0 ∷ ps) (keys-seen es)
 
   pub found-seen : (p : List ℕ) (es : List (List ℕ × X)) → lookup (is_path p) (seen_at es) ≡ option_map (f p) (lookup (is_path p) es)
   found-seen p [] = refl

@@ -7,7 +7,7 @@ use Rattle.std.proofs.lemmas.List.{length-map}
 use Rattle.ng_drawing.specs.Nodes.{part_nodes}
 use Rattle.ng_drawing.specs.Template as template
 use Rattle.ng_drawing.specs.Template.{word, hole, PartAttributes, Part, Contents, Parts, text_part, comment_part, element_part, anchor_part, children, bound, no_parts, part_then, Fragment}
-use Rattle.ng_template.specs.Numbering.{after_pieces, after_own, after_contents, after_part, after_parts, is_within, is_apart, after_outlets, are_drawn, is_number, is_outlet, is_whole}
+use Rattle.ng_template.specs.Numbering.{after_pieces, after_own, after_contents, after_part, after_parts, is_within, is_apart, after_outlets, are_drawn, is_number, is_outlet, is_undrawn, are_outlets, are_undrawn, is_numbered, is_whole}
 use Rattle.ng_link.specs.Shape.{own_node, piece_holes, part_holes, content_holes, holes}
 
 pub both_true : (b c : Bool) → (b && c) ≡ true → (b ≡ true) × (c ≡ true)
@@ -30,16 +30,23 @@ number_is n (Some k) e = ap Some (eqb-true k n e)
 
 -- the numbers after all sites, and after all outlets, of a fragment as the compiler makes it
 module _ (bodies : ℕ) (f : Fragment) (e : is_whole bodies f ≡ true) where
-  both_counts : (is_number (length f.sites) (after_parts 0 f.parts) ≡ true) × ((is_number (length f.outlets) (after_outlets 0 f.parts) && list_all (is_outlet (length f.sites) bodies) f.outlets) ≡ true)
-  both_counts = both_true (is_number (length f.sites) (after_parts 0 f.parts)) (is_number (length f.outlets) (after_outlets 0 f.parts) && list_all (is_outlet (length f.sites) bodies) f.outlets) e
+  both_parts : (is_numbered f ≡ true) × ((are_outlets bodies f && are_undrawn f) ≡ true)
+  both_parts = both_true (is_numbered f) (are_outlets bodies f && are_undrawn f) e
+
+  both_counts : (is_number (length f.sites) (after_parts 0 f.parts) ≡ true) × (is_number (length f.outlets) (after_outlets 0 f.parts) ≡ true)
+  both_counts = both_true (is_number (length f.sites) (after_parts 0 f.parts)) (is_number (length f.outlets) (after_outlets 0 f.parts)) both_parts.0
 
   pub whole_count : after_parts 0 f.parts ≡ Some (length f.sites)
   whole_count = number_is (length f.sites) (after_parts 0 f.parts) both_counts.0
 
   pub whole_outlets : after_outlets 0 f.parts ≡ Some (length f.outlets)
-  whole_outlets =
-      number_is (length f.outlets) (after_outlets 0 f.parts)
-      (both_true (is_number (length f.outlets) (after_outlets 0 f.parts)) (list_all (is_outlet (length f.sites) bodies) f.outlets) both_counts.1).0
+  whole_outlets = number_is (length f.outlets) (after_outlets 0 f.parts) both_counts.1
+
+  pub whole_numbers : list_all (is_outlet (length f.sites) bodies) f.outlets ≡ true
+  whole_numbers = (both_true (are_outlets bodies f) (are_undrawn f) both_parts.1).0
+
+  pub whole_undrawn : list_all (is_undrawn (length f.sites) f.parts) f.outlets ≡ true
+  whole_undrawn = (both_true (are_outlets bodies f) (are_undrawn f) both_parts.1).1
 
 -- one number more
 pub next_own : (n k : ℕ) (ks : List ℕ) (c : ℕ) → after_own n (k ∷ ks) ≡ Some c → (k ≡ n) × (after_own (n + 1) ks ≡ Some c)

@@ -46,7 +46,7 @@ first_apart s ns j n o e same =
     let lt = above s n less in
     omega (arith, same, lt)
 
-not_at : (m n : ℕ) → (m ≡ n → ⊥) → is_at (nat_cmp m) n ≡ false
+pub not_at : (m n : ℕ) → (m ≡ n → ⊥) → is_at (nat_cmp m) n ≡ false
 not_at m n ne = by_test (is_at (nat_cmp m) n) refl
   where
     by_test : (b : Bool) → is_at (nat_cmp m) n ≡ b → b ≡ false

@@ -9,7 +9,7 @@ use Rattle.ng_dom.specs.Drawing.{none_stand}
 use Rattle.ng_watch.specs.Keys.{begins}
 use Rattle.ng_link.specs.Instances.{OutletState, Linked, Instances, is_path, linked_at, with_outlets, outlets_changed, body_gone, without_below, stands_join, stands_at}
 use Rattle.ng_link.specs.Standing.{IsPlaced, ArePlaced, AreApart, IsHeldIn, AreHeld, held_count}
-use Rattle.ng_link.proofs.BodiesAt.{gone_anchors, gone_filled, gone_in, gone_count, gone_itself, gone_other}
+use Rattle.ng_link.proofs.BodiesAt.{gone_anchors, gone_undrawn, gone_in, gone_count, gone_itself, gone_other}
 use Rattle.ng_link.proofs.Grown.{all_weaker, all_both, each_found, still_placed, no_some, is_some_of}
 use Rattle.ng_link.proofs.Lookups.{changed_keys, changed_other, changed_here, changed_all, changed_apart, kept_all, kept_apart, kept_pass, kept_found, kept_gone}
 use Rattle.ng_link.proofs.Paths.{path_is, other_path, one_longer, begins_itself, begins_longer, begins_last}
@@ -91,7 +91,8 @@ module _ (holder p : List ℕ) (m : Linked) (is : Instances) (n : ℕ) (child : 
           count = y.count;
           sites = y.sites;
           anchors = gone_anchors p k.page.outlets ∙ y.anchors;
-          filled = gone_filled p places holder k.page.outlets y.filled;
+          rising = y.rising;
+          undrawn = gone_undrawn p k.page.serials k.fragment.parts k.page.outlets y.undrawn;
           bodies = gone_in p holder k.page.outlets y.bodies;
           once = λ q. (let few = gone_count p q k.page.outlets in let at_most = y.once q in omega (arith, few, at_most));
           end = y.end;

@@ -5,7 +5,7 @@ use Rattle.std.specs.Prelude.{ℕ, zero, suc, Bool, false, List, [], ◌∷◌, 
 use Rattle.std.specs.BTreeMap.{insert_entry, is_at}
 use Rattle.std.specs.List.{filter, list_any}
 use Rattle.std.specs.Map.{lookup, remove_entry}
-use Rattle.std.specs.Ordering.{nat_cmp}
+use Rattle.std.specs.Ordering.{is_lt, nat_cmp}
 use Rattle.ng_base.specs.Order.{path_cmp}
 use Rattle.ng_base.specs.declared.path.Key.{Key}
 use Rattle.ng_dom.specs.Drawing.{Stands, Bodies, none_stand, no_bodies, body_then}
@@ -68,6 +68,10 @@ read_bodies go (o ∷ os) = map (λ (b : Body). go b.path) o.bodies ∷ read_bod
 abbrev pub read : {A : Type 0} → A → (Linked → List (List A) → A) → Instances → List ℕ → A
 read none join [] p = none
 read none join (e ∷ es) p = if is_path p e.0 then join e.1 (read_bodies (read none join es) e.1.page.outlets) else read none join es p
+
+-- what is read of a body that comes after its holder in the order of paths; before it there is none
+abbrev pub read_after : {A : Type 0} → A → (List ℕ → A) → List ℕ → List ℕ → A
+read_after none go holder p = if is_lt (path_cmp holder p) then go p else none
 
 -- what stands of them: the bodies of an outlet stand at its anchor
 abbrev pub bodies_from : List Stands → Bodies

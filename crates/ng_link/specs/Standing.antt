@@ -1,8 +1,9 @@
 -- When works stand for what stands of a template.
-use Rattle.std.specs.Prelude.{ℕ, ◌≡◌, ◌+◌, ◌<◌, ◌≤◌, ◌⊎◌, List, [], ◌∷◌, ◌++◌, map, length, Option, Some, IsSome, if◌then◌else◌}
+use Rattle.std.specs.Prelude.{ℕ, ◌≡◌, ◌+◌, ◌<◌, ◌≤◌, ◌⊎◌, true, List, [], ◌∷◌, ◌++◌, map, length, Option, Some, IsSome, slice_index_or, if◌then◌else◌}
 use Rattle.std.specs.List.{AllByRecursion}
 use Rattle.std.specs.List.Sorted.{IsStrictlySortedBy}
 use Rattle.std.specs.Map.{keys_of as map_keys}
+use Rattle.std.specs.Ordering.{nat_cmp}
 use Rattle.ng_base.specs.Order.{path_cmp}
 use Rattle.ng_base.specs.declared.path.Key.{Key}
 use Rattle.ng_dom.specs.Document.{next_name, Shows, Holds}
@@ -11,12 +12,13 @@ use Rattle.ng_dom.specs.Nodes.{NamedForest, plain}
 use Rattle.ng_dom.specs.declared.dom.Dom.{Dom}
 use Rattle.ng_drawing.specs.Nodes.{nodes}
 use Rattle.ng_markup.specs.Forest.{Forest}
-use Rattle.ng_template.specs.Numbering.{after_parts, after_outlets}
+use Rattle.ng_drawing.specs.Template.{Parts}
+use Rattle.ng_template.specs.Numbering.{after_parts, is_apart, parts_draw, after_outlets}
 use Rattle.ng_watch.specs.Seen.{WatchStands}
 use Rattle.ng_watch.specs.Table.{Table}
 use Rattle.ng_link.specs.Building.{HomedAll, AllAt}
 use Rattle.ng_link.specs.Instances.{Body, OutletState, Linked, Instances, keys_of, is_path, linked_at, stands_at}
-use Rattle.ng_link.specs.Shape.{key_on, holes, anchors}
+use Rattle.ng_link.specs.Shape.{holes, anchors}
 use Rattle.ng_link.specs.Sources.{sources}
 use Rattle.ng_link.specs.State.{State, state_of, places_of, looks_in}
 use Rattle.ng_link.specs.declared.works.Works.{Works}
@@ -28,9 +30,12 @@ IsIn p b = (n : ℕ) × (b.path ≡ p ++ n ∷ [])
 abbrev pub AreIn : List ℕ → List OutletState → Type 0
 AreIn p os = AllByRecursion (λ (o : OutletState). AllByRecursion (IsIn p) o.bodies) os
 
--- the site of each outlet is known to be in its anchor
-abbrev pub AreAnchored : (Key → Option ℕ) → List ℕ → List OutletState → Type 0
-AreAnchored places p os = AllByRecursion (λ (o : OutletState). places (key_on p o.serial) ≡ Some o.anchor) os
+-- nothing of a fragment is drawn from the site that fills an outlet
+abbrev pub IsUndrawn : List ℕ → Parts → OutletState → Type 0
+IsUndrawn serials ps x = (n : ℕ) × ((n < length serials) × ((slice_index_or serials n 0 ≡ x.serial) × (parts_draw (is_apart n 0 (length serials)) ps ≡ true)))
+
+abbrev pub AreUndrawn : List ℕ → Parts → List OutletState → Type 0
+AreUndrawn serials ps os = AllByRecursion (IsUndrawn serials ps) os
 
 -- how many bodies are on a path
 abbrev pub body_count : List ℕ → List Body → ℕ
@@ -42,15 +47,17 @@ held_count p [] = 0
 held_count p (o ∷ os) = body_count p o.bodies + held_count p os
 
 -- What holds of an instance that stands on a path, where its sites are known to be drawn in nodes: its sites and outlets are numbered in document
--- order, each site is drawn in its node, each outlet has its anchor, where its site is said to be drawn, and no path is that of two bodies.
+-- order, the numbers of registration of its sites rise, each site is drawn in its node, each outlet has its anchor, nothing is drawn from its
+-- site, and no path is that of two bodies.
 pub record IsPlaced (places : Key → Option ℕ) (next : ℕ) (p : List ℕ) (l : Linked) : Type 0 where
   pub path : l.page.path ≡ p
   pub numbered : after_parts 0 l.fragment.parts ≡ Some (length l.fragment.sites)
   pub outlets : after_outlets 0 l.fragment.parts ≡ Some (length l.fragment.outlets)
   pub count : length l.page.serials ≡ length l.fragment.sites
+  pub rising : IsStrictlySortedBy nat_cmp l.page.serials
   pub sites : AllAt places (keys_of l.page) 0 (holes l.page.node l.fragment.parts)
   pub anchors : map (λ (o : OutletState). o.anchor) l.page.outlets ≡ anchors l.page.node l.fragment.parts
-  pub filled : AreAnchored places p l.page.outlets
+  pub undrawn : AreUndrawn l.page.serials l.fragment.parts l.page.outlets
   pub bodies : AreIn p l.page.outlets
   pub once : (q : List ℕ) → held_count q l.page.outlets ≤ 1
   pub end : l.page.node + nodes l.fragment.parts ≤ next

@@ -31,7 +31,7 @@ use Rattle.ng_watch.specs.Keys.{is_key}
 use Rattle.ng_watch.specs.Seen.{Watcher}
 use Rattle.ng_watch.specs.Table.{Table, watchers_of, found}
 use Rattle.ng_link.specs.Handlers.{Handled}
-use Rattle.ng_link.specs.Instances.{Body, OutletState, Page, Linked, Instances, Owners, is_path, linked_at, read}
+use Rattle.ng_link.specs.Instances.{Body, OutletState, Page, Linked, Instances, Owners, is_path, linked_at, read, read_after}
 use Rattle.ng_link.specs.Shape.{key_on}
 use Rattle.ng_link.specs.declared.works.Body as code_body
 use Rattle.ng_link.specs.declared.works.OutletState as code_outlet
@@ -101,6 +101,10 @@ nothing_linked = instance_with no_fragment 0 [] no_outlets
 
 abbrev pub instance_at : Table → Resting → Instances → List ℕ → Instance
 instance_at t r is p = read nothing_linked (instance_join t r) is p
+
+-- a body in an instance, which comes after it
+abbrev pub body_at : State → List ℕ → List ℕ → Instance
+body_at s holder p = read_after nothing_linked (instance_at s.watchers s.resting s.instances) holder p
 
 abbrev pub instance_in : Table → Resting → Instances → Option Instance
 instance_in t r is = option_map (λ l. instance_at t r is []) (linked_at [] is)

@@ -1,4 +1,4 @@
-//! The outlets that a site fills, for the fire of a block (API: ngIf).
+//! The outlets that a site fills, for the fire of a block (API: ngIf, ngSwitch).
 ghost use Rattle.std.specs.Prelude.{ℕ, List, ◌≡◌, map, IfOk};
 ghost use Rattle.ng_link.specs.Due.{due_of, due_at, due_from, all_due};
 ghost use Rattle.ng_link.specs.Events.{scope_in};
@@ -39,7 +39,7 @@ fn due_outlet(alloc: Global, outlet: usize, state: &OutletState) -> Result<Due, 
     Ok(Due {
         outlet,
         template: state.template,
-        filling: state.filling,
+        filling: state.filling.copied()?,
         bodies: paths_of(alloc, state.bodies.as_slice())?,
     })
 }

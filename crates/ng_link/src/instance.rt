@@ -1,13 +1,11 @@
 //! The instance that stands, read off the tables.
-ghost use Rattle.std.specs.Prelude.{◌≡◌, IfOk, IsSome, map, option_map};
-ghost use Rattle.std.specs.List.{AllByRecursion};
+ghost use Rattle.std.specs.Prelude.{◌≡◌, IfOk, map, option_map};
 ghost use Rattle.ng_drawing.specs.Instance.{instances_from};
 ghost use Rattle.ng_drawing.specs.InstanceOf.{state_of as seen_state, instance_of as seen_instance, instances_of as seen_instances};
 ghost use Rattle.ng_template.specs.Kept.{fragments_in};
 ghost use Rattle.ng_value.specs.Snaps.{snap_of};
-ghost use Rattle.ng_link.specs.Instances.{Body as BodyOf, linked_at, read_bodies};
-ghost use Rattle.ng_link.specs.Standing.{IsIn, AreIn, IsStanding};
-ghost use Rattle.ng_link.specs.State.{body_of, outlet_of, page_of, templates_of, kept_in, site_state, site_states, nothing_linked, instance_at, instance, state_of};
+ghost use Rattle.ng_link.specs.Instances.{Body as BodyOf, read_bodies};
+ghost use Rattle.ng_link.specs.State.{body_of, outlet_of, page_of, templates_of, kept_in, site_state, site_states, nothing_linked, instance_at, body_at, instance, state_of};
 
 use crate::copying::key_on;
 use crate::looks::kept_in;
@@ -68,12 +66,12 @@ fn nothing(works: &Works) -> Instance
     }
 }
 
-/// The instance on a path, with the bodies in it, whose paths are longer.
+/// The instance on a path, with the bodies in it. These come after it in the order of paths, so that there are fewer of them each time.
 #[cycle(instance)]
 fn instance_on(works: &Works, path: &Path) -> Result<Instance, Memory>
-    requires { IsStanding works.now }
     ensures { IfOk result (λ i. seen_instance (fragments_in (templates_of works.now)) i ≡ instance_at (state_of works.now).watchers (state_of works.now).resting (state_of works.now).instances path.now) }
 {
+    let _ = works.instances.len();
     let Some(one) = works.instances.get(path) else {
         return Ok(nothing(works));
     };
@@ -95,10 +93,7 @@ fn outlets_in(
     holder: &Path,
     outlets: &[OutletState],
 ) -> Result<Vec<Instances>, Memory>
-    requires stands { IsStanding works.now }
-    requires there { IsSome (linked_at holder.now (state_of works.now).instances) }
-    requires within { AreIn holder.now (map outlet_of outlets.now) }
-    ensures { IfOk result (λ v. map (seen_instances (fragments_in (templates_of works.now))) v.items ≡ map instances_from (read_bodies (instance_at (state_of works.now).watchers (state_of works.now).resting (state_of works.now).instances) (map outlet_of outlets.now))) }
+    ensures { IfOk result (λ v. map (seen_instances (fragments_in (templates_of works.now))) v.items ≡ map instances_from (read_bodies (body_at (state_of works.now) holder.now) (map outlet_of outlets.now))) }
 {
     let mut all = Vec::new(works.alloc);
     for outlet in outlets {
@@ -110,23 +105,31 @@ fn outlets_in(
 /// The bodies in an outlet of an instance.
 #[cycle(instance)]
 fn bodies_in(works: &Works, holder: &Path, bodies: &[Body]) -> Result<Instances, Memory>
-    requires stands { IsStanding works.now }
-    requires there { IsSome (linked_at holder.now (state_of works.now).instances) }
-    requires within { AllByRecursion (IsIn holder.now) (map body_of bodies.now) }
-    ensures { IfOk result (λ is. seen_instances (fragments_in (templates_of works.now)) is ≡ instances_from (map (λ (b : BodyOf). instance_at (state_of works.now).watchers (state_of works.now).resting (state_of works.now).instances b.path) (map body_of bodies.now))) }
+    ensures { IfOk result (λ is. seen_instances (fragments_in (templates_of works.now)) is ≡ instances_from (map (λ (b : BodyOf). body_at (state_of works.now) holder.now b.path) (map body_of bodies.now))) }
 {
     let mut items = Vec::new(works.alloc);
     for body in bodies {
-        items.push(instance_on(works, &body.path)?)?;
+        items.push(body_on(works, holder, &body.path)?)?;
     }
     Ok(Instances { items })
+}
+
+/// The body on a path, where it comes after its holder.
+#[cycle(instance)]
+fn body_on(works: &Works, holder: &Path, path: &Path) -> Result<Instance, Memory>
+    ensures { IfOk result (λ i. seen_instance (fragments_in (templates_of works.now)) i ≡ body_at (state_of works.now) holder.now path.now) }
+{
+    if holder.cmp(path).is_lt() {
+        instance_on(works, path)
+    } else {
+        Ok(nothing(works))
+    }
 }
 
 impl Works {
     /// The instance that stands, with what its sites have kept and the bodies in it. It is read off the tables, and its size is that of
     /// the page.
     pub fn instance(&self) -> Result<Option<Instance>, Memory>
-        requires { IsStanding self.now }
         ensures { IfOk result (λ i. option_map (seen_instance (fragments_in (templates_of self.now))) i ≡ instance (state_of self.now)) }
     {
         let root = Path::new(self.alloc);

@@ -33,7 +33,7 @@
 //!
 //! In reading order: `works`; `counting` counts nodes, `copying` copies pieces with the keys of their holes, `attributes` sets those of
 //! an element, `building` makes nodes, `ordering` has the order of linking, `placing` the places and watchers of sites, `handling` the
-//! handlers, `outlets` the outlets of an instance, `linking`; `filling` says which of them a site fills; `unlinking`; `looks` says what is seen of a
+//! handlers, `outlets` the outlets of an instance, `linking`; `filling` says which of them a site fills; `forgetting` takes keys out of tables; `unlinking`; `looks` says what is seen of a
 //! site, `firing` draws a node anew, `declaring`, `resting`; `instance`; `laws`.
 //!
 //! Not here: when a watcher fires, what its snapshot is, and what programs do.
@@ -46,6 +46,7 @@ mod counting;
 mod declaring;
 pub mod filling;
 mod firing;
+mod forgetting;
 mod handling;
 pub mod instance;
 pub mod laws;

@@ -31,7 +31,7 @@ use crate::building::build_parts;
 use crate::counting::is_too_large;
 use crate::handling::enter_parts;
 use crate::ordering::{LinkStep, add_parts};
-use crate::outlets::{are_anchored, outlet_in, outlets_of, take_in};
+use crate::outlets::{outlet_in, outlets_of, take_in};
 use crate::placing::{spots_of, watch_all};
 use crate::works::{Linked, Works};
 use ng_base::fault::{Fault, Memory};
@@ -244,9 +244,6 @@ impl Works {
             fragment.sites(),
         )?;
         let spots = spots_of(self.alloc, serials, nodes.as_slice())?;
-        if !are_anchored(outlets.as_slice(), &spots) {
-            return Err(Fault::Memory(Memory::Worn));
-        }
         Ok(Linked {
             template: t,
             fragment: n,

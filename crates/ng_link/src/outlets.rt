@@ -1,6 +1,5 @@
 //! The outlets of an instance: at which anchors they stand, and the bodies that fill them.
 ghost use Rattle.std.specs.Prelude.{List, ◌≡◌, ◌+◌, ◌++◌, map, option_map, IfOk, OnOk};
-ghost use Rattle.std.specs.List.{list_all};
 ghost use Rattle.ng_base.specs.declared.path.Key.{Key};
 ghost use Rattle.ng_drawing.specs.Nodes.{part_nodes, content_nodes, nodes};
 ghost use Rattle.ng_drawing.specs.Template.{parts_from};
@@ -9,7 +8,6 @@ ghost use Rattle.ng_template.specs.Kept.{Named};
 ghost use Rattle.ng_template.specs.Seen.{part_of, contents_of};
 ghost use Rattle.ng_link.specs.Calls.{outlet_on, outlets_on};
 ghost use Rattle.ng_link.specs.Instances.{linked_at, outlets_changed, with_body, body_added};
-ghost use Rattle.ng_link.specs.Placing.{is_anchored};
 ghost use Rattle.ng_link.specs.PlaceOf.{outlet_of_linked};
 ghost use Rattle.ng_link.specs.Shape.{part_anchors, content_anchors, anchors};
 ghost use Rattle.ng_link.specs.State.{outlet_of, instances_of, spot_in};
@@ -75,19 +73,25 @@ fn add_anchors(names: &mut Vec<u64>, n: u64, parts: &[Part]) -> Result<u64, Memo
 }
 
 /// An outlet that nothing fills yet.
-fn outlet_at(alloc: Global, t: TplId, serials: &[u64], outlet: &Outlet, anchor: u64) -> OutletState
-    ensures { outlet_of result ≡ outlet_on t.0 serials.now (template_outlet outlet.now) anchor }
+fn outlet_at(
+    alloc: Global,
+    t: TplId,
+    serials: &[u64],
+    outlet: &Outlet,
+    anchor: u64,
+) -> Result<OutletState, AllocError>
+    ensures { IfOk result (λ o. outlet_of o ≡ outlet_on t.0 serials.now (template_outlet outlet.now) anchor) }
 {
-    OutletState {
+    Ok(OutletState {
         serial: match serials.get(outlet.site as usize) {
             None => 0,
             Some(serial) => *serial,
         },
         template: t,
-        filling: outlet.filling,
+        filling: outlet.filling.copied()?,
         anchor,
         bodies: Vec::new(alloc),
-    }
+    })
 }
 
 /// The outlets of a fragment, at anchors of these names.
@@ -106,7 +110,7 @@ fn outlets_at(
         match left.split_first() {
             None => return Ok(made),
             Some((name, others)) => {
-                made.push(outlet_at(alloc, t, serials, outlet, *name))?;
+                made.push(outlet_at(alloc, t, serials, outlet, *name)?)?;
                 left = others;
             }
         }
@@ -127,28 +131,6 @@ pub(crate) fn outlets_of(
     let mut names = Vec::new(alloc);
     add_anchors(&mut names, node, fragment.parts().as_slice())?;
     Ok(outlets_at(alloc, t, serials, fragment.outlets(), names.as_slice())?)
-}
-
-/// Whether an outlet is at the node where its site is said to be drawn.
-fn is_anchored(outlet: &OutletState, spots: &BTreeMap<u64, u64>) -> bool
-    ensures { result ≡ is_anchored spots.now.entries (outlet_of outlet.now) }
-{
-    match spots.get(&outlet.serial) {
-        None => false,
-        Some(n) => *n == outlet.anchor,
-    }
-}
-
-/// Whether all outlets are. The compiler puts the site of a block in its anchor.
-pub(crate) fn are_anchored(outlets: &[OutletState], spots: &BTreeMap<u64, u64>) -> bool
-    ensures { result ≡ list_all (is_anchored spots.now.entries) (map outlet_of outlets.now) }
-{
-    for outlet in outlets {
-        if !is_anchored(outlet, spots) {
-            return false;
-        }
-    }
-    true
 }
 
 /// An outlet of an instance.

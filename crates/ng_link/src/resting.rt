@@ -13,12 +13,14 @@ ghost use Rattle.ng_link.specs.Calls.{rested, left_at, ended_at};
 ghost use Rattle.ng_link.specs.Standing.{Standing, WatchersStand};
 ghost use Rattle.ng_link.specs.State.{instances_of, resting_of, declared_of, state_of, templates_of};
 
+use crate::forgetting::forget_on;
 use crate::placing::is_site;
 use crate::works::{Linked, Listener, Works};
 use ng_base::fault::Memory;
 use ng_base::path::{Key, Path};
 use ng_value::snapshot::Snap;
 use ng_watch::watched::Watched;
+use std::alloc::AllocError;
 use std::collections::BTreeMap;
 
 /// A site whose watcher was taken out rests with what that had kept.
@@ -54,24 +56,12 @@ fn rest_all(
     Ok(())
 }
 
-/// Whether a path begins with another.
-pub(crate) fn begins(u: &[u32], p: &[u32]) -> bool
-    ensures { result ≡ begins u.now p.now }
-{
-    match u.split_first() {
-        None => true,
-        Some((x, xs)) => match p.split_first() {
-            None => false,
-            Some((y, ys)) => *x == *y && begins(xs, ys),
-        },
-    }
-}
-
 /// The listeners of a scope, and of those below it, are taken out.
-fn leave_listeners(declared: &mut BTreeMap<Key, Listener>, p: &Path)
-    ensures { declared_of declared.new.entries ≡ filter (λ e. not (begins p.now e.0.path)) (declared_of declared.old.entries) }
+fn leave_listeners(declared: &mut BTreeMap<Key, Listener>, p: &Path) -> Result<(), AllocError>
+    ensures { OnOk result (declared_of declared.new.entries ≡ filter (λ e. not (begins p.now e.0.path)) (declared_of declared.old.entries)) }
 {
-    declared.retain(|key, _| !begins(p.as_slice(), key.path.as_slice()));
+    forget_on(declared, p)?;
+    Ok(())
 }
 
 impl Works {
@@ -87,7 +77,7 @@ impl Works {
         let _ = self.watchers.count();
         let rows = self.watchers.take_under(self.alloc, p)?;
         rest_all(&self.instances, &mut self.resting, rows)?;
-        leave_listeners(&mut self.declared, p);
+        leave_listeners(&mut self.declared, p)?;
         Ok(())
     }
 

@@ -7,22 +7,19 @@ ghost use Rattle.std.specs.Ordering.{nat_cmp};
 ghost use Rattle.ng_base.specs.declared.path.Key.{Key as KeyOf};
 ghost use Rattle.ng_dom.specs.Lists.{without_at};
 ghost use Rattle.ng_template.specs.Kept.{Named};
-ghost use Rattle.ng_watch.specs.Keys.{is_key, begins as begins_with};
+ghost use Rattle.ng_watch.specs.Keys.{begins as begins_with};
 ghost use Rattle.ng_link.specs.Calls.{cut_at, unlinked_at};
 ghost use Rattle.ng_link.specs.Instances.{OutletState as OutletOf, is_path, linked_at, outlets_changed, owners_less};
-ghost use Rattle.ng_link.specs.Shape.{key_on as key_of};
 ghost use Rattle.ng_link.specs.Standing.{IsStanding, IsHeld, IsHeldIn, body_count, held_count};
 ghost use Rattle.ng_link.specs.State.{body_of, outlet_of, instances_of, spot_in, state_of, templates_of};
 ghost use Rattle.ng_link.specs.Unlinking.{IsBodyAt, IsHeldAt, body_cut, CutsOut};
 
-use crate::copying::key_on;
-use crate::resting::begins;
+use crate::forgetting::{begins, forget_on};
 use crate::works::{Body, Linked, OutletState, Works};
 use ng_base::fault::Memory;
 use ng_base::name::{NodeId, Serial};
-use ng_base::path::{Key, Path};
+use ng_base::path::Path;
 use ng_dom::dom::Dom;
-use ng_value::snapshot::Snap;
 use std::alloc::AllocError;
 use std::collections::BTreeMap;
 use std::ops::Bound;
@@ -132,30 +129,6 @@ fn first_below(instances: &BTreeMap<Path, Linked>, p: &Path) -> Result<Option<Pa
     }
 }
 
-/// The first key from one on whose path begins with this one.
-fn first_resting(
-    resting: &BTreeMap<Key, Option<Snap>>,
-    start: &Key,
-    p: &Path,
-) -> Result<Option<Key>, AllocError>
-    requires { start.now ≡ key_of p.now 0 }
-    ensures { IfOk result (λ r. r ≡ lookup_key (λ k. begins_with p.now k.path) resting.now.entries) }
-{
-    match resting
-        .range((Bound::Included(start), Bound::Unbounded))
-        .next()
-    {
-        None => Ok(None),
-        Some((key, _)) => {
-            if begins(p.as_slice(), key.path.as_slice()) {
-                Ok(Some(key_on(&key.path, key.serial.0)?))
-            } else {
-                Ok(None)
-            }
-        }
-    }
-}
-
 /// An instance is taken out, and the name of its first node with it.
 fn forget_one(instances: &mut BTreeMap<Path, Linked>, owners: &mut BTreeMap<u64, Path>, path: &Path)
     ensures instances { instances.new.entries ≡ remove_entry (is_path path.now) instances.old.entries }
@@ -184,24 +157,6 @@ fn forget_below(
     Ok(())
 }
 
-/// A site rests no more.
-fn forget_key(resting: &mut BTreeMap<Key, Option<Snap>>, key: &Key)
-    ensures { resting.new.entries ≡ remove_entry (is_key key.now) resting.old.entries }
-{
-    let _ = resting.remove(key);
-}
-
-/// The sites on a path and below it rest no more.
-fn forget_resting(resting: &mut BTreeMap<Key, Option<Snap>>, p: &Path) -> Result<(), AllocError>
-    ensures { OnOk result (resting.new.entries ≡ filter (λ e. not (begins_with p.now e.0.path)) resting.old.entries) }
-{
-    let start = key_on(p, 0)?;
-    while let Some(key) = first_resting(resting, &start, p)? {
-        forget_key(resting, &key);
-    }
-    Ok(())
-}
-
 impl Works {
     /// The instances of a body, and of those in it, go with their nodes.
     fn cut(&mut self, holder: &Path, p: &Path) -> Result<(), Memory>
@@ -218,7 +173,7 @@ impl Works {
         let anchor = cut_held(&mut self.instances, holder, o, i);
         cut_nodes(&mut self.dom, anchor, i)?;
         forget_below(&mut self.instances, &mut self.owners, p)?;
-        forget_resting(&mut self.resting, p)?;
+        forget_on(&mut self.resting, p)?;
         Ok(())
     }
     /// A body that an instance holds goes, with those in it. It costs what it takes.

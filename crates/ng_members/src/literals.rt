@@ -95,12 +95,7 @@ pub fn named(store: &Store, scope: Oid, locals: &Locals, name: &Txt) -> Result<V
 
 /// A bare name, as evaluation wants it.
 #[inline(never)]
-pub fn bare_name(
-    store: &Store,
-    scope: Oid,
-    locals: &Locals,
-    name: &Txt,
-) -> Result<View, Fault>
+pub fn bare_name(store: &Store, scope: Oid, locals: &Locals, name: &Txt) -> Result<View, Fault>
     requires scope { scope.0 < length store.now }
     requires locals { LocalsStand (length store.now) locals.now }
     ensures value { Gives is_memory view_of (Ok (named store.now scope.0 locals.now name.now)) result }

@@ -3,16 +3,17 @@ use Rattle.std.proofs.Common.{◌≡◌, ◌≤◌, ◌+◌, ℕ, zero, suc, Boo
 use Rattle.std.specs.Prelude.{not}
 use Rattle.std.specs.List.{AllByRecursion, filter}
 use Rattle.ng_base.specs.Views.{ViewTree}
+use Rattle.ng_drawing.specs.Cases.{Case, calls_for}
 use Rattle.ng_drawing.specs.Template.{Outlet}
 use Rattle.ng_fire.specs.Blocks.{has_bodies}
 use Rattle.ng_link.specs.Instances.{Body, OutletState, is_path, with_body, body_added, without_body, body_gone}
 use Rattle.ng_link.specs.Standing.{body_count, held_count}
-use Rattle.ng_page.specs.Settled.{calls, CallsFor, AreOutlets}
+use Rattle.ng_page.specs.Settled.{CallsFor, AreOutlets}
 
 -- what a value calls for is asked of the filling and of whether any body stands
-pub calls_same : (o : Option ViewTree) (x y : OutletState) → y.filling ≡ x.filling → has_bodies y.bodies ≡ has_bodies x.bodies → CallsFor o x → CallsFor o y
-calls_same None x y f b h = tt
-calls_same (Some v) x y f b h = b ∙ (h ∙ ap (λ g. calls g v) (sym f))
+pub calls_same : (cases : List Case) (o : Option ViewTree) (x y : OutletState) → y.filling ≡ x.filling → has_bodies y.bodies ≡ has_bodies x.bodies → CallsFor cases o x → CallsFor cases o y
+calls_same cases None x y f b h = tt
+calls_same cases (Some v) x y f b h = b ∙ (h ∙ ap (λ g. calls_for cases g (Some v)) (sym f))
 
 pub all_mapped : {A B : Type 0} (P : A → Type 0) (Q : B → Type 0) (f : A → B) (xs : List A) → ((x : A) → P x → Q (f x)) → AllByRecursion P xs → AllByRecursion Q (map f xs)
 all_mapped P Q f [] g all = tt
@@ -50,8 +51,9 @@ module _ (p : List ℕ) where
       by_test false is none more = ap (λ (t : Bool). cond (not t) (b ∷ filter stays bs) (filter stays bs)) is ∙ ap (λ (cs : List Body). b ∷ cs) (more (omega (arith, none)))
 
   pub gone_outlets : (serials : List ℕ) (os : List Outlet) (xs : List OutletState) → AreOutlets serials os xs → AreOutlets serials os (body_gone p xs)
-  gone_outlets serials os [] h = tt
+  gone_outlets serials [] [] h = tt
   gone_outlets serials [] (x ∷ xs) h = h
+  gone_outlets serials (o ∷ os) [] h = h
   gone_outlets serials (o ∷ os) (x ∷ xs) h = (h.0, gone_outlets serials os xs h.1)
 
   pub gone_bodies : (P : Body → Type 0) (xs : List OutletState) → AllByRecursion (λ (x : OutletState). AllByRecursion P x.bodies) xs → AllByRecursion (λ (x : OutletState). AllByRecursion P x.bodies) (body_gone p xs)
@@ -73,8 +75,9 @@ added_count zero b q (x ∷ xs) = let here = added_here b q x.bodies in omega (a
 added_count (suc n) b q (x ∷ xs) = let more = added_count n b q xs in omega (arith, more)
 
 pub added_outlets : (n : ℕ) (b : Body) (serials : List ℕ) (os : List Outlet) (xs : List OutletState) → AreOutlets serials os xs → AreOutlets serials os (body_added n b xs)
-added_outlets n b serials os [] h = tt
+added_outlets n b serials [] [] h = tt
 added_outlets n b serials [] (x ∷ xs) h = absurd h
+added_outlets n b serials (o ∷ os) [] h = absurd h
 added_outlets zero b serials (o ∷ os) (x ∷ xs) h = h
 added_outlets (suc n) b serials (o ∷ os) (x ∷ xs) h = (h.0, added_outlets n b serials os xs h.1)
 

@@ -27,7 +27,7 @@ use Rattle.ng_page.specs.Settled.{IsChild}
 use Rattle.ng_page.proofs.EventsStay.{part, Stays, fault_stays}
 use Rattle.ng_page.proofs.FiresTold.{steps_sites, rested_sites, child_made, discarded_sites}
 use Rattle.ng_page.proofs.Placing.{IsNew, HasRoom, holder_was}
-use Rattle.ng_page.proofs.Registered.{sites_counted, steps_above}
+use Rattle.ng_page.proofs.Registered.{sites_counted, fragment_whole, steps_above}
 use Rattle.ng_page.proofs.ScopesStay.{ScopesStay, child_there}
 use Rattle.ng_page.proofs.Sites.{SitesStay, sites_trans, core_sites}
 use Rattle.ng_page.proofs.Under.{IsUnder, under_stays, under_placed, IsOfSite, child_path_there, child_free, next_free}
@@ -84,6 +84,7 @@ module _ (k : Key) (v : ViewTree) (scope : ℕ) (ks : List Key) (left : list_any
     is_new = record {
       there = let one = child_there g.state.core.scopes scope object in let more = scopes_on.more in omega (arith, one, more);
       count = linking_counted child (steps fragment.parts) start ∙ sites_counted g.state.templates t n u.watched.templates;
+      whole = fragment_whole g.state.templates t n u.watched.templates;
       rising = (linking_numbered child (steps fragment.parts) start).rising;
       below = (linking_numbered child (steps fragment.parts) start).below;
       above = steps_above g.state.core.serial child (steps fragment.parts) start begun.core.serial;

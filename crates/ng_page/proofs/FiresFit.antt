@@ -1,6 +1,6 @@
 -- After a fire what is linked is watched, and each block whose fire did not fault has the bodies that it calls for.
 use Rattle.std.proofs.Common.{◌≡◌, ◌⊎◌, inl, inr, ℕ, Bool, true, false, List, [], ◌∷◌, ◌++◌, cond, Option, Some, None, refl, ap, sym, subst, ◌∙◌}
-use Rattle.std.specs.Prelude.{◌||◌}
+use Rattle.std.specs.Prelude.{◌||◌, ◌&&◌, not}
 use Rattle.std.specs.BTreeMap.{is_at}
 use Rattle.std.specs.BTreeSet.{insert_key}
 use Rattle.std.specs.List.{AllByRecursion, list_any}
@@ -9,9 +9,9 @@ use Rattle.std.specs.declared.cmp.Ordering.{Ordering}
 use Rattle.std.specs.declared.cmp.Ordering.TheVariants.{Less, Equal, Greater}
 use Rattle.ng_base.specs.Views.{ViewTree}
 use Rattle.ng_base.specs.declared.path.Key.{Key}
-use Rattle.ng_drawing.specs.Looks.{is_kept_true}
-use Rattle.ng_drawing.specs.Template.{Filling, body_if}
-use Rattle.ng_fire.specs.Blocks.{Firing, begins_firing, gone, all_gone, filled, has_bodies, outlet_fired, outlets_fired, site_fired}
+use Rattle.ng_drawing.specs.Cases.{Case, calls_for}
+use Rattle.ng_drawing.specs.Template.{Fragment}
+use Rattle.ng_fire.specs.Blocks.{Firing, begins_firing, gone, all_gone, filled, has_bodies, goes, outlets_emptied, cases_due, body_of, comes, outlet_filled, outlets_filled, outlets_fired, site_fired}
 use Rattle.ng_fire.specs.Fires.{fired as fires, fire_of_site, fire_run, fired_by}
 use Rattle.ng_link.specs.Calls.{keeping_at}
 use Rattle.ng_link.specs.Due.{Due, all_due, due_from}
@@ -24,12 +24,13 @@ use Rattle.ng_watch.specs.Keys.{key_cmp, is_key}
 use Rattle.ng_watch.specs.Table.{found}
 use Rattle.ng_page.specs.PageLaws.{told_itself}
 use Rattle.ng_page.specs.PageMachine.{with_faulted}
-use Rattle.ng_page.specs.Settled.{calls, CallsFor, OutletFits, IsWatched, Fits}
+use Rattle.ng_page.specs.Settled.{cases_under, CallsFor, OutletFits, IsWatched, Fits}
 use Rattle.ng_page.proofs.Filled.{IsMade, filled_made}
 use Rattle.ng_page.proofs.Fitting.{IsOut, number_itself, kept_here, fits_stays, fits_keeping, fits_beside, fits_with}
-use Rattle.ng_page.proofs.Going.{due_bodies, Goes, goes_first, goes_last, AreReady, AreOfSite, ready_first, of_first, ready_skip, ready_next, of_next, ready_last}
+use Rattle.ng_page.proofs.Coming.{due_cases, AreReady, AreOfSite, ready_first, of_first, ready_skip, ready_next, of_next, ready_last}
+use Rattle.ng_page.proofs.Going.{going, Goes, goes_first, goes_last, spared_first, due_going, same_going}
 use Rattle.ng_page.proofs.StepsStay.{run_sites}
-use Rattle.ng_page.proofs.Under.{IsUnder, AreGoing, under_all_gone}
+use Rattle.ng_page.proofs.Under.{IsUnder, IsSince, IsLeft, under_all_gone}
 use Rattle.ng_page.proofs.Watched.{all_map, all_both, watched_stays, kept_watched}
 use Rattle.ng_page.proofs.Sites.{SitesStay}
 
@@ -41,114 +42,131 @@ module _ (k : Key) (v : ViewTree) (scope : ℕ) (ks : List Key) (left : list_any
   abbrev Under : State → Type 0
   Under s = IsUnder k v scope ks left s
 
-  -- ---- the value calls for no body
+  -- ---- what is to go goes
 
-  module _ (off : is_kept_true (Some v) ≡ false) where
-    one_off : (d : Due) (filling : Filling) (g : Firing) → outlet_fired k.path scope v d filling g ≡ all_gone k.path d.bodies g
-    one_off d (body_if body) g = ap (λ (b : Bool). cond b (cond (has_bodies d.bodies) g (filled k.path scope d.outlet (d.template, body) g)) (all_gone k.path d.bodies g)) off
-
-    all_off : (ds : List Due) (g : Firing) → outlets_fired k.path scope v ds g ≡ all_gone k.path (due_bodies ds) g
-    all_off [] g = refl
-    all_off (d ∷ ds) g =
-        ap (outlets_fired k.path scope v ds) (one_off d d.filling g)
-        ∙ (all_off ds (all_gone k.path d.bodies g) ∙ all_gone_append k.path d.bodies (due_bodies ds) g)
-
-  -- ---- it calls for one in each outlet
-
-  abbrev Ready : List Due → State → Type 0
-  Ready ds s = (m : Linked) → linked_at k.path s.instances ≡ Some m → AreReady k.serial.0 ds m.page.outlets
-
-  abbrev OfSite : List Due → State → Type 0
-  OfSite ds s = (m : Linked) → linked_at k.path s.instances ≡ Some m → AreOfSite k.serial.0 ds m.page.outlets
-
-  pub record IsOn (ds : List Due) (h : Firing) : Type 0 where
-    pub under : IsUnder k v scope ks left h.state
-    pub of : OfSite ds h.state
-    pub ready : h.faulted ≡ false → Ready ds h.state
-
-  not_both : (b : Bool) → b ≡ true → b ≡ false → ⊥
-  not_both true e f = cc
-  not_both false e f = cc
-
-  next_made : (d : Due) (ds : List Due) (g h : Firing) → IsMade k v scope ks left d.outlet g h → IsOn (d ∷ ds) g → IsOn ds h
-  next_made d ds g h made on = record {
-    under = made.under;
-    of = λ m at. by_of m (made.stood m at);
-    ready = λ ok m at. by_ready ok m (made.stood m at);
-  }
+  emptied_gone : (ds : List Due) (g : Firing) → outlets_emptied k.path v ds g ≡ all_gone k.path (due_going k.serial.0 v ds) g
+  emptied_gone [] g = refl
+  emptied_gone (d ∷ ds) g = by_goes (goes d.filling v) (λ h. emptied_gone ds h)
     where
-      Stood : Linked → Type 0
-      Stood m = (l : Linked) × (linked_at k.path g.state.instances ≡ Some l) × (((h.faulted ≡ true) × (m ≡ l)) ⊎ ((h.faulted ≡ g.faulted) × ((b : Body) × (m ≡ with_outlets (body_added d.outlet b) l))))
+      by_goes : (t : Bool) → ((h : Firing) → outlets_emptied k.path v ds h ≡ all_gone k.path (due_going k.serial.0 v ds) h)
+          → outlets_emptied k.path v ds (cond t (all_gone k.path d.bodies g) g) ≡ all_gone k.path (cond t (d.bodies ++ due_going k.serial.0 v ds) (due_going k.serial.0 v ds)) g
+      by_goes true more = more (all_gone k.path d.bodies g) ∙ all_gone_append k.path d.bodies (due_going k.serial.0 v ds) g
+      by_goes false more = more g
 
-      by_of : (m : Linked) → Stood m → AreOfSite k.serial.0 ds m.page.outlets
-      by_of m (l, at, inl two) = subst (λ (x : Linked). AreOfSite k.serial.0 ds x.page.outlets) (sym two.1) (on.of l at).1
-      by_of m (l, at, inr two) = subst (λ (x : Linked). AreOfSite k.serial.0 ds x.page.outlets) (sym two.1.1) (of_next k.serial.0 d.outlet two.1.0 ds l.page.outlets (on.of l at).1)
+  -- ---- then what is called for comes, beside these cases of an instance that was this
 
-      by_ready : h.faulted ≡ false → (m : Linked) → Stood m → AreReady k.serial.0 ds m.page.outlets
-      by_ready ok m (l, at, inl two) = absurd (not_both h.faulted two.0 ok)
-      by_ready ok m (l, at, inr two) =
-          subst (λ (x : Linked). AreReady k.serial.0 ds x.page.outlets) (sym two.1.1)
-          (ready_next k.serial.0 d ds two.1.0 l.page.outlets (on.ready (sym two.0 ∙ ok) l at))
+  module _ (cases : List Case) (l : Linked) where
+    abbrev Ready : List Due → State → Type 0
+    Ready ds s = (m : Linked) → linked_at k.path s.instances ≡ Some m → AreReady k.serial.0 cases v ds m.page.outlets
 
-  module _ (calling : is_kept_true (Some v) ≡ true) where
-    one_on : (d : Due) (ds : List Due) (filling : Filling) (g : Firing) → IsOn (d ∷ ds) g → IsOn ds (outlet_fired k.path scope v d filling g)
-    one_on d ds (body_if body) g on =
-        subst (λ (b : Bool). IsOn ds (cond b (cond (has_bodies d.bodies) g (filled k.path scope d.outlet (d.template, body) g)) (all_gone k.path d.bodies g))) (sym calling) (by_bodies (has_bodies d.bodies) refl)
+    abbrev OfSite : List Due → State → Type 0
+    OfSite ds s = (m : Linked) → linked_at k.path s.instances ≡ Some m → AreOfSite k.serial.0 cases v ds m.page.outlets
+
+    abbrev AreSites : Linked → Type 0
+    AreSites m = (m.page.serials ≡ l.page.serials) × (m.fragment ≡ l.fragment)
+
+    pub record IsOn (ds : List Due) (h : Firing) : Type 0 where
+      pub under : IsUnder k v scope ks left h.state
+      pub of : OfSite ds h.state
+      pub sites : (m : Linked) → linked_at k.path h.state.instances ≡ Some m → AreSites m
+      pub ready : h.faulted ≡ false → Ready ds h.state
+
+    not_both : (b : Bool) → b ≡ true → b ≡ false → ⊥
+    not_both true e f = cc
+    not_both false e f = cc
+
+    next_made : (d : Due) (ds : List Due) (g h : Firing) → comes cases v d ≡ true → IsMade k v scope ks left d.outlet g h → IsOn (d ∷ ds) g → IsOn ds h
+    next_made d ds g h come made on = record {
+      under = made.under;
+      of = λ m at. by_of m (made.stood m at);
+      sites = λ m at. by_sites m (made.stood m at);
+      ready = λ ok m at. by_ready ok m (made.stood m at);
+    }
       where
-        by_bodies : (b : Bool) → has_bodies d.bodies ≡ b → IsOn ds (cond b g (filled k.path scope d.outlet (d.template, body) g))
-        by_bodies true has = record {
+        Stood : Linked → Type 0
+        Stood m = (o : Linked) × (linked_at k.path g.state.instances ≡ Some o) × (((h.faulted ≡ true) × (m ≡ o)) ⊎ ((h.faulted ≡ g.faulted) × ((b : Body) × (m ≡ with_outlets (body_added d.outlet b) o))))
+
+        by_of : (m : Linked) → Stood m → AreOfSite k.serial.0 cases v ds m.page.outlets
+        by_of m (o, at, inl two) = subst (λ (x : Linked). AreOfSite k.serial.0 cases v ds x.page.outlets) (sym two.1) (on.of o at).1
+        by_of m (o, at, inr two) =
+            subst (λ (x : Linked). AreOfSite k.serial.0 cases v ds x.page.outlets) (sym two.1.1) (of_next k.serial.0 cases v d.outlet two.1.0 ds o.page.outlets (on.of o at).1)
+
+        by_sites : (m : Linked) → Stood m → AreSites m
+        by_sites m (o, at, inl two) = subst AreSites (sym two.1) (on.sites o at)
+        by_sites m (o, at, inr two) = subst AreSites (sym two.1.1) (on.sites o at)
+
+        by_ready : h.faulted ≡ false → (m : Linked) → Stood m → AreReady k.serial.0 cases v ds m.page.outlets
+        by_ready ok m (o, at, inl two) = absurd (not_both h.faulted two.0 ok)
+        by_ready ok m (o, at, inr two) =
+            subst (λ (x : Linked). AreReady k.serial.0 cases v ds x.page.outlets) (sym two.1.1)
+            (ready_next k.serial.0 cases v d ds two.1.0 o.page.outlets come (on.of o at) (on.ready (sym two.0 ∙ ok) o at))
+
+    one_on : (d : Due) (ds : List Due) (g : Firing) → IsOn (d ∷ ds) g → IsOn ds (outlet_filled k.path scope cases v d g)
+    one_on d ds g on = by_comes (comes cases v d) refl g.faulted refl
+      where
+        done : Firing
+        done = filled k.path scope d.outlet (d.template, body_of d.filling) g
+
+        by_comes : (b : Bool) → comes cases v d ≡ b → (f : Bool) → g.faulted ≡ f → IsOn ds (cond (b && not f) done g)
+        by_comes false off f fault = record {
           under = on.under;
           of = λ m at. (on.of m at).1;
-          ready = λ ok m at. ready_skip k.serial.0 d ds m.page.outlets has (on.ready ok m at);
+          sites = on.sites;
+          ready = λ ok m at. ready_skip k.serial.0 cases v d ds m.page.outlets off (on.ready ok m at);
         }
-        by_bodies false none =
-            next_made d ds g (filled k.path scope d.outlet (d.template, body) g)
-            (filled_made k v scope ks left d.outlet d.template body g on.under (λ m x at get. (on.of m at).0 x get)) on
+        by_comes true come true fault = record {
+          under = on.under;
+          of = λ m at. (on.of m at).1;
+          sites = on.sites;
+          ready = λ ok m at. absurd (not_both g.faulted fault ok);
+        }
+        by_comes true come false fault =
+            next_made d ds g done come (filled_made k v scope ks left d.outlet d.template (body_of d.filling) g on.under (λ m x at get. ((on.of m at).0 x get).site)) on
 
-    all_on : (ds : List Due) (g : Firing) → IsOn ds g → IsOn [] (outlets_fired k.path scope v ds g)
+    all_on : (ds : List Due) (g : Firing) → IsOn ds g → IsOn [] (outlets_filled k.path scope cases v ds g)
     all_on [] g on = on
-    all_on (d ∷ ds) g on = all_on ds (outlet_fired k.path scope v d d.filling g) (one_on d ds d.filling g on)
+    all_on (d ∷ ds) g on = all_on ds (outlet_filled k.path scope cases v d g) (one_on d ds g on)
 
   -- ---- so the site's outlets have what it calls for
 
+  abbrev pub IsRight : Linked → OutletState → Type 0
+  IsRight m x = is_filled_by k.serial.0 x ≡ true → has_bodies x.bodies ≡ calls_for (cases_under m.page.serials m.fragment.outlets k.serial.0) x.filling (Some v)
+
   pub record HasFired (h : Firing) : Type 0 where
     pub under : IsUnder k v scope ks left h.state
-    pub fit : h.faulted ≡ false → (m : Linked) → linked_at k.path h.state.instances ≡ Some m → AllByRecursion (λ (x : OutletState). is_filled_by k.serial.0 x ≡ true → has_bodies x.bodies ≡ is_kept_true (Some v)) m.page.outlets
-
-  abbrev IsRight : Bool → OutletState → Type 0
-  IsRight b x = is_filled_by k.serial.0 x ≡ true → has_bodies x.bodies ≡ b
-
-  fired_off : (l : Linked) (g : Firing) → is_kept_true (Some v) ≡ false → linked_at k.path g.state.instances ≡ Some l → IsUnder k v scope ks left g.state → HasFired (outlets_fired k.path scope v (due_from k.serial.0 0 l.page.outlets) g)
-  fired_off l g off at u =
-      let bs : List Body = due_bodies (due_from k.serial.0 0 l.page.outlets) in
-      let going : AreGoing k v scope ks left bs g.state = λ m there. (let same : l ≡ m = (let e : ◌≡◌ {A = Option Linked} (Some l) (Some m) = sym at ∙ there in cc) in subst (λ (x : Linked). AllByRecursion (Goes k.serial.0 bs) x.page.outlets) same (goes_first k.serial.0 l.page.outlets (u.watched.linked k.path l at).once)) in
-      let end = under_all_gone k v scope ks left bs g going u in
-      subst HasFired (sym (all_off off (due_from k.serial.0 0 l.page.outlets) g))
-      (record {
-        under = end.0;
-        fit = λ ok m there. subst (λ (b : Bool). AllByRecursion (IsRight b) m.page.outlets) (sym off) (goes_last k.serial.0 m.page.outlets (end.1 m there));
-      })
-
-  fired_on : (l : Linked) (g : Firing) → is_kept_true (Some v) ≡ true → linked_at k.path g.state.instances ≡ Some l → IsUnder k v scope ks left g.state → HasFired (outlets_fired k.path scope v (due_from k.serial.0 0 l.page.outlets) g)
-  fired_on l g calling at u =
-      let ds : List Due = due_from k.serial.0 0 l.page.outlets in
-      let same : (m : Linked) → linked_at k.path g.state.instances ≡ Some m → l ≡ m = λ m there. (let e : ◌≡◌ {A = Option Linked} (Some l) (Some m) = sym at ∙ there in cc) in
-      let end : IsOn [] (outlets_fired k.path scope v ds g) = all_on calling ds g (record {
-        under = u;
-        of = λ m there. subst (λ (x : Linked). AreOfSite k.serial.0 ds x.page.outlets) (same m there) (of_first k.serial.0 l.page.outlets);
-        ready = λ ok m there. subst (λ (x : Linked). AreReady k.serial.0 ds x.page.outlets) (same m there) (ready_first k.serial.0 l.page.outlets);
-      }) in
-      record {
-        under = end.under;
-        fit = λ ok m there. subst (λ (b : Bool). AllByRecursion (IsRight b) m.page.outlets) (sym calling) (ready_last k.serial.0 m.page.outlets (end.ready ok m there));
-      }
+    pub fit : h.faulted ≡ false → (m : Linked) → linked_at k.path h.state.instances ≡ Some m → AllByRecursion (IsRight m) m.page.outlets
 
   pub outlets_fit : (l : Linked) (g : Firing) → linked_at k.path g.state.instances ≡ Some l → IsUnder k v scope ks left g.state → HasFired (outlets_fired k.path scope v (due_from k.serial.0 0 l.page.outlets) g)
-  outlets_fit l g at u = by_value (is_kept_true (Some v)) refl
-    where
-      by_value : (b : Bool) → is_kept_true (Some v) ≡ b → HasFired (outlets_fired k.path scope v (due_from k.serial.0 0 l.page.outlets) g)
-      by_value true calling = fired_on l g calling at u
-      by_value false off = fired_off l g off at u
+  outlets_fit l g at u =
+      let ds : List Due = due_from k.serial.0 0 l.page.outlets in
+      let cases : List Case = cases_due ds in
+      let bs : List Body = going k.serial.0 v l.page.outlets in
+      let one : (m : Linked) → linked_at k.path g.state.instances ≡ Some m → l ≡ m = λ m there. (let e : ◌≡◌ {A = Option Linked} (Some l) (Some m) = sym at ∙ there in cc) in
+      let begins : IsLeft k v scope ks left l bs g.state = record {
+        under = u;
+        going = λ m there. subst (λ (x : Linked). AllByRecursion (Goes k.serial.0 v bs) x.page.outlets) (one m there) (goes_first k.serial.0 v l.page.outlets (u.watched.linked k.path l at).once);
+        since = λ m there. subst (IsSince k v scope ks left l) (one m there) (record { serials = refl; fragment = refl; outlets = spared_first k.serial.0 v l.page.outlets });
+      } in
+      let gone_all : IsLeft k v scope ks left l [] (all_gone k.path bs g).state = under_all_gone k v scope ks left l bs g begins in
+      let emptied : IsLeft k v scope ks left l [] (outlets_emptied k.path v ds g).state =
+      subst (λ (h : Firing). IsLeft k v scope ks left l [] h.state) (sym (emptied_gone ds g ∙ ap (λ (cs : List Body). all_gone k.path cs g) (same_going k.serial.0 v 0 l.page.outlets))) gone_all in
+      let on : IsOn cases l ds (outlets_emptied k.path v ds g) = record {
+        under = emptied.under;
+        of = λ m there. of_first k.serial.0 cases v l.page.outlets m.page.outlets (emptied.since m there).outlets;
+        sites = λ m there. ((emptied.since m there).serials, (emptied.since m there).fragment);
+        ready = λ ok m there. ready_first k.serial.0 cases v l.page.outlets m.page.outlets (emptied.since m there).outlets (goes_last k.serial.0 v m.page.outlets (emptied.going m there));
+      } in
+      let end : IsOn cases l [] (outlets_filled k.path scope cases v ds (outlets_emptied k.path v ds g)) = all_on cases l ds (outlets_emptied k.path v ds g) on in
+      let those : cases ≡ cases_under l.page.serials l.fragment.outlets k.serial.0 = due_cases k.serial.0 0 l.page.serials l.fragment.outlets l.page.outlets (u.watched.linked k.path l at).outlets in
+      record {
+        under = end.under;
+        fit = λ ok m there.
+            let same = end.sites m there in
+            let now : cases ≡ cases_under m.page.serials m.fragment.outlets k.serial.0 =
+            those ∙ (ap (λ (ns : List ℕ). cases_under ns l.fragment.outlets k.serial.0) (sym same.0) ∙ ap (λ (f : Fragment). cases_under m.page.serials f.outlets k.serial.0) (sym same.1)) in
+            subst (λ (cs : List Case). AllByRecursion (λ (x : OutletState). is_filled_by k.serial.0 x ≡ true → has_bodies x.bodies ≡ calls_for cs x.filling (Some v)) m.page.outlets) now
+            (ready_last k.serial.0 cases v m.page.outlets (end.ready ok m there));
+      }
 
 -- ---- the key is no longer left out
 
@@ -169,34 +187,35 @@ module _ (k : Key) (v : ViewTree) (scope : ℕ) (ks : List Key) where
   abbrev left : list_any (is_key k) (insert_key key_cmp ks k) ≡ true
   left = told_itself ks k
 
-  calls_true : (x : OutletState) (filling : Filling) → x.filling ≡ filling → has_bodies x.bodies ≡ is_kept_true (Some v) → has_bodies x.bodies ≡ calls filling v
-  calls_true x (body_if b) e h = h
+  abbrev Right : Linked → OutletState → Type 0
+  Right m x = IsRight k v scope (insert_key key_cmp ks k) left m x
 
   one_fits : (s : State) (m : Linked) → IsUnder k v scope (insert_key key_cmp ks k) left s → linked_at k.path s.instances ≡ Some m
-      → (x : OutletState) → (is_filled_by k.serial.0 x ≡ true → has_bodies x.bodies ≡ is_kept_true (Some v)) → key_on k.path x.serial ≡ k → OutletFits s.watchers ks k.path m.page.serials x
+      → (x : OutletState) → Right m x → key_on k.path x.serial ≡ k → OutletFits s.watchers ks k.path m.page.serials m.fragment.outlets x
   one_fits s m u at x right same site w e out =
       let number : x.serial ≡ k.serial.0 = ap (λ (q : Key). q.serial.0) same in
       let kept : w.kept ≡ Some v = u.keeps m at (ap (λ (n : ℕ). list_any (is_at (nat_cmp n)) m.page.serials) (sym number) ∙ site) w (ap (λ (q : Key). found q s.watchers) (sym same) ∙ e) in
       let on : is_filled_by k.serial.0 x ≡ true = ap (λ (n : ℕ). is_at (nat_cmp n) x.serial) (sym number) ∙ number_itself x.serial in
-      subst (λ (o : Option ViewTree). CallsFor o x) (sym kept) (calls_true x x.filling refl (right on))
+      subst (λ (o : Option ViewTree). CallsFor (cases_under m.page.serials m.fragment.outlets x.serial) o x) (sym kept)
+      (right on ∙ ap (λ (n : ℕ). calls_for (cases_under m.page.serials m.fragment.outlets n) x.filling (Some v)) (sym number))
 
   all_fit : (s : State) → IsUnder k v scope (insert_key key_cmp ks k) left s
-      → ((m : Linked) → linked_at k.path s.instances ≡ Some m → AllByRecursion (λ (x : OutletState). is_filled_by k.serial.0 x ≡ true → has_bodies x.bodies ≡ is_kept_true (Some v)) m.page.outlets) → Fits ks s
+      → ((m : Linked) → linked_at k.path s.instances ≡ Some m → AllByRecursion (Right m) m.page.outlets) → Fits ks s
   all_fit s u right p m at =
-      all_both (OutletFits s.watchers (insert_key key_cmp ks k) p m.page.serials) (λ (x : OutletState). key_on p x.serial ≡ k → OutletFits s.watchers ks p m.page.serials x) (OutletFits s.watchers ks p m.page.serials) m.page.outlets
-      (λ x others at_k. by_key x others at_k (is_key (key_on p x.serial) k) refl) (u.fits p m at) (at_key m.page.outlets (λ same. subst (λ (q : List ℕ). AllByRecursion (λ (x : OutletState). key_on q x.serial ≡ k → OutletFits s.watchers ks q m.page.serials x) m.page.outlets) (sym same) (here same)))
+      all_both (OutletFits s.watchers (insert_key key_cmp ks k) p m.page.serials m.fragment.outlets) (λ (x : OutletState). key_on p x.serial ≡ k → OutletFits s.watchers ks p m.page.serials m.fragment.outlets x) (OutletFits s.watchers ks p m.page.serials m.fragment.outlets) m.page.outlets
+      (λ x others at_k. by_key x others at_k (is_key (key_on p x.serial) k) refl) (u.fits p m at) (at_key m.page.outlets (λ same. subst (λ (q : List ℕ). AllByRecursion (λ (x : OutletState). key_on q x.serial ≡ k → OutletFits s.watchers ks q m.page.serials m.fragment.outlets x) m.page.outlets) (sym same) (here same)))
     where
-      here : p ≡ k.path → AllByRecursion (λ (x : OutletState). key_on k.path x.serial ≡ k → OutletFits s.watchers ks k.path m.page.serials x) m.page.outlets
+      here : p ≡ k.path → AllByRecursion (λ (x : OutletState). key_on k.path x.serial ≡ k → OutletFits s.watchers ks k.path m.page.serials m.fragment.outlets x) m.page.outlets
       here same =
           let there : linked_at k.path s.instances ≡ Some m = ap (λ (q : List ℕ). linked_at q s.instances) (sym same) ∙ at in
-          all_map (λ (x : OutletState). is_filled_by k.serial.0 x ≡ true → has_bodies x.bodies ≡ is_kept_true (Some v)) (λ (x : OutletState). key_on k.path x.serial ≡ k → OutletFits s.watchers ks k.path m.page.serials x) m.page.outlets
+          all_map (Right m) (λ (x : OutletState). key_on k.path x.serial ≡ k → OutletFits s.watchers ks k.path m.page.serials m.fragment.outlets x) m.page.outlets
           (λ x r is. one_fits s m u there x r is) (right m there)
 
-      at_key : (xs : List OutletState) → (p ≡ k.path → AllByRecursion (λ (x : OutletState). key_on p x.serial ≡ k → OutletFits s.watchers ks p m.page.serials x) xs) → AllByRecursion (λ (x : OutletState). key_on p x.serial ≡ k → OutletFits s.watchers ks p m.page.serials x) xs
+      at_key : (xs : List OutletState) → (p ≡ k.path → AllByRecursion (λ (x : OutletState). key_on p x.serial ≡ k → OutletFits s.watchers ks p m.page.serials m.fragment.outlets x) xs) → AllByRecursion (λ (x : OutletState). key_on p x.serial ≡ k → OutletFits s.watchers ks p m.page.serials m.fragment.outlets x) xs
       at_key [] f = tt
       at_key (x ∷ xs) f = ((λ is. (f (ap (λ (q : Key). q.path) is)).0 is), at_key xs (λ e. (f e).1))
 
-      by_key : (x : OutletState) → OutletFits s.watchers (insert_key key_cmp ks k) p m.page.serials x → (key_on p x.serial ≡ k → OutletFits s.watchers ks p m.page.serials x) → (b : Bool) → is_key (key_on p x.serial) k ≡ b → OutletFits s.watchers ks p m.page.serials x
+      by_key : (x : OutletState) → OutletFits s.watchers (insert_key key_cmp ks k) p m.page.serials m.fragment.outlets x → (key_on p x.serial ≡ k → OutletFits s.watchers ks p m.page.serials m.fragment.outlets x) → (b : Bool) → is_key (key_on p x.serial) k ≡ b → OutletFits s.watchers ks p m.page.serials m.fragment.outlets x
       by_key x others at_k true is = at_k (key_is (key_on p x.serial) k is)
       by_key x others at_k false is = λ site w e out. others site w e (out_inserted ks k (key_on p x.serial) is out)
 
@@ -233,7 +252,7 @@ site_fits k v s ks site h f = by_linked (linked_at k.path s.instances) refl site
         record { watched = end.under.watched; fits = by_fault g g.faulted refl end.under (λ ok. end.fit ok) }
       where
         by_fault : (g : Firing) (b : Bool) → g.faulted ≡ b → IsUnder k v l.page.scope (insert_key key_cmp ks k) (told_itself ks k) g.state
-            → (g.faulted ≡ false → (m : Linked) → linked_at k.path g.state.instances ≡ Some m → AllByRecursion (λ (x : OutletState). is_filled_by k.serial.0 x ≡ true → has_bodies x.bodies ≡ is_kept_true (Some v)) m.page.outlets)
+            → (g.faulted ≡ false → (m : Linked) → linked_at k.path g.state.instances ≡ Some m → AllByRecursion (IsRight k v l.page.scope (insert_key key_cmp ks k) (told_itself ks k) m) m.page.outlets)
             → Fits (with_faulted k b ks) g.state
         by_fault g true e u right = u.fits
         by_fault g false e u right = all_fit k v l.page.scope ks g.state u (right e)

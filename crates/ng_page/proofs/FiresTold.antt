@@ -1,6 +1,6 @@
 -- What a fire leaves of the core, and that the fault of a fire was handed over.
 use Rattle.std.proofs.Common.{◌≡◌, ◌≤◌, ◌+◌, ◌-◌, ℕ, Bool, true, false, List, [], ◌∷◌, ◌++◌, length, length-append, cond, Option, Some, Result, Ok, Err, refl, arith}
-use Rattle.std.specs.Prelude.{is_some, nat_lt, pos}
+use Rattle.std.specs.Prelude.{◌&&◌, not, is_some, nat_lt, pos}
 use Rattle.ng_act.specs.Actions.{buried}
 use Rattle.ng_act.specs.State as act
 use Rattle.ng_act.specs.State.{Run, with_fault, with_objects, with_scopes, with_serial}
@@ -15,10 +15,10 @@ use Rattle.ng_base.specs.declared.value.Value.TheVariants.{Int}
 use Rattle.ng_behaviour.specs.ScopeObjects.{id_name, parent_name, root_name, of_object_named, with_scope_object}
 use Rattle.ng_behaviour.specs.Scopes.{Scope, path_at, object_at, live_at, with_child}
 use Rattle.ng_drawing.specs.Nodes.{node_limit}
-use Rattle.ng_drawing.specs.Template.{Fragment, Filling, body_if}
-use Rattle.ng_drawing.specs.Looks.{is_kept_true}
+use Rattle.ng_drawing.specs.Template.{Fragment}
+use Rattle.ng_drawing.specs.Cases.{Case}
 use Rattle.ng_language.specs.Objects.{new_object, set_name}
-use Rattle.ng_fire.specs.Blocks.{Firing, begins_firing, went, gone, all_gone, object_limit, child_run, faulted_with, discarded, linked_then, body_made, filled, has_bodies, outlet_fired, outlets_fired, site_fired}
+use Rattle.ng_fire.specs.Blocks.{Firing, begins_firing, went, gone, all_gone, object_limit, child_run, faulted_with, discarded, linked_then, body_made, filled, goes, outlet_emptied, outlets_emptied, cases_due, body_of, comes, outlet_filled, outlets_filled, outlets_fired, site_fired}
 use Rattle.ng_fire.specs.Changes.{changed}
 use Rattle.ng_fire.specs.Fires.{fired as fires, fire_run}
 use Rattle.ng_fire.specs.Links.{Linking, begins_linking, step_linked, steps_linked, rested_on, link_by, link_at}
@@ -146,15 +146,19 @@ on_either : (c : act.State) (b : Bool) (g h : Firing) → Onward c g → Onward 
 on_either c true g h one two = one
 on_either c false g h one two = two
 
-on_outlet : (c : act.State) (holder : List ℕ) (scope : ℕ) (v : ViewTree) (d : Due) (filling : Filling) (g : Firing) → Onward c g → Onward c (outlet_fired holder scope v d filling g)
-on_outlet c holder scope v d (body_if body) g on =
-    on_either c (is_kept_true (Some v)) (cond (has_bodies d.bodies) g (filled holder scope d.outlet (d.template, body) g)) (all_gone holder d.bodies g)
-    (on_either c (has_bodies d.bodies) g (filled holder scope d.outlet (d.template, body) g) on (on_filled c holder scope d.outlet (d.template, body) g on))
-    (on_all_gone c holder d.bodies g on)
+on_emptied : (c : act.State) (holder : List ℕ) (v : ViewTree) (ds : List Due) (g : Firing) → Onward c g → Onward c (outlets_emptied holder v ds g)
+on_emptied c holder v [] g on = on
+on_emptied c holder v (d ∷ ds) g on =
+    on_emptied c holder v ds (outlet_emptied holder v d g) (on_either c (goes d.filling v) (all_gone holder d.bodies g) g (on_all_gone c holder d.bodies g on) on)
+
+on_come : (c : act.State) (holder : List ℕ) (scope : ℕ) (cases : List Case) (v : ViewTree) (ds : List Due) (g : Firing) → Onward c g → Onward c (outlets_filled holder scope cases v ds g)
+on_come c holder scope cases v [] g on = on
+on_come c holder scope cases v (d ∷ ds) g on =
+    on_come c holder scope cases v ds (outlet_filled holder scope cases v d g)
+    (on_either c (comes cases v d && not g.faulted) (filled holder scope d.outlet (d.template, body_of d.filling) g) g (on_filled c holder scope d.outlet (d.template, body_of d.filling) g on) on)
 
 on_outlets : (c : act.State) (holder : List ℕ) (scope : ℕ) (v : ViewTree) (ds : List Due) (g : Firing) → Onward c g → Onward c (outlets_fired holder scope v ds g)
-on_outlets c holder scope v [] g on = on
-on_outlets c holder scope v (d ∷ ds) g on = on_outlets c holder scope v ds (outlet_fired holder scope v d d.filling g) (on_outlet c holder scope v d d.filling g on)
+on_outlets c holder scope v ds g on = on_come c holder scope (cases_due ds) v ds (outlets_emptied holder v ds g) (on_emptied c holder v ds g on)
 
 site_onward : (k : Key) (v : ViewTree) (s : State) → Onward s.core (site_fired k v s)
 site_onward k v s =

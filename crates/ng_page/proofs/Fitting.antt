@@ -8,6 +8,7 @@ use Rattle.std.specs.List.{AllByRecursion, list_any}
 use Rattle.std.specs.Ordering.{nat_cmp}
 use Rattle.ng_base.specs.Views.{ViewTree}
 use Rattle.ng_base.specs.declared.path.Key.{Key}
+use Rattle.ng_drawing.specs.Template.{Outlet}
 use Rattle.ng_fire.specs.Settling.{unset_all}
 use Rattle.ng_link.specs.Calls.{keeping_at, fills_any, is_drawn_in, is_drawn, unset_at}
 use Rattle.ng_link.specs.Instances.{OutletState, Linked, linked_at, is_filled_by, is_site_of, is_site}
@@ -19,7 +20,7 @@ use Rattle.ng_watch.specs.Keys.{key_cmp, is_key}
 use Rattle.ng_watch.specs.Seen.{Watcher}
 use Rattle.ng_watch.specs.Table.{Table, found, keeping, with_kept}
 use Rattle.ng_page.specs.PageLaws.{told_itself, told_still}
-use Rattle.ng_page.specs.Settled.{CallsFor, OutletFits, Fits}
+use Rattle.ng_page.specs.Settled.{cases_under, CallsFor, OutletFits, Fits}
 use Rattle.ng_page.proofs.Sites.{InKeys, SitesStay}
 use Rattle.ng_page.proofs.Watched.{all_map, all_both, site_there}
 
@@ -31,17 +32,17 @@ IsOut ks k = list_any (is_key k) ks ≡ false
 pub fits_stays : (s t : State) (ks : List Key) → SitesStay s t → InKeys s.watchers → Fits ks s → Fits ks t
 fits_stays s t ks stay keys h p l at =
     let here : linked_at p s.instances ≡ Some l = ap (linked_at p) (sym stay.instances) ∙ at in
-    all_map (OutletFits s.watchers ks p l.page.serials) (OutletFits t.watchers ks p l.page.serials) l.page.outlets
+    all_map (OutletFits s.watchers ks p l.page.serials l.fragment.outlets) (OutletFits t.watchers ks p l.page.serials l.fragment.outlets) l.page.outlets
     (λ x fit site w e out. fit site w (stay.found keys (key_on p x.serial) w (site_there s.instances p l x.serial here site) e) out) (h p l here)
 
 -- where fewer may differ
 pub fits_fewer : (s : State) (ks js : List Key) → ((k : Key) → IsOut js k → IsOut ks k) → Fits ks s → Fits js s
-fits_fewer s ks js out h p l at = all_map (OutletFits s.watchers ks p l.page.serials) (OutletFits s.watchers js p l.page.serials) l.page.outlets (λ x fit site w e n. fit site w e (out (key_on p x.serial) n)) (h p l at)
+fits_fewer s ks js out h p l at = all_map (OutletFits s.watchers ks p l.page.serials l.fragment.outlets) (OutletFits s.watchers js p l.page.serials l.fragment.outlets) l.page.outlets (λ x fit site w e n. fit site w e (out (key_on p x.serial) n)) (h p l at)
 
 -- a watcher keeps something: another key's block has what it had
 pub fits_kept : (j : Key) (o : Option ViewTree) (s : State) (ks js : List Key) → ((k : Key) → is_site s.instances k ≡ true → IsOut js k → (k ≡ j → ⊥) × IsOut ks k) → Fits ks s → Fits js (record s { watchers = with_kept j o s.watchers })
 fits_kept j o s ks js other h p l at =
-    all_map (OutletFits s.watchers ks p l.page.serials) (OutletFits (with_kept j o s.watchers) js p l.page.serials) l.page.outlets
+    all_map (OutletFits s.watchers ks p l.page.serials l.fragment.outlets) (OutletFits (with_kept j o s.watchers) js p l.page.serials l.fragment.outlets) l.page.outlets
     (λ x fit site w e out. let two = other (key_on p x.serial) (site_there s.instances p l x.serial at site) out in fit site w (sym (kept-other j (key_on p x.serial) o s.watchers two.0) ∙ e) two.1) (h p l at)
 
 both_out : (b c : Bool) → (b || c) ≡ false → (b ≡ false) × (c ≡ false)
@@ -122,24 +123,24 @@ fits_unset k s ks h = by_drawn (is_drawn s k) refl
   where
     drawn : is_drawn s k ≡ true → Fits ks s
     drawn d p l at =
-        all_both (OutletFits s.watchers (k ∷ ks) p l.page.serials) (IsOther k p) (OutletFits s.watchers ks p l.page.serials) l.page.outlets
+        all_both (OutletFits s.watchers (k ∷ ks) p l.page.serials l.fragment.outlets) (IsOther k p) (OutletFits s.watchers ks p l.page.serials l.fragment.outlets) l.page.outlets
         (λ x fit other site w e out. fit site w e (ap (λ (b : Bool). b || list_any (is_key (key_on p x.serial)) ks) (other_key (key_on p x.serial) k (λ same. other (sym same))) ∙ out))
         (h p l at)
         (each_other k p l.page.outlets (λ same. none_filled k p l.page.outlets (drawn_free (linked_at k.path s.instances) k l d (ap (λ (q : List ℕ). linked_at q s.instances) (sym same) ∙ at))))
 
-    one : (p serials : List ℕ) (x : OutletState) → OutletFits s.watchers (k ∷ ks) p serials x → (b : Bool) → is_key (key_on p x.serial) k ≡ b → OutletFits (with_kept k None s.watchers) ks p serials x
-    one p serials x fit true is site w e out =
+    one : (p serials : List ℕ) (os : List Outlet) (x : OutletState) → OutletFits s.watchers (k ∷ ks) p serials os x → (b : Bool) → is_key (key_on p x.serial) k ≡ b → OutletFits (with_kept k None s.watchers) ks p serials os x
+    one p serials os x fit true is site w e out =
         let same : key_on p x.serial ≡ k = key_is (key_on p x.serial) k is in
         let none : w.kept ≡ None = kept_here k None s.watchers w (ap (λ (q : Key). found q (with_kept k None s.watchers)) (sym same) ∙ e) in
-        subst (λ (o : Option ViewTree). CallsFor o x) (sym none) tt
-    one p serials x fit false is site w e out =
+        subst (λ (o : Option ViewTree). CallsFor (cases_under serials os x.serial) o x) (sym none) tt
+    one p serials os x fit false is site w e out =
         let other : key_on p x.serial ≡ k → ⊥ = λ same. let two : true ≡ false = sym (same_key k) ∙ (ap (λ (q : Key). is_key q k) (sym same) ∙ is) in absurd (cc) in
         fit site w (sym (kept-other k (key_on p x.serial) None s.watchers other) ∙ e) (ap (λ (b : Bool). b || list_any (is_key (key_on p x.serial)) ks) is ∙ out)
 
     by_drawn : (b : Bool) → is_drawn s k ≡ b → Fits ks (cond b s (record s { watchers = with_kept k None s.watchers }))
     by_drawn true d = drawn d
     by_drawn false d = λ p l at.
-        all_map (OutletFits s.watchers (k ∷ ks) p l.page.serials) (OutletFits (with_kept k None s.watchers) ks p l.page.serials) l.page.outlets (λ x fit. one p l.page.serials x fit (is_key (key_on p x.serial) k) refl) (h p l at)
+        all_map (OutletFits s.watchers (k ∷ ks) p l.page.serials l.fragment.outlets) (OutletFits (with_kept k None s.watchers) ks p l.page.serials l.fragment.outlets) l.page.outlets (λ x fit. one p l.page.serials l.fragment.outlets x fit (is_key (key_on p x.serial) k) refl) (h p l at)
 
 pub fits_unset_all : (ks : List Key) (s : State) → Fits ks s → Fits [] (unset_all ks s)
 fits_unset_all [] s h = h

@@ -1,20 +1,18 @@
--- The bodies of the outlets that a site fills, one after another.
-use Rattle.std.proofs.Common.{◌≡◌, ◌⊎◌, inl, inr, ◌≤◌, ◌<◌, ◌+◌, ℕ, zero, suc, Bool, true, false, List, [], ◌∷◌, ◌++◌, cond, Some, refl, ap, sym, ◌∙◌, arith, slice_get}
-use Rattle.std.specs.Prelude.{◌||◌, ◌&&◌, ◌==◌, not}
+-- The bodies that go at the fire of a site, one after another.
+use Rattle.std.proofs.Common.{◌≡◌, ◌≤◌, ◌<◌, ◌+◌, ℕ, zero, suc, Bool, true, false, List, [], ◌∷◌, ◌++◌, cond, Some, refl, ap, sym, subst, ◌∙◌, arith, slice_get}
+use Rattle.std.specs.Prelude.{◌||◌, ◌&&◌, not}
+use Rattle.std.specs.BTreeMap.{is_at}
 use Rattle.std.specs.List.{AllByRecursion, list_any, filter}
-use Rattle.std.proofs.lemmas.Bool.{eqb-true, eq-eqb}
-use Rattle.ng_fire.specs.Blocks.{has_bodies}
+use Rattle.std.specs.Ordering.{nat_cmp}
+use Rattle.ng_base.specs.Views.{ViewTree}
+use Rattle.ng_drawing.specs.Template.{Filling}
+use Rattle.ng_fire.specs.Blocks.{has_bodies, goes}
 use Rattle.ng_link.specs.Due.{Due, due_at, due_from}
-use Rattle.ng_link.specs.Instances.{Body, OutletState, is_path, is_filled_by, with_body, body_added, without_body, body_gone}
+use Rattle.ng_link.specs.Instances.{Body, OutletState, is_path, is_filled_by, without_body, body_gone}
 use Rattle.ng_link.specs.Standing.{body_count, held_count}
 use Rattle.ng_link.proofs.Paths.{same_path}
-use Rattle.ng_page.proofs.Bodies.{all_mapped, gone_within}
+use Rattle.ng_page.proofs.Bodies.{all_mapped, gone_within, filter_none}
 use Rattle.ng_page.proofs.Watched.{all_map, all_both}
-
--- the bodies of these outlets
-abbrev pub due_bodies : List Due → List Body
-due_bodies [] = []
-due_bodies (d ∷ ds) = d.bodies ++ due_bodies ds
 
 -- whether a path is that of one of these bodies
 abbrev pub is_among : List Body → List ℕ → Bool
@@ -55,78 +53,90 @@ all_counted (b ∷ bs) = (
   all_map (λ (c : Body). 0 < body_count c.path bs) (λ (c : Body). 0 < body_count c.path (b ∷ bs)) bs (λ c lt. omega (arith, lt)) (all_counted bs),
 )
 
--- ---- the outlets of a site, by its number of registration
+pub at_place : (P : OutletState → Type 0) (xs : List OutletState) (j : ℕ) (x : OutletState) → AllByRecursion P xs → slice_get xs j ≡ Some x → P x
+at_place P [] j x all at = absurd (cc)
+at_place P (y ∷ xs) zero x all at = let same : y ≡ x = cc in subst P same all.0
+at_place P (y ∷ xs) (suc j) x all at = at_place P xs j x all.1 at
 
-module _ (n : ℕ) where
+-- ---- the outlets of a site, by its number of registration, whose bodies go at a value
+
+module _ (n : ℕ) (v : ViewTree) where
+  abbrev pub leaves : OutletState → Bool
+  leaves x = is_filled_by n x && goes x.filling v
+
+  -- the bodies that go
+  abbrev pub going : List OutletState → List Body
+  going [] = []
+  going (x ∷ xs) = cond (leaves x) (x.bodies ++ going xs) (going xs)
+
   -- how many bodies on a path these outlets have
   abbrev filled_count : List ℕ → List OutletState → ℕ
   filled_count p [] = 0
-  filled_count p (x ∷ xs) = cond {A = ℕ} (is_filled_by n x) (body_count p x.bodies) 0 + filled_count p xs
+  filled_count p (x ∷ xs) = cond {A = ℕ} (leaves x) (body_count p x.bodies) 0 + filled_count p xs
 
   filled_held : (p : List ℕ) (xs : List OutletState) → filled_count p xs ≤ held_count p xs
   filled_held p [] = omega arith
-  filled_held p (x ∷ xs) = by_test (is_filled_by n x) (filled_held p xs)
+  filled_held p (x ∷ xs) = by_test (leaves x) (filled_held p xs)
     where
       by_test : (t : Bool) → filled_count p xs ≤ held_count p xs → cond {A = ℕ} t (body_count p x.bodies) 0 + filled_count p xs ≤ held_count p (x ∷ xs)
       by_test true more = omega (arith, more)
       by_test false more = omega (arith, more)
 
   -- a path that one of them has, no other outlet has
-  others_none : (p : List ℕ) (xs : List OutletState) → held_count p xs ≤ 1 → 0 < filled_count p xs → AllByRecursion (λ (x : OutletState). is_filled_by n x ≡ false → body_count p x.bodies ≡ 0) xs
+  others_none : (p : List ℕ) (xs : List OutletState) → held_count p xs ≤ 1 → 0 < filled_count p xs → AllByRecursion (λ (x : OutletState). leaves x ≡ false → body_count p x.bodies ≡ 0) xs
   others_none p [] one some = tt
-  others_none p (x ∷ xs) one some = by_test (is_filled_by n x) some (others_none p xs) (filled_held p xs)
+  others_none p (x ∷ xs) one some = by_test (leaves x) some (others_none p xs) (filled_held p xs)
     where
-      none_further : (xs : List OutletState) → held_count p xs ≡ 0 → AllByRecursion (λ (x : OutletState). is_filled_by n x ≡ false → body_count p x.bodies ≡ 0) xs
+      none_further : (xs : List OutletState) → held_count p xs ≡ 0 → AllByRecursion (λ (x : OutletState). leaves x ≡ false → body_count p x.bodies ≡ 0) xs
       none_further [] e = tt
       none_further (x ∷ xs) e = ((λ off. omega (arith, e)), none_further xs (omega (arith, e)))
 
-      by_test : (t : Bool) → 0 < cond {A = ℕ} t (body_count p x.bodies) 0 + filled_count p xs → (held_count p xs ≤ 1 → 0 < filled_count p xs → AllByRecursion (λ (x : OutletState). is_filled_by n x ≡ false → body_count p x.bodies ≡ 0) xs)
-          → filled_count p xs ≤ held_count p xs → (t ≡ false → body_count p x.bodies ≡ 0) × AllByRecursion (λ (x : OutletState). is_filled_by n x ≡ false → body_count p x.bodies ≡ 0) xs
+      by_test : (t : Bool) → 0 < cond {A = ℕ} t (body_count p x.bodies) 0 + filled_count p xs → (held_count p xs ≤ 1 → 0 < filled_count p xs → AllByRecursion (λ (x : OutletState). leaves x ≡ false → body_count p x.bodies ≡ 0) xs)
+          → filled_count p xs ≤ held_count p xs → (t ≡ false → body_count p x.bodies ≡ 0) × AllByRecursion (λ (x : OutletState). leaves x ≡ false → body_count p x.bodies ≡ 0) xs
       by_test true some more held = ((λ off. absurd (cc)), by_count (filled_count p xs) refl)
         where
-          by_count : (c : ℕ) → filled_count p xs ≡ c → AllByRecursion (λ (x : OutletState). is_filled_by n x ≡ false → body_count p x.bodies ≡ 0) xs
+          by_count : (c : ℕ) → filled_count p xs ≡ c → AllByRecursion (λ (x : OutletState). leaves x ≡ false → body_count p x.bodies ≡ 0) xs
           by_count zero e = none_further xs (omega (arith, some, e, one, held))
           by_count (suc c) e = more (omega (arith, one)) (omega (arith, e))
       by_test false some more held = ((λ off. omega (arith, some, one, held)), more (omega (arith, one)) (omega (arith, some)))
 
   -- each body of theirs is counted
-  dues_counted : (i : ℕ) (xs : List OutletState) → AllByRecursion (λ (b : Body). 0 < filled_count b.path xs) (due_bodies (due_from n i xs))
-  dues_counted i [] = tt
-  dues_counted i (x ∷ xs) = by_test (is_filled_by n x) (dues_counted (i + 1) xs)
+  going_counted : (xs : List OutletState) → AllByRecursion (λ (b : Body). 0 < filled_count b.path xs) (going xs)
+  going_counted [] = tt
+  going_counted (x ∷ xs) = by_test (leaves x) (going_counted xs)
     where
-      by_test : (t : Bool) → AllByRecursion (λ (b : Body). 0 < filled_count b.path xs) (due_bodies (due_from n (i + 1) xs))
-          → AllByRecursion (λ (b : Body). 0 < cond {A = ℕ} t (body_count b.path x.bodies) 0 + filled_count b.path xs) (due_bodies (cond t (due_at i x ∷ due_from n (i + 1) xs) (due_from n (i + 1) xs)))
+      by_test : (t : Bool) → AllByRecursion (λ (b : Body). 0 < filled_count b.path xs) (going xs)
+          → AllByRecursion (λ (b : Body). 0 < cond {A = ℕ} t (body_count b.path x.bodies) 0 + filled_count b.path xs) (cond t (x.bodies ++ going xs) (going xs))
       by_test true more =
-          all_append (λ (b : Body). 0 < body_count b.path x.bodies + filled_count b.path xs) x.bodies (due_bodies (due_from n (i + 1) xs))
+          all_append (λ (b : Body). 0 < body_count b.path x.bodies + filled_count b.path xs) x.bodies (going xs)
           (all_map (λ (b : Body). 0 < body_count b.path x.bodies) (λ (b : Body). 0 < body_count b.path x.bodies + filled_count b.path xs) x.bodies (λ b lt. omega (arith, lt)) (all_counted x.bodies))
-          (all_map (λ (b : Body). 0 < filled_count b.path xs) (λ (b : Body). 0 < body_count b.path x.bodies + filled_count b.path xs) (due_bodies (due_from n (i + 1) xs)) (λ b lt. omega (arith, lt)) more)
-      by_test false more = all_map (λ (b : Body). 0 < filled_count b.path xs) (λ (b : Body). 0 < 0 + filled_count b.path xs) (due_bodies (due_from n (i + 1) xs)) (λ b lt. omega (arith, lt)) more
+          (all_map (λ (b : Body). 0 < filled_count b.path xs) (λ (b : Body). 0 < body_count b.path x.bodies + filled_count b.path xs) (going xs) (λ b lt. omega (arith, lt)) more)
+      by_test false more = all_map (λ (b : Body). 0 < filled_count b.path xs) (λ (b : Body). 0 < 0 + filled_count b.path xs) (going xs) (λ b lt. omega (arith, lt)) more
 
   -- and each body of theirs is among them
-  dues_among : (i : ℕ) (xs : List OutletState) → AllByRecursion (λ (x : OutletState). is_filled_by n x ≡ true → AllByRecursion (λ (b : Body). is_among (due_bodies (due_from n i xs)) b.path ≡ true) x.bodies) xs
-  dues_among i [] = tt
-  dues_among i (x ∷ xs) = by_test (is_filled_by n x) (dues_among (i + 1) xs)
+  going_among : (xs : List OutletState) → AllByRecursion (λ (x : OutletState). leaves x ≡ true → AllByRecursion (λ (b : Body). is_among (going xs) b.path ≡ true) x.bodies) xs
+  going_among [] = tt
+  going_among (x ∷ xs) = by_test (leaves x) (going_among xs)
     where
-      Among : List Due → OutletState → Type 0
-      Among ds y = is_filled_by n y ≡ true → AllByRecursion (λ (b : Body). is_among (due_bodies ds) b.path ≡ true) y.bodies
+      Among : List Body → OutletState → Type 0
+      Among bs y = leaves y ≡ true → AllByRecursion (λ (b : Body). is_among bs b.path ≡ true) y.bodies
 
-      further : (bs : List Body) (ds : List Due) (y : OutletState) → Among ds y → is_filled_by n y ≡ true → AllByRecursion (λ (b : Body). is_among (bs ++ due_bodies ds) b.path ≡ true) y.bodies
-      further bs ds y h on = all_map (λ (b : Body). is_among (due_bodies ds) b.path ≡ true) (λ (b : Body). is_among (bs ++ due_bodies ds) b.path ≡ true) y.bodies (λ b e. any_right (λ (d : Body). is_path d.path b.path) bs (due_bodies ds) e) (h on)
+      further : (bs cs : List Body) (y : OutletState) → Among cs y → leaves y ≡ true → AllByRecursion (λ (b : Body). is_among (bs ++ cs) b.path ≡ true) y.bodies
+      further bs cs y h on = all_map (λ (b : Body). is_among cs b.path ≡ true) (λ (b : Body). is_among (bs ++ cs) b.path ≡ true) y.bodies (λ b e. any_right (λ (d : Body). is_path d.path b.path) bs cs e) (h on)
 
-      by_test : (t : Bool) → AllByRecursion (Among (due_from n (i + 1) xs)) xs
-          → (t ≡ true → AllByRecursion (λ (b : Body). is_among (due_bodies (cond t (due_at i x ∷ due_from n (i + 1) xs) (due_from n (i + 1) xs))) b.path ≡ true) x.bodies)
-          × AllByRecursion (Among (cond t (due_at i x ∷ due_from n (i + 1) xs) (due_from n (i + 1) xs))) xs
+      by_test : (t : Bool) → AllByRecursion (Among (going xs)) xs
+          → (t ≡ true → AllByRecursion (λ (b : Body). is_among (cond t (x.bodies ++ going xs) (going xs)) b.path ≡ true) x.bodies) × AllByRecursion (Among (cond t (x.bodies ++ going xs) (going xs))) xs
       by_test true more = (
-        (λ on. all_map (λ (b : Body). is_among x.bodies b.path ≡ true) (λ (b : Body). is_among (x.bodies ++ due_bodies (due_from n (i + 1) xs)) b.path ≡ true) x.bodies (λ b e. any_left (λ (d : Body). is_path d.path b.path) x.bodies (due_bodies (due_from n (i + 1) xs)) e) (all_among x.bodies)),
-        all_map (Among (due_from n (i + 1) xs)) (Among (due_at i x ∷ due_from n (i + 1) xs)) xs (λ y h. further x.bodies (due_from n (i + 1) xs) y h) more,
+        (λ on. all_map (λ (b : Body). is_among x.bodies b.path ≡ true) (λ (b : Body). is_among (x.bodies ++ going xs) b.path ≡ true) x.bodies (λ b e. any_left (λ (d : Body). is_path d.path b.path) x.bodies (going xs) e) (all_among x.bodies)),
+        all_map (Among (going xs)) (Among (x.bodies ++ going xs)) xs (λ y h. further x.bodies (going xs) y h) more,
       )
       by_test false more = ((λ on. absurd (cc)), more)
 
   -- ---- bodies that are to go: these outlets have no other, and no other outlet has one of them
 
   pub record Goes (bs : List Body) (x : OutletState) : Type 0 where
-    pub among : is_filled_by n x ≡ true → AllByRecursion (λ (b : Body). is_among bs b.path ≡ true) x.bodies
-    pub apart : is_filled_by n x ≡ false → AllByRecursion (λ (b : Body). body_count b.path x.bodies ≡ 0) bs
+    pub among : leaves x ≡ true → AllByRecursion (λ (b : Body). is_among bs b.path ≡ true) x.bodies
+    pub apart : leaves x ≡ false → AllByRecursion (λ (b : Body). body_count b.path x.bodies ≡ 0) bs
 
   -- what holds for each of these of each of those holds for each of those of each of these
   all_turned : (R : Body → OutletState → Type 0) (bs : List Body) (xs : List OutletState) → AllByRecursion (λ (b : Body). AllByRecursion (R b) xs) bs → AllByRecursion (λ (x : OutletState). AllByRecursion (λ (b : Body). R b x) bs) xs
@@ -134,18 +144,18 @@ module _ (n : ℕ) where
   all_turned R [] (x ∷ xs) h = (tt, all_turned R [] xs tt)
   all_turned R (b ∷ bs) xs h = all_both (R b) (λ (x : OutletState). AllByRecursion (λ (c : Body). R c x) bs) (λ (x : OutletState). R b x × AllByRecursion (λ (c : Body). R c x) bs) xs (λ x one more. (one, more)) h.0 (all_turned R bs xs h.1)
 
-  pub goes_first : (xs : List OutletState) → ((q : List ℕ) → held_count q xs ≤ 1) → AllByRecursion (Goes (due_bodies (due_from n 0 xs))) xs
+  pub goes_first : (xs : List OutletState) → ((q : List ℕ) → held_count q xs ≤ 1) → AllByRecursion (Goes (going xs)) xs
   goes_first xs once =
-      all_both (λ (x : OutletState). is_filled_by n x ≡ true → AllByRecursion (λ (b : Body). is_among (due_bodies (due_from n 0 xs)) b.path ≡ true) x.bodies)
-      (λ (x : OutletState). AllByRecursion (λ (b : Body). is_filled_by n x ≡ false → body_count b.path x.bodies ≡ 0) (due_bodies (due_from n 0 xs)))
-      (Goes (due_bodies (due_from n 0 xs))) xs
+      all_both (λ (x : OutletState). leaves x ≡ true → AllByRecursion (λ (b : Body). is_among (going xs) b.path ≡ true) x.bodies)
+      (λ (x : OutletState). AllByRecursion (λ (b : Body). leaves x ≡ false → body_count b.path x.bodies ≡ 0) (going xs))
+      (Goes (going xs)) xs
       (λ x one two. record {
         among = one;
-        apart = λ off. all_map (λ (b : Body). is_filled_by n x ≡ false → body_count b.path x.bodies ≡ 0) (λ (b : Body). body_count b.path x.bodies ≡ 0) (due_bodies (due_from n 0 xs)) (λ b f. f off) two;
+        apart = λ off. all_map (λ (b : Body). leaves x ≡ false → body_count b.path x.bodies ≡ 0) (λ (b : Body). body_count b.path x.bodies ≡ 0) (going xs) (λ b f. f off) two;
       })
-      (dues_among 0 xs)
-      (all_turned (λ (b : Body) (x : OutletState). is_filled_by n x ≡ false → body_count b.path x.bodies ≡ 0) (due_bodies (due_from n 0 xs)) xs
-      (all_map (λ (b : Body). 0 < filled_count b.path xs) (λ (b : Body). AllByRecursion (λ (x : OutletState). is_filled_by n x ≡ false → body_count b.path x.bodies ≡ 0) xs) (due_bodies (due_from n 0 xs)) (λ b some. others_none b.path xs (once b.path) some) (dues_counted 0 xs)))
+      (going_among xs)
+      (all_turned (λ (b : Body) (x : OutletState). leaves x ≡ false → body_count b.path x.bodies ≡ 0) (going xs) xs
+      (all_map (λ (b : Body). 0 < filled_count b.path xs) (λ (b : Body). AllByRecursion (λ (x : OutletState). leaves x ≡ false → body_count b.path x.bodies ≡ 0) xs) (going xs) (λ b some. others_none b.path xs (once b.path) some) (going_counted xs)))
 
   -- one goes
   fewer_among : (p : List ℕ) (b : Body) (bs cs : List Body) → p ≡ b.path → AllByRecursion (λ (c : Body). is_among (b ∷ bs) c.path ≡ true) cs → AllByRecursion (λ (c : Body). is_among bs c.path ≡ true) (filter (λ (c : Body). not (is_path p c.path)) cs)
@@ -171,128 +181,57 @@ module _ (n : ℕ) where
   none_there [] all = refl
   none_there (b ∷ bs) all = let two : false ≡ true = all.0 in absurd (cc)
 
-  pub goes_last : (xs : List OutletState) → AllByRecursion (Goes []) xs → AllByRecursion (λ (x : OutletState). is_filled_by n x ≡ true → has_bodies x.bodies ≡ false) xs
-  goes_last xs all = all_map (Goes []) (λ (x : OutletState). is_filled_by n x ≡ true → has_bodies x.bodies ≡ false) xs (λ x h on. none_there x.bodies (h.among on)) all
+  pub goes_last : (xs : List OutletState) → AllByRecursion (Goes []) xs → AllByRecursion (λ (x : OutletState). leaves x ≡ true → has_bodies x.bodies ≡ false) xs
+  goes_last xs all = all_map (Goes []) (λ (x : OutletState). leaves x ≡ true → has_bodies x.bodies ≡ false) xs (λ x h on. none_there x.bodies (h.among on)) all
 
-  -- ---- outlets that are to get a body: an outlet of the site that has none is still due
+  -- ---- what has become of outlets: an outlet whose bodies don't go has what it had
 
-  abbrev is_due : ℕ → List Due → Bool
-  is_due j ds = list_any (λ (d : Due). (d.outlet == j) && not (has_bodies d.bodies)) ds
+  pub record IsSpared (x y : OutletState) : Type 0 where
+    pub serial : y.serial ≡ x.serial
+    pub filling : y.filling ≡ x.filling
+    pub bodies : leaves x ≡ false → y.bodies ≡ x.bodies
 
-  abbrev pub AreReady : List Due → List OutletState → Type 0
-  AreReady ds xs = (j : ℕ) (x : OutletState) → slice_get xs j ≡ Some x → is_filled_by n x ≡ true → has_bodies x.bodies ≡ false → is_due j ds ≡ true
+  abbrev pub AreSpared : List OutletState → List OutletState → Type 0
+  AreSpared xs ys = (j : ℕ) (y : OutletState) → slice_get ys j ≡ Some y → (x : OutletState) × (slice_get xs j ≡ Some x) × IsSpared x y
 
-  -- those that are due are the site's
-  abbrev pub AreOfSite : List Due → List OutletState → Type 0
-  AreOfSite ds xs = AllByRecursion (λ (d : Due). (x : OutletState) → slice_get xs d.outlet ≡ Some x → is_filled_by n x ≡ true) ds
+  pub spared_first : (xs : List OutletState) → AreSpared xs xs
+  spared_first xs j y at = (y, at, record { serial = refl; filling = refl; bodies = λ off. refl })
 
-  ready_from : (i : ℕ) (xs : List OutletState) (j : ℕ) (x : OutletState) → slice_get xs j ≡ Some x → is_filled_by n x ≡ true → has_bodies x.bodies ≡ false → is_due (i + j) (due_from n i xs) ≡ true
-  ready_from i [] j x at on none = absurd (cc)
-  ready_from i (y ∷ xs) zero x at on none =
-      let same : y ≡ x = cc in
-      let here : is_filled_by n y ≡ true = ap (is_filled_by n) same ∙ on in
-      let empty : has_bodies y.bodies ≡ false = ap (λ (z : OutletState). has_bodies z.bodies) same ∙ none in
-      ap (λ (t : Bool). is_due (i + 0) (cond t (due_at i y ∷ due_from n (i + 1) xs) (due_from n (i + 1) xs))) here
-      ∙ (ap (λ (t : Bool). ((i == i + 0) && not t) || is_due (i + 0) (due_from n (i + 1) xs)) empty
-      ∙ ap (λ (t : Bool). (t && true) || is_due (i + 0) (due_from n (i + 1) xs)) (eq-eqb i (i + 0) (omega arith)))
-  ready_from i (y ∷ xs) (suc j) x at on none =
-      let more : is_due (i + suc j) (due_from n (i + 1) xs) ≡ true = ap (λ (k : ℕ). is_due k (due_from n (i + 1) xs)) (let e : i + suc j ≡ i + 1 + j = omega arith in e) ∙ ready_from (i + 1) xs j x at on none in
-      by_test (is_filled_by n y) more
+  same_leaves : (x y : OutletState) → y.serial ≡ x.serial → y.filling ≡ x.filling → leaves y ≡ leaves x
+  same_leaves x y serial filling = ap (λ (m : ℕ). is_at (nat_cmp n) m && goes y.filling v) serial ∙ ap (λ (f : Filling). is_at (nat_cmp n) x.serial && goes f v) filling
+
+  gone_place : (p : List ℕ) (ys : List OutletState) (j : ℕ) (z : OutletState) → slice_get (body_gone p ys) j ≡ Some z → (y : OutletState) × (slice_get ys j ≡ Some y) × (z ≡ without_body p y)
+  gone_place p [] j z at = absurd (cc)
+  gone_place p (y ∷ ys) zero z at = (y, refl, let same : without_body p y ≡ z = cc in sym same)
+  gone_place p (y ∷ ys) (suc j) z at = gone_place p ys j z at
+
+  pub spared_on : (b : Body) (bs : List Body) (xs ys : List OutletState) → AllByRecursion (Goes (b ∷ bs)) ys → AreSpared xs ys → AreSpared xs (body_gone b.path ys)
+  spared_on b bs xs ys all h j z at = by_place (gone_place b.path ys j z at)
     where
-      or_more : (b c : Bool) → c ≡ true → (b || c) ≡ true
-      or_more true c e = refl
-      or_more false c e = e
+      by_place : (y : OutletState) × (slice_get ys j ≡ Some y) × (z ≡ without_body b.path y) → (x : OutletState) × (slice_get xs j ≡ Some x) × IsSpared x z
+      by_place (y, get, same) =
+          let was = h j y get in
+          let g : Goes (b ∷ bs) y = at_place (Goes (b ∷ bs)) ys j y all get in (
+            was.0,
+            was.1,
+            record {
+              serial = ap (λ (o : OutletState). o.serial) same ∙ was.2.serial;
+              filling = ap (λ (o : OutletState). o.filling) same ∙ was.2.filling;
+              bodies = λ off. ap (λ (o : OutletState). o.bodies) same ∙ (filter_none b.path y.bodies (g.apart (same_leaves was.0 y was.2.serial was.2.filling ∙ off)).0 ∙ was.2.bodies off);
+            },
+          )
 
-      by_test : (t : Bool) → is_due (i + suc j) (due_from n (i + 1) xs) ≡ true → is_due (i + suc j) (cond t (due_at i y ∷ due_from n (i + 1) xs) (due_from n (i + 1) xs)) ≡ true
-      by_test true more = or_more _ (is_due (i + suc j) (due_from n (i + 1) xs)) more
+  -- ---- the same of outlets that are due
+
+  abbrev pub due_going : List Due → List Body
+  due_going [] = []
+  due_going (d ∷ ds) = cond (goes d.filling v) (d.bodies ++ due_going ds) (due_going ds)
+
+  pub same_going : (i : ℕ) (xs : List OutletState) → due_going (due_from n i xs) ≡ going xs
+  same_going i [] = refl
+  same_going i (x ∷ xs) = by_test (is_filled_by n x) (same_going (i + 1) xs)
+    where
+      by_test : (t : Bool) → due_going (due_from n (i + 1) xs) ≡ going xs
+          → due_going (cond t (due_at i x ∷ due_from n (i + 1) xs) (due_from n (i + 1) xs)) ≡ cond (t && goes x.filling v) (x.bodies ++ going xs) (going xs)
+      by_test true more = ap (λ (bs : List Body). cond (goes x.filling v) (x.bodies ++ bs) bs) more
       by_test false more = more
-
-  pub ready_first : (xs : List OutletState) → AreReady (due_from n 0 xs) xs
-  ready_first xs j x at on none = ap (λ (k : ℕ). is_due k (due_from n 0 xs)) (let e : j ≡ 0 + j = omega arith in e) ∙ ready_from 0 xs j x at on none
-
-  -- from a place on
-  abbrev OfSiteFrom : ℕ → List OutletState → Due → Type 0
-  OfSiteFrom i xs d = (i ≤ d.outlet) × ((j : ℕ) (x : OutletState) → d.outlet ≡ i + j → slice_get xs j ≡ Some x → is_filled_by n x ≡ true)
-
-  later_of : (i : ℕ) (y : OutletState) (xs : List OutletState) (d : Due) → OfSiteFrom (i + 1) xs d → OfSiteFrom i (y ∷ xs) d
-  later_of i y xs d h = ((let le = h.0 in omega (arith, le)), at)
-    where
-      at : (j : ℕ) (x : OutletState) → d.outlet ≡ i + j → slice_get (y ∷ xs) j ≡ Some x → is_filled_by n x ≡ true
-      at zero x e get = absurd (let le : i + 1 ≤ d.outlet = h.0 in omega (arith, le, e))
-      at (suc j) x e get = h.1 j x (omega (arith, e)) get
-
-  of_from : (i : ℕ) (xs : List OutletState) → AllByRecursion (OfSiteFrom i xs) (due_from n i xs)
-  of_from i [] = tt
-  of_from i (y ∷ xs) = by_test (is_filled_by n y) refl (all_map (OfSiteFrom (i + 1) xs) (OfSiteFrom i (y ∷ xs)) (due_from n (i + 1) xs) (later_of i y xs) (of_from (i + 1) xs))
-    where
-      here : is_filled_by n y ≡ true → (j : ℕ) (x : OutletState) → i ≡ i + j → slice_get (y ∷ xs) j ≡ Some x → is_filled_by n x ≡ true
-      here on zero x e get = let same : y ≡ x = cc in ap (is_filled_by n) (sym same) ∙ on
-      here on (suc j) x e get = absurd (omega (arith, e))
-
-      by_test : (t : Bool) → is_filled_by n y ≡ t → AllByRecursion (OfSiteFrom i (y ∷ xs)) (due_from n (i + 1) xs) → AllByRecursion (OfSiteFrom i (y ∷ xs)) (cond t (due_at i y ∷ due_from n (i + 1) xs) (due_from n (i + 1) xs))
-      by_test true on more = ((omega arith, here on), more)
-      by_test false off more = more
-
-  pub of_first : (xs : List OutletState) → AreOfSite (due_from n 0 xs) xs
-  of_first xs = all_map (OfSiteFrom 0 xs) (λ (d : Due). (x : OutletState) → slice_get xs d.outlet ≡ Some x → is_filled_by n x ≡ true) (due_from n 0 xs) (λ d h x at. h.1 d.outlet x (omega arith) at) (of_from 0 xs)
-
-  -- one that has bodies is done
-  pub ready_skip : (d : Due) (ds : List Due) (xs : List OutletState) → has_bodies d.bodies ≡ true → AreReady (d ∷ ds) xs → AreReady ds xs
-  ready_skip d ds xs has h j x at on none = sym (ap (λ (t : Bool). (d.outlet == j && not t) || is_due j ds) has ∙ ap (λ (t : Bool). t || is_due j ds) (and_false (d.outlet == j))) ∙ h j x at on none
-    where
-      and_false : (t : Bool) → (t && false) ≡ false
-      and_false true = refl
-      and_false false = refl
-
-  -- and so is one that got a body
-  pub added_place : (k : ℕ) (b : Body) (xs : List OutletState) (j : ℕ) (x : OutletState) → slice_get (body_added k b xs) j ≡ Some x → (y : OutletState) × (slice_get xs j ≡ Some y) × (((k ≡ j → ⊥) × (x ≡ y)) ⊎ ((k ≡ j) × (x ≡ with_body b y)))
-  added_place k b [] j x at = absurd (cc)
-  added_place zero b (y ∷ xs) zero x at = (y, refl, inr (refl, let same : with_body b y ≡ x = cc in sym same))
-  added_place zero b (y ∷ xs) (suc j) x at = (x, at, inl ((λ e. omega (arith, e)), refl))
-  added_place (suc k) b (y ∷ xs) zero x at = (y, refl, inl ((λ e. omega (arith, e)), let same : y ≡ x = cc in sym same))
-  added_place (suc k) b (y ∷ xs) (suc j) x at = by_place (added_place k b xs j x at)
-    where
-      by_place : (z : OutletState) × (slice_get xs j ≡ Some z) × (((k ≡ j → ⊥) × (x ≡ z)) ⊎ ((k ≡ j) × (x ≡ with_body b z)))
-          → (z : OutletState) × (slice_get xs j ≡ Some z) × (((suc k ≡ suc j → ⊥) × (x ≡ z)) ⊎ ((suc k ≡ suc j) × (x ≡ with_body b z)))
-      by_place (z, get, inl h) = (z, get, inl ((λ e. h.0 (omega (arith, e))), h.1))
-      by_place (z, get, inr h) = (z, get, inr (ap suc h.0, h.1))
-
-  more_bodies : (b : Body) (bs : List Body) → has_bodies (bs ++ b ∷ []) ≡ true
-  more_bodies b [] = refl
-  more_bodies b (c ∷ bs) = refl
-
-  not_eqb : (i j : ℕ) → (i ≡ j → ⊥) → (i == j) ≡ false
-  not_eqb i j ne = by_test (i == j) refl
-    where
-      by_test : (t : Bool) → (i == j) ≡ t → t ≡ false
-      by_test true e = absurd (ne (eqb-true i j e))
-      by_test false e = refl
-
-  pub ready_next : (d : Due) (ds : List Due) (b : Body) (xs : List OutletState) → AreReady (d ∷ ds) xs → AreReady ds (body_added d.outlet b xs)
-  ready_next d ds b xs h j x at on none = by_place (added_place d.outlet b xs j x at)
-    where
-      by_place : (y : OutletState) × (slice_get xs j ≡ Some y) × (((d.outlet ≡ j → ⊥) × (x ≡ y)) ⊎ ((d.outlet ≡ j) × (x ≡ with_body b y))) → is_due j ds ≡ true
-      by_place (y, get, inl (ne, same)) =
-          let more : is_due j (d ∷ ds) ≡ true = h j y get (ap (is_filled_by n) (sym same) ∙ on) (ap (λ (z : OutletState). has_bodies z.bodies) (sym same) ∙ none) in
-          sym (ap (λ (t : Bool). (t && not (has_bodies d.bodies)) || is_due j ds) (not_eqb d.outlet j ne)) ∙ more
-      by_place (y, get, inr (e, same)) =
-          let some : has_bodies x.bodies ≡ true = ap (λ (z : OutletState). has_bodies z.bodies) same ∙ more_bodies b y.bodies in
-          let two : true ≡ false = sym some ∙ none in
-          absurd (cc)
-
-  pub of_next : (k : ℕ) (b : Body) (ds : List Due) (xs : List OutletState) → AreOfSite ds xs → AreOfSite ds (body_added k b xs)
-  of_next k b ds xs all = all_map (λ (d : Due). (x : OutletState) → slice_get xs d.outlet ≡ Some x → is_filled_by n x ≡ true) (λ (d : Due). (x : OutletState) → slice_get (body_added k b xs) d.outlet ≡ Some x → is_filled_by n x ≡ true) ds (λ d h x at. by_place d x h (added_place k b xs d.outlet x at)) all
-    where
-      by_place : (d : Due) (x : OutletState) → ((y : OutletState) → slice_get xs d.outlet ≡ Some y → is_filled_by n y ≡ true)
-          → (y : OutletState) × (slice_get xs d.outlet ≡ Some y) × (((k ≡ d.outlet → ⊥) × (x ≡ y)) ⊎ ((k ≡ d.outlet) × (x ≡ with_body b y))) → is_filled_by n x ≡ true
-      by_place d x h (y, get, inl (ne, same)) = ap (is_filled_by n) same ∙ h y get
-      by_place d x h (y, get, inr (e, same)) = ap (is_filled_by n) same ∙ h y get
-
-  -- once none is due, all have bodies
-  pub ready_last : (xs : List OutletState) → AreReady [] xs → AllByRecursion (λ (x : OutletState). is_filled_by n x ≡ true → has_bodies x.bodies ≡ true) xs
-  ready_last [] h = tt
-  ready_last (x ∷ xs) h = ((λ on. by_test (has_bodies x.bodies) refl on), ready_last xs (λ j y at. h (suc j) y at))
-    where
-      by_test : (t : Bool) → has_bodies x.bodies ≡ t → is_filled_by n x ≡ true → t ≡ true
-      by_test true e on = refl
-      by_test false e on = let two : false ≡ true = h 0 x refl on e in absurd (cc)

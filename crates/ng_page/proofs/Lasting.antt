@@ -1,5 +1,6 @@
 -- What no step of a page takes back: its templates, and the numbers of registration that were given.
 use Rattle.std.proofs.Common.{◌≡◌, ◌≤◌, ◌-◌, ◌∙◌, ℕ, Bool, true, false, cond, List, [], ◌∷◌, Option, Some, None, Result, Ok, Err, refl, sym, subst, arith}
+use Rattle.std.specs.Prelude.{◌&&◌, not}
 use Rattle.std.specs.List.{AllByRecursion}
 use Rattle.ng_act.specs.State as act
 use Rattle.ng_act.specs.State.{Run}
@@ -9,11 +10,11 @@ use Rattle.ng_base.specs.declared.path.Key.{Key}
 use Rattle.ng_behaviour.specs.Scopes.{live_at}
 use Rattle.ng_digest.specs.Plain.{Plain, PlainDigests}
 use Rattle.ng_digest.specs.declared.rounds.DigestFault.{DigestFault}
-use Rattle.ng_drawing.specs.Looks.{is_kept_true}
+use Rattle.ng_drawing.specs.Cases.{Case}
 use Rattle.ng_drawing.specs.Nodes.{node_limit}
-use Rattle.ng_drawing.specs.Template.{Fragment, Filling, body_if}
+use Rattle.ng_drawing.specs.Template.{Fragment}
 use Rattle.ng_fire.proofs.Numbered.{linking_numbered}
-use Rattle.ng_fire.specs.Blocks.{Firing, begins_firing, gone, all_gone, child_run, linked_then, body_made, filled, has_bodies, outlet_fired, outlets_fired, site_fired}
+use Rattle.ng_fire.specs.Blocks.{Firing, begins_firing, gone, all_gone, child_run, linked_then, body_made, filled, goes, outlet_emptied, outlets_emptied, cases_due, body_of, comes, outlet_filled, outlets_filled, outlets_fired, site_fired}
 use Rattle.ng_fire.specs.Fires.{fired as fires}
 use Rattle.ng_fire.specs.Links.{Linking, begins_linking, steps_linked, link_by, link_at}
 use Rattle.ng_fire.specs.Runs.{followed, destroy_run}
@@ -86,15 +87,19 @@ either_has : (ts : List Named) (b : Bool) (g h : Firing) → Has ts g → Has ts
 either_has ts true g h one two = one
 either_has ts false g h one two = two
 
-outlet_has : (ts : List Named) (holder : List ℕ) (scope : ℕ) (v : ViewTree) (d : Due) (filling : Filling) (g : Firing) → Has ts g → Has ts (outlet_fired holder scope v d filling g)
-outlet_has ts holder scope v d (body_if body) g h =
-    either_has ts (is_kept_true (Some v)) (cond (has_bodies d.bodies) g (filled holder scope d.outlet (d.template, body) g)) (all_gone holder d.bodies g)
-    (either_has ts (has_bodies d.bodies) g (filled holder scope d.outlet (d.template, body) g) h (filled_has ts holder scope d.outlet (d.template, body) g h))
-    (all_gone_has ts holder d.bodies g h)
+emptied_has : (ts : List Named) (holder : List ℕ) (v : ViewTree) (ds : List Due) (g : Firing) → Has ts g → Has ts (outlets_emptied holder v ds g)
+emptied_has ts holder v [] g h = h
+emptied_has ts holder v (d ∷ ds) g h =
+    emptied_has ts holder v ds (outlet_emptied holder v d g) (either_has ts (goes d.filling v) (all_gone holder d.bodies g) g (all_gone_has ts holder d.bodies g h) h)
+
+come_has : (ts : List Named) (holder : List ℕ) (scope : ℕ) (cases : List Case) (v : ViewTree) (ds : List Due) (g : Firing) → Has ts g → Has ts (outlets_filled holder scope cases v ds g)
+come_has ts holder scope cases v [] g h = h
+come_has ts holder scope cases v (d ∷ ds) g h =
+    come_has ts holder scope cases v ds (outlet_filled holder scope cases v d g)
+    (either_has ts (comes cases v d && not g.faulted) (filled holder scope d.outlet (d.template, body_of d.filling) g) g (filled_has ts holder scope d.outlet (d.template, body_of d.filling) g h) h)
 
 outlets_has : (ts : List Named) (holder : List ℕ) (scope : ℕ) (v : ViewTree) (ds : List Due) (g : Firing) → Has ts g → Has ts (outlets_fired holder scope v ds g)
-outlets_has ts holder scope v [] g h = h
-outlets_has ts holder scope v (d ∷ ds) g h = outlets_has ts holder scope v ds (outlet_fired holder scope v d d.filling g) (outlet_has ts holder scope v d d.filling g h)
+outlets_has ts holder scope v ds g h = come_has ts holder scope (cases_due ds) v ds (outlets_emptied holder v ds g) (emptied_has ts holder v ds g h)
 
 site_templates : (k : Key) (v : ViewTree) (s : State) → (site_fired k v s).state.templates ≡ s.templates
 site_templates k v s =

@@ -11,6 +11,7 @@ pub mod Unlinking
 pub mod Placing
 pub mod FiresTold
 pub mod Going
+pub mod Coming
 pub mod Registered
 pub mod Under
 pub mod Filled
@@ -22,6 +23,7 @@ pub mod Rendering
 pub mod Rendered
 pub mod Opened
 pub mod Stages
+pub mod Ahead
 pub mod Taken
 pub mod Wholes
 pub mod Ran

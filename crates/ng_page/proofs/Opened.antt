@@ -27,7 +27,7 @@ use Rattle.ng_page.proofs.EventsStay.{part, fault_stays}
 use Rattle.ng_page.proofs.FiresTold.{steps_sites, rested_sites}
 use Rattle.ng_page.proofs.Placing.{IsNew, placed_watched, placed_fits}
 use Rattle.ng_page.proofs.Prepared.{linked_fine, linked_fault}
-use Rattle.ng_page.proofs.Registered.{own_counted, steps_above}
+use Rattle.ng_page.proofs.Registered.{own_counted, own_whole, steps_above}
 use Rattle.ng_page.proofs.Sites.{InKeys, SitesStay, sites_trans, core_sites}
 
 nothing_there : (P : Type 0) (is : Instances) (p : List ℕ) (l : Linked) → is ≡ [] → linked_at p is ≡ Some l → P
@@ -61,6 +61,7 @@ module _ (u : Template) (s : State) (none : s.instances ≡ []) (keys : InKeys s
       let is : IsNew (0, 0) 0 u.own g.serials g.state s.core.serial = record {
         there = let more = stay.core.scopes.more in omega (arith, root, more);
         count = linking_counted 0 (steps u.own.parts) s ∙ own_counted u made;
+        whole = (length u.bodies, own_whole u made);
         rising = (linking_numbered 0 (steps u.own.parts) s).rising;
         below = (linking_numbered 0 (steps u.own.parts) s).below;
         above = steps_above s.core.serial 0 (steps u.own.parts) s (omega arith);

@@ -1,7 +1,9 @@
 -- An instance comes: what is linked is watched, and each block has the bodies that it calls for.
 use Rattle.std.proofs.Common.{◌≡◌, ◌⊎◌, inl, inr, ◌≤◌, ◌<◌, ℕ, zero, suc, Bool, true, false, List, [], ◌∷◌, length, cond, Option, Some, None, refl, ap, sym, subst, ◌∙◌, slice_get, arith}
+use Rattle.std.specs.Prelude.{nat_lt}
+use Rattle.std.proofs.lemmas.Bool.{ltb-true}
 use Rattle.std.specs.BTreeMap.{is_at}
-use Rattle.std.specs.List.{AllByRecursion, list_any}
+use Rattle.std.specs.List.{AllByRecursion, list_all, list_any}
 use Rattle.std.specs.List.Sorted.{IsStrictlySortedBy}
 use Rattle.std.specs.Map.{keys_of}
 use Rattle.std.specs.Ordering.{nat_cmp}
@@ -15,15 +17,18 @@ use Rattle.ng_link.specs.Rows.{watching_site, with_sites}
 use Rattle.ng_link.specs.Shape.{key_on, anchors}
 use Rattle.ng_link.specs.Standing.{held_count}
 use Rattle.ng_link.specs.State.{State}
+use Rattle.ng_link.proofs.AtBlocks.{counted_anchors}
 use Rattle.ng_link.proofs.Lookups.{changed_keys, changed_here, inserted_here, inserted_other}
+use Rattle.ng_link.proofs.Numbers.{both_true, whole_outlets, whole_numbers}
 use Rattle.ng_link.proofs.Paths.{path_is, other_path}
 use Rattle.ng_link.proofs.Rows.{fresh_watcher, sites_other, sites_found}
 use Rattle.ng_link.proofs.Serials.{number_at, all_at_place}
 use Rattle.ng_link.proofs.Sorted.{insert_sorted}
+use Rattle.ng_template.specs.Numbering.{is_outlet, is_body, is_whole}
 use Rattle.ng_watch.specs.Keys.{key_cmp, key_cmp_total, is_key}
 use Rattle.ng_watch.specs.Seen.{Watcher}
 use Rattle.ng_watch.specs.Table.{Table, found, with_watch}
-use Rattle.ng_page.specs.Settled.{WatchesAt, AreWatched, AreOutlets, IsChild, IsLinked, CallsFor, OutletFits, IsWatched, Fits}
+use Rattle.ng_page.specs.Settled.{WatchesAt, AreWatched, AreOutlets, IsChild, IsLinked, cases_under, CallsFor, OutletFits, IsWatched, Fits}
 use Rattle.ng_page.proofs.Bodies.{added_count, added_outlets, added_all, push_all}
 use Rattle.ng_page.proofs.ScopesStay.{scopes_refl}
 use Rattle.ng_page.proofs.Sites.{InKeys}
@@ -32,10 +37,21 @@ use Rattle.ng_page.proofs.Watched.{all_map, number_there, linked_stays}
 
 -- ---- outlets that nothing fills yet
 
-outlets_are : (template : ℕ) (serials : List ℕ) (os : List Outlet) (names : List ℕ) → AreOutlets serials os (outlets_on template serials os names)
-outlets_are template serials [] names = tt
-outlets_are template serials (o ∷ os) [] = tt
-outlets_are template serials (o ∷ os) (a ∷ names) = ((refl, refl), outlets_are template serials os names)
+outlets_are : (template : ℕ) (serials : List ℕ) (os : List Outlet) (names : List ℕ) → length os ≡ length names → AreOutlets serials os (outlets_on template serials os names)
+outlets_are template serials [] names e = tt
+outlets_are template serials (o ∷ os) [] e = absurd (omega (arith, e))
+outlets_are template serials (o ∷ os) (a ∷ names) e = ((refl, refl), outlets_are template serials os names (omega (arith, e)))
+
+-- a whole fragment has an anchor for each outlet, and each has the number of a site
+as_many_anchors : (bodies : ℕ) (f : Fragment) (n : ℕ) → is_whole bodies f ≡ true → length f.outlets ≡ length (anchors n f.parts)
+as_many_anchors bodies f n e = let count = counted_anchors n 0 (length f.outlets) f.parts (whole_outlets bodies f e) in omega (arith, count)
+
+sites_of : (sites bodies many : ℕ) (os : List Outlet) → many ≡ sites → list_all (is_outlet sites bodies) os ≡ true → AllByRecursion (λ (o : Outlet). o.site < many) os
+sites_of sites bodies many [] same e = tt
+sites_of sites bodies many (o ∷ os) same e =
+    let two = both_true (is_outlet sites bodies o) (list_all (is_outlet sites bodies) os) e in
+    let low : o.site < sites = ltb-true o.site sites (both_true (nat_lt o.site sites) (is_body bodies o.filling) two.0).0 in
+    (omega (arith, low, same), sites_of sites bodies many os same two.1)
 
 outlets_all : (P : OutletState → Type 0) (template : ℕ) (serials : List ℕ) (os : List Outlet) (names : List ℕ) → ((o : Outlet) (a : ℕ) → P (outlet_on template serials o a)) → AllByRecursion P (outlets_on template serials os names)
 outlets_all P template serials [] names f = tt
@@ -97,6 +113,7 @@ module _ (which : ℕ × ℕ) (scope : ℕ) (f : Fragment) (serials : List ℕ) 
   pub record IsNew : Type 0 where
     pub there : scope < length s.core.scopes
     pub count : length serials ≡ length f.sites
+    pub whole : (bodies : ℕ) × (is_whole bodies f ≡ true)
     pub rising : IsStrictlySortedBy nat_cmp serials
     pub below : AllByRecursion (λ (n : ℕ). n < s.core.serial) serials
     pub above : AllByRecursion (λ (n : ℕ). base ≤ n) serials
@@ -153,8 +170,10 @@ module _ (which : ℕ × ℕ) (scope : ℕ) (f : Fragment) (serials : List ℕ) 
       there = is.there;
       count = is.count;
       below = is.below;
+      rising = is.rising;
+      sites = sites_of (length f.sites) is.whole.0 (length serials) f.outlets is.count (whole_numbers is.whole.0 f is.whole.1);
       watched = all_watched watchers object path serials f.sites is.count new_watches;
-      outlets = outlets_are which.0 serials f.outlets (anchors s.next_node f.parts);
+      outlets = outlets_are which.0 serials f.outlets (anchors s.next_node f.parts) (as_many_anchors is.whole.0 f s.next_node is.whole.1);
       bodies = outlets_all (λ (x : OutletState). AllByRecursion (IsChild s.core.scopes scope) x.bodies) which.0 serials f.outlets (anchors s.next_node f.parts) (λ o a. tt);
       once = λ q. let none = none_held q which.0 serials f.outlets (anchors s.next_node f.parts) in omega (arith, none);
     }
@@ -186,6 +205,8 @@ module _ (which : ℕ × ℕ) (scope : ℕ) (f : Fragment) (serials : List ℕ) 
       there = h.there;
       count = h.count;
       below = h.below;
+      rising = h.rising;
+      sites = h.sites;
       watched = h.watched;
       outlets = added_outlets o (record { path = path }) m.page.serials m.fragment.outlets m.page.outlets h.outlets;
       bodies = added_all (λ (x : OutletState). AllByRecursion (IsChild s.core.scopes m.page.scope) x.bodies) o (record { path = path }) m.page.outlets
@@ -229,21 +250,21 @@ module _ (which : ℕ × ℕ) (scope : ℕ) (f : Fragment) (serials : List ℕ) 
 
     -- ---- and fits: the sites of what is new have kept nothing yet, and the outlet that gets the body isn't asked
 
-    new_fits : (ks : List Key) → AllByRecursion (OutletFits watchers ks path serials) new.page.outlets
-    new_fits ks = outlets_all (OutletFits watchers ks path serials) which.0 serials f.outlets (anchors s.next_node f.parts) each
+    new_fits : (ks : List Key) → AllByRecursion (OutletFits watchers ks path serials f.outlets) new.page.outlets
+    new_fits ks = outlets_all (OutletFits watchers ks path serials f.outlets) which.0 serials f.outlets (anchors s.next_node f.parts) each
       where
-        each : (o : Outlet) (a : ℕ) → OutletFits watchers ks path serials (outlet_on which.0 serials o a)
+        each : (o : Outlet) (a : ℕ) → OutletFits watchers ks path serials f.outlets (outlet_on which.0 serials o a)
         each o a site w e out =
             let x : OutletState = outlet_on which.0 serials o a in
             let place = number_at x.serial serials site in
             let has = site_at serials f.sites place.0 x.serial is.count place.1 in
             let one : ◌≡◌ {A = Option Watcher} (Some (fresh_watcher object has.0)) (Some w) = sym (sites_found path object serials f.sites s.watchers place.0 x.serial has.0 is.rising place.1 has.1) ∙ e in
             let two : fresh_watcher object has.0 ≡ w = cc in
-            subst (λ (v : Watcher). CallsFor v.kept x) two tt
+            subst (λ (v : Watcher). CallsFor (cases_under serials f.outlets x.serial) v.kept x) two tt
 
-    others_fit : (ks : List Key) (q : List ℕ) (m : Linked) → linked_at q s.instances ≡ Some m → AllByRecursion (OutletFits s.watchers ks q m.page.serials) m.page.outlets → AllByRecursion (OutletFits watchers ks q m.page.serials) m.page.outlets
+    others_fit : (ks : List Key) (q : List ℕ) (m : Linked) → linked_at q s.instances ≡ Some m → AllByRecursion (OutletFits s.watchers ks q m.page.serials m.fragment.outlets) m.page.outlets → AllByRecursion (OutletFits watchers ks q m.page.serials m.fragment.outlets) m.page.outlets
     others_fit ks q m at fit =
-        all_map (OutletFits s.watchers ks q m.page.serials) (OutletFits watchers ks q m.page.serials) m.page.outlets
+        all_map (OutletFits s.watchers ks q m.page.serials m.fragment.outlets) (OutletFits watchers ks q m.page.serials m.fragment.outlets) m.page.outlets
         (λ x h site w e out. h site w (sym (others_found q m x.serial at site) ∙ e) out) fit
 
     abbrev pub IsAsked : List Key → Place → Type 0
@@ -253,15 +274,15 @@ module _ (which : ℕ × ℕ) (scope : ℕ) (f : Fragment) (serials : List ℕ) 
     pub placed_fits : (place : Place) (ks : List Key) → HasRoom place → IsAsked ks place → Fits ks s → Fits ks (placed_on place which scope f serials s)
     placed_fits place ks room asked h q l at = by_was place q l asked (was place q l room at)
       where
-        by_was : (place : Place) (q : List ℕ) (l : Linked) → IsAsked ks place → Was place q l → AllByRecursion (OutletFits watchers ks q l.page.serials) l.page.outlets
+        by_was : (place : Place) (q : List ℕ) (l : Linked) → IsAsked ks place → Was place q l → AllByRecursion (OutletFits watchers ks q l.page.serials l.fragment.outlets) l.page.outlets
         by_was place q l asked (inl here) =
-            subst (λ (x : List ℕ). AllByRecursion (OutletFits watchers ks x l.page.serials) l.page.outlets) (sym here.0)
-            (subst (λ (x : Linked). AllByRecursion (OutletFits watchers ks path x.page.serials) x.page.outlets) (sym here.1) (new_fits ks))
+            subst (λ (x : List ℕ). AllByRecursion (OutletFits watchers ks x l.page.serials l.fragment.outlets) l.page.outlets) (sym here.0)
+            (subst (λ (x : Linked). AllByRecursion (OutletFits watchers ks path x.page.serials x.fragment.outlets) x.page.outlets) (sym here.1) (new_fits ks))
         by_was place q l asked (inr (inl old)) = others_fit ks q l old (h q l old)
         by_was at_top q l asked (inr (inr none)) = absurd none
         by_was (in_outlet holder o) q l asked (inr (inr (m, old, same, has))) =
-            subst (λ (x : List ℕ). AllByRecursion (OutletFits watchers ks x l.page.serials) l.page.outlets) (sym same)
-            (subst (λ (x : Linked). AllByRecursion (OutletFits watchers ks holder x.page.serials) x.page.outlets) (sym has)
-            (added_all (OutletFits watchers ks holder m.page.serials) o (record { path = path }) m.page.outlets
+            subst (λ (x : List ℕ). AllByRecursion (OutletFits watchers ks x l.page.serials l.fragment.outlets) l.page.outlets) (sym same)
+            (subst (λ (x : Linked). AllByRecursion (OutletFits watchers ks holder x.page.serials x.fragment.outlets) x.page.outlets) (sym has)
+            (added_all (OutletFits watchers ks holder m.page.serials m.fragment.outlets) o (record { path = path }) m.page.outlets
             (λ x there fit site w e out. let two : true ≡ false = sym (asked m x old there) ∙ out in absurd (cc))
             (others_fit ks holder m old (h holder m old))))

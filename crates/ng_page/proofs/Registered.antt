@@ -37,8 +37,11 @@ whole_counted bodies f e =
     let as_many : site_count (steps f.parts) ≡ length (holes 0 f.parts) = parts_count 0 f.parts in
     omega (arith, many, as_many)
 
+pub own_whole : (t : Template) → is_regular t ≡ true → is_whole (length t.bodies) t.own ≡ true
+own_whole t e = (both_true (is_whole (length t.bodies) t.own) (list_all (is_whole (length t.bodies)) t.bodies) e).0
+
 pub own_counted : (t : Template) → is_regular t ≡ true → site_count (steps t.own.parts) ≡ length t.own.sites
-own_counted t e = whole_counted (length t.bodies) t.own (both_true (is_whole (length t.bodies) t.own) (list_all (is_whole (length t.bodies)) t.bodies) e).0
+own_counted t e = whole_counted (length t.bodies) t.own (own_whole t e)
 
 -- a fragment of a template that the compiler made has a step for each site
 pub sites_counted : (ts : List Named) (t n : ℕ) → AllByRecursion (λ (x : Named). is_regular x.1 ≡ true) ts → (let f : Fragment = fragments_in ts t n in site_count (steps f.parts) ≡ length f.sites)
@@ -50,6 +53,21 @@ sites_counted ts t n all = by_template (slice_get ts t) refl
 
     by_template : (o : Option Named) → slice_get ts t ≡ o → IsCounted (unwrap_or (option_and_then (λ (k : Named). fragment_at k.1 n) o) no_fragment)
     by_template None e = refl
+    by_template (Some x) e = by_fragment x (regular_named ts t x all e) (fragment_at x.1 n) refl
+
+-- it is whole, among the bodies of its template
+pub fragment_whole : (ts : List Named) (t n : ℕ) → AllByRecursion (λ (x : Named). is_regular x.1 ≡ true) ts → (bodies : ℕ) × (is_whole bodies (fragments_in ts t n) ≡ true)
+fragment_whole ts t n all = by_template (slice_get ts t) refl
+  where
+    IsWhole : Fragment → Type 0
+    IsWhole f = (bodies : ℕ) × (is_whole bodies f ≡ true)
+
+    by_fragment : (x : Named) → is_regular x.1 ≡ true → (o : Option Fragment) → fragment_at x.1 n ≡ o → IsWhole (unwrap_or o no_fragment)
+    by_fragment x regular None e = (0, refl)
+    by_fragment x regular (Some f) e = (length x.1.bodies, regular_fragment (length x.1.bodies) (x.1.own ∷ x.1.bodies) n f regular e)
+
+    by_template : (o : Option Named) → slice_get ts t ≡ o → IsWhole (unwrap_or (option_and_then (λ (k : Named). fragment_at k.1 n) o) no_fragment)
+    by_template None e = (0, refl)
     by_template (Some x) e = by_fragment x (regular_named ts t x all e) (fragment_at x.1 n) refl
 
 -- numbers that a linking gives come after those that were given before it began

@@ -1,6 +1,7 @@
 -- Where no watcher is dirty, and each block has the bodies that it calls for, the document that is shown is the rendering.
 use Rattle.std.proofs.Common.{◌≡◌, ℕ, zero, suc, Bool, true, false, List, [], ◌∷◌, map, length, arith, cond, Option, None, Some, Result, Ok, Err, refl, ap, sym, subst, ◌∙◌, slice_get}
-use Rattle.std.specs.Prelude.{is_some, not, slice_index_or}
+use Rattle.std.specs.Prelude.{◌==◌, ◌++◌, ◌<◌, is_some, not, slice_index_or}
+use Rattle.std.proofs.lemmas.Bool.{eqb-true, eq-eqb}
 use Rattle.std.specs.BTreeMap.{is_at}
 use Rattle.std.specs.List.{AllByRecursion, list_any}
 use Rattle.std.specs.List.Sorted.{IsStrictlySortedBy}
@@ -21,8 +22,8 @@ use Rattle.ng_digest.specs.declared.rounds.DigestFault.{DigestFault}
 use Rattle.ng_drawing.specs.Drawing.{shown_as}
 use Rattle.ng_drawing.specs.Instance as drawing
 use Rattle.ng_drawing.specs.Instance.{SiteState, Instance, no_instances, instance_then, outlet_then, instances_from, outlets_from, has_any, is_filled, state_kept, kept_by, rests_in, snapshot_as, snapshot_now, rendered_now, site_now, instance_now, IsFilled, IsFresh, AllFresh, AreFilled}
-use Rattle.ng_drawing.specs.Looks.{is_kept_true}
-use Rattle.ng_drawing.specs.Template.{Site, Outlet, Filling, body_if}
+use Rattle.ng_drawing.specs.Cases.{Case, case_in, cases_of, calls_for}
+use Rattle.ng_drawing.specs.Template.{Site, Outlet, Filling}
 use Rattle.ng_drawing.specs.declared.kind.SiteKind.{SiteKind}
 use Rattle.ng_drawing.specs.declared.kind.SiteKind.TheVariants as sites
 use Rattle.ng_drawing.proofs.FreshInstances.{fresh_instance}
@@ -32,6 +33,8 @@ use Rattle.ng_link.specs.Rows.{watch_kind, watching_site}
 use Rattle.ng_link.specs.Shape.{key_on}
 use Rattle.ng_link.specs.State.{State, Resting, kept_or, site_state, site_states, instance_join, nothing_linked, instance_at, shown, rendering}
 use Rattle.ng_link.proofs.Paths.{other_path, same_path, less_other}
+use Rattle.ng_link.proofs.Serials.{not_at}
+use Rattle.ng_link.proofs.Undrawn.{rising_differ}
 use Rattle.ng_watch.specs.Keys.{is_key}
 use Rattle.ng_watch.specs.Laws.{is_two_way}
 use Rattle.ng_watch.specs.Now.{value_now, snapshot_of, now}
@@ -40,7 +43,8 @@ use Rattle.ng_watch.specs.Table.{Table, found}
 use Rattle.ng_watch.specs.Verdicts.{clean, verdict}
 use Rattle.ng_watch.proofs.Judging.{clean_has_kept}
 use Rattle.ng_page.specs.Answered.{WhenOk}
-use Rattle.ng_page.specs.Settled.{IsSettled, WatchesAt, AreWatched, IsOutlet, AreOutlets, IsLinked, OutletFits, CallsFor, calls, IsWatched, Fits}
+use Rattle.ng_page.specs.Settled.{IsSettled, WatchesAt, AreWatched, IsOutlet, AreOutlets, IsLinked, cases_under, OutletFits, CallsFor, IsWatched, Fits}
+use Rattle.ng_page.proofs.Fitting.{number_itself}
 use Rattle.ng_page.proofs.Watched.{number_there}
 
 -- a site keeps what its watcher keeps
@@ -67,6 +71,34 @@ clean_shows : (objects : List Object) (x : Site) (o : ℕ) (w : Watcher) → w.w
 clean_shows objects x o w is e =
     let k = (clean_has_kept objects w (ap (λ (v : Watching). is_two_way v.kind) is ∙ one_way x.kind)).0 e in
     ap rendered_now (same_now objects o x ∙ (ap (now objects) (sym is) ∙ k.1)) ∙ ap (λ s. shown_as s) (sym k.2)
+
+-- ---- the cases of a switch, by its site and by its number of registration
+
+number_at_place : (ns : List ℕ) (i n : ℕ) → slice_get ns i ≡ Some n → slice_index_or ns i 0 ≡ n
+number_at_place [] i n at = absurd (cc)
+number_at_place (m ∷ ns) zero n at = cc
+number_at_place (m ∷ ns) (suc i) n at = number_at_place ns i n at
+
+place_below : (ns : List ℕ) (i n : ℕ) → slice_get ns i ≡ Some n → i < length ns
+place_below [] i n at = absurd (cc)
+place_below (m ∷ ns) zero n at = omega arith
+place_below (m ∷ ns) (suc i) n at = let low = place_below ns i n at in omega (arith, low)
+
+site_cases : (serials : List ℕ) (os : List Outlet) (site n : ℕ) → IsStrictlySortedBy nat_cmp serials → AllByRecursion (λ (o : Outlet). o.site < length serials) os → slice_get serials site ≡ Some n → cases_of os site ≡ cases_under serials os n
+site_cases serials [] site n rising sites at = refl
+site_cases serials (o ∷ os) site n rising sites at =
+    ap (λ (b : Bool). cond b (case_in o.filling ++ cases_of os site) (cases_of os site)) (same_test (o.site == site) refl)
+    ∙ ap (λ (cs : List Case). cond (is_at (nat_cmp n) (slice_index_or serials o.site 0)) (case_in o.filling ++ cs) cs) (site_cases serials os site n rising sites.1 at)
+  where
+    same_test : (b : Bool) → (o.site == site) ≡ b → (o.site == site) ≡ is_at (nat_cmp n) (slice_index_or serials o.site 0)
+    same_test true e =
+        let here : slice_index_or serials o.site 0 ≡ n = ap (λ (i : ℕ). slice_index_or serials i 0) (eqb-true o.site site e) ∙ number_at_place serials site n at in
+        e ∙ sym (ap (is_at (nat_cmp n)) here ∙ number_itself n)
+    same_test false e =
+        e ∙ sym (not_at n (slice_index_or serials o.site 0) (λ same.
+        rising_differ serials o.site site rising sites.0 (place_below serials site n at)
+        (λ one. let two : true ≡ false = sym (eq-eqb o.site site one) ∙ e in cc)
+        (sym same ∙ sym (number_at_place serials site n at))))
 
 module _ (c : act.State) (t : Table) (r : Resting) (settled : (k : Key) (w : Watcher) → found k t ≡ Some w → verdict c.objects w ≡ Ok clean) where
   site_shows : (scope : ℕ) (x : Site) (k : Key) → WatchesAt k (watching_site (object_at c.scopes scope) x) t
@@ -97,8 +129,8 @@ module _ (c : act.State) (t : Table) (r : Resting) (settled : (k : Key) (w : Wat
   any_bodies go [] = refl
   any_bodies go (b ∷ bs) = refl
 
-  filled_if : (filling : Filling) (v : ViewTree) (is : drawing.Instances) (b : Bool) → has_any is ≡ b → b ≡ calls filling v → is_filled filling (Some v) is ≡ true
-  filled_if (body_if n) v is b any call = by_value (is_kept_true (Some v)) (any ∙ call)
+  filled_if : (cases : List Case) (filling : Filling) (v : ViewTree) (is : drawing.Instances) (b : Bool) → has_any is ≡ b → b ≡ calls_for cases filling (Some v) → is_filled cases filling (Some v) is ≡ true
+  filled_if cases filling v is b any call = by_value (calls_for cases filling (Some v)) (any ∙ call)
     where
       by_value : (t : Bool) → has_any is ≡ t → cond t (has_any is) (not (has_any is)) ≡ true
       by_value true e = e
@@ -107,11 +139,6 @@ module _ (c : act.State) (t : Table) (r : Resting) (settled : (k : Key) (w : Wat
   -- a site that is clean has kept a value
   kept_some : (k : Key) (w : Watcher) (x : Site) (o : ℕ) → w.watch ≡ watching_site o x → found k t ≡ Some w → (v : ViewTree) × (w.kept ≡ Some v)
   kept_some k w x o is e = let h = (clean_has_kept c.objects w (ap (λ (v : Watching). is_two_way v.kind) is ∙ one_way x.kind)).0 (settled k w e) in (h.0, h.2)
-
-  number_at_place : (ns : List ℕ) (i n : ℕ) → slice_get ns i ≡ Some n → slice_index_or ns i 0 ≡ n
-  number_at_place [] i n at = absurd (cc)
-  number_at_place (m ∷ ns) zero n at = cc
-  number_at_place (m ∷ ns) (suc i) n at = number_at_place ns i n at
 
   state_at : (f : ℕ → SiteState) (ns : List ℕ) (i n : ℕ) → slice_get ns i ≡ Some n → slice_get (map f ns) i ≡ Some (f n)
   state_at f [] i n at = absurd (cc)
@@ -130,32 +157,40 @@ module _ (c : act.State) (t : Table) (r : Resting) (settled : (k : Key) (w : Wat
   watched_at o path (m ∷ ns) (x ∷ xs) (suc i) n e h at = watched_at o path ns xs i n (omega (arith, e)) h.1 at
 
   -- what is asked of an outlet, by the state of its site
-  abbrev FilledBy : Filling → drawing.Instances → Option SiteState → Type 0
-  FilledBy filling is s = option_map_or (λ (x : SiteState). x.rests) s true ≡ false → is_filled filling (state_kept s) is ≡ true
+  abbrev FilledBy : List Case → Filling → drawing.Instances → Option SiteState → Type 0
+  FilledBy cases filling is s = option_map_or (λ (x : SiteState). x.rests) s true ≡ false → is_filled cases filling (state_kept s) is ≡ true
 
-  one_filled : (p : List ℕ) (l : Linked) (o : Outlet) (x : OutletState) (go : List ℕ → Instance) → IsLinked c t p l → IsOutlet l.page.serials o x → OutletFits t [] p l.page.serials x
-      → IsFilled (site_states t r l.page) o (instances_from (map (λ (b : Body). go b.path) x.bodies))
+  one_filled : (p : List ℕ) (l : Linked) (o : Outlet) (x : OutletState) (go : List ℕ → Instance) → IsLinked c t p l → IsOutlet l.page.serials o x → OutletFits t [] p l.page.serials l.fragment.outlets x
+      → IsFilled (site_states t r l.page) (cases_of l.fragment.outlets) o (instances_from (map (λ (b : Body). go b.path) x.bodies))
   one_filled p l o x go h is fit = by_place (slice_get l.page.serials o.site) refl
     where
       filling : drawing.Instances
       filling = instances_from (map (λ (b : Body). go b.path) x.bodies)
 
-      by_watcher : (n : ℕ) → slice_get l.page.serials o.site ≡ Some n → (m : Option Watcher) → found (key_on p n) t ≡ m → (rest : Option (Option ViewTree)) → not (is_some m) ≡ false → is_filled o.filling (kept_or m rest) filling ≡ true
+      cases : List Case
+      cases = cases_of l.fragment.outlets o.site
+
+      under : List Case
+      under = cases_under l.page.serials l.fragment.outlets x.serial
+
+      by_watcher : (n : ℕ) → slice_get l.page.serials o.site ≡ Some n → (m : Option Watcher) → found (key_on p n) t ≡ m → (rest : Option (Option ViewTree)) → not (is_some m) ≡ false → is_filled cases o.filling (kept_or m rest) filling ≡ true
       by_watcher n at None e rest live = absurd (cc)
       by_watcher n at (Some w) e rest live =
           let number : x.serial ≡ n = is.0 ∙ number_at_place l.page.serials o.site n at in
           let site = watched_at (object_at c.scopes l.page.scope) p l.page.serials l.fragment.sites o.site n h.count h.watched at in
           let kept = kept_some (key_on p n) w site.0 (object_at c.scopes l.page.scope) (site.1 w e) e in
-          let call : CallsFor w.kept x = fit (ap (λ (k : ℕ). list_any (is_at (nat_cmp k)) l.page.serials) number ∙ number_there l.page.serials o.site n at) w (ap (λ (k : ℕ). found (key_on p k) t) number ∙ e) refl in
-          let calls_now : has_bodies x.bodies ≡ calls x.filling kept.0 = subst (λ (k : Option ViewTree). CallsFor k x) kept.1 call in
-          ap (λ (k : Option ViewTree). is_filled o.filling k filling) kept.1
-          ∙ filled_if o.filling kept.0 filling (has_bodies x.bodies) (any_bodies go x.bodies) (calls_now ∙ ap (λ (f : Filling). calls f kept.0) is.1)
+          let call : CallsFor under w.kept x = fit (ap (λ (k : ℕ). list_any (is_at (nat_cmp k)) l.page.serials) number ∙ number_there l.page.serials o.site n at) w (ap (λ (k : ℕ). found (key_on p k) t) number ∙ e) refl in
+          let calls_now : has_bodies x.bodies ≡ calls_for under x.filling (Some kept.0) = subst (λ (k : Option ViewTree). CallsFor under k x) kept.1 call in
+          let those : under ≡ cases = ap (cases_under l.page.serials l.fragment.outlets) number ∙ sym (site_cases l.page.serials l.fragment.outlets o.site n h.rising h.sites at) in
+          ap (λ (k : Option ViewTree). is_filled cases o.filling k filling) kept.1
+          ∙ filled_if cases o.filling kept.0 filling (has_bodies x.bodies) (any_bodies go x.bodies)
+          (calls_now ∙ (ap (λ (f : Filling). calls_for under f (Some kept.0)) is.1 ∙ ap (λ (cs : List Case). calls_for cs o.filling (Some kept.0)) those))
 
-      by_place : (i : Option ℕ) → slice_get l.page.serials o.site ≡ i → FilledBy o.filling filling (slice_get (site_states t r l.page) o.site)
-      by_place None at = subst (FilledBy o.filling filling) (sym (no_state (shown_at l.page.scope l.page.path) l.page.serials o.site at)) (λ live. absurd (cc))
+      by_place : (i : Option ℕ) → slice_get l.page.serials o.site ≡ i → FilledBy cases o.filling filling (slice_get (site_states t r l.page) o.site)
+      by_place None at = subst (FilledBy cases o.filling filling) (sym (no_state (shown_at l.page.scope l.page.path) l.page.serials o.site at)) (λ live. absurd (cc))
       by_place (Some n) at =
-          subst (FilledBy o.filling filling) (sym (state_at (shown_at l.page.scope l.page.path) l.page.serials o.site n at))
-          (subst (λ (q : List ℕ). FilledBy o.filling filling (Some (shown_at l.page.scope q n))) (sym h.path)
+          subst (FilledBy cases o.filling filling) (sym (state_at (shown_at l.page.scope l.page.path) l.page.serials o.site n at))
+          (subst (λ (q : List ℕ). FilledBy cases o.filling filling (Some (shown_at l.page.scope q n))) (sym h.path)
           (λ live. by_watcher n at (found (key_on p n) t) refl (lookup (is_key (key_on p n)) r) live))
 
   abbrev go_in : Instances → List ℕ → Instance
@@ -165,15 +200,15 @@ module _ (c : act.State) (t : Table) (r : Resting) (settled : (k : Key) (w : Wat
   all_fresh is [] each = tt
   all_fresh is (b ∷ bs) each = (each b.path, all_fresh is bs each)
 
-  are_filled : (p : List ℕ) (l : Linked) (is : Instances) (os : List Outlet) (xs : List OutletState) → IsLinked c t p l → AreOutlets l.page.serials os xs → AllByRecursion (OutletFits t [] p l.page.serials) xs → ((q : List ℕ) → IsFresh c.objects c.scopes (go_in is q))
-      → AreFilled c.objects c.scopes (site_states t r l.page) os (outlets_from (map instances_from (read_bodies (go_in is) xs)))
+  are_filled : (p : List ℕ) (l : Linked) (is : Instances) (os : List Outlet) (xs : List OutletState) → IsLinked c t p l → AreOutlets l.page.serials os xs → AllByRecursion (OutletFits t [] p l.page.serials l.fragment.outlets) xs → ((q : List ℕ) → IsFresh c.objects c.scopes (go_in is q))
+      → AreFilled c.objects c.scopes (site_states t r l.page) (cases_of l.fragment.outlets) os (outlets_from (map instances_from (read_bodies (go_in is) xs)))
   are_filled p l is os [] h outlets fit each = tt
   are_filled p l is [] (x ∷ xs) h outlets fit each = absurd outlets
   are_filled p l is (o ∷ os) (x ∷ xs) h outlets fit each =
       (one_filled p l o x (go_in is) h outlets.0 fit.0, all_fresh is x.bodies each, are_filled p l is os xs h outlets.1 fit.1 each)
 
   abbrev IsRight : List ℕ × Linked → Type 0
-  IsRight e = IsLinked c t e.0 e.1 × AllByRecursion (OutletFits t [] e.0 e.1.page.serials) e.1.page.outlets
+  IsRight e = IsLinked c t e.0 e.1 × AllByRecursion (OutletFits t [] e.0 e.1.page.serials e.1.fragment.outlets) e.1.page.outlets
 
   one_fresh : (e : List ℕ × Linked) (is : Instances) → IsRight e → ((q : List ℕ) → IsFresh c.objects c.scopes (go_in is q)) → IsFresh c.objects c.scopes (instance_join t r e.1 (read_bodies (go_in is) e.1.page.outlets))
   one_fresh e is h each = (

@@ -47,8 +47,6 @@ first_next (e ∷ t) = refl
 pub after_next : (k : Key) (t : Table) → find (above page_machine (Some k)) (keys_of t) ≡ key_after k t
 after_next k t = found_key (is_above k) t
 
-pub ruleset next_steps = (first_next, after_next)
-
 -- a dirty test hands its snapshot on
 handed_dirty : (r : Result Judged Fault) (t : ViewTree) → handed_on r ≡ Some t → r ≡ Ok (dirty t)
 handed_dirty (Ok clean) t e = cc
@@ -100,7 +98,7 @@ holds_tested o e q same Faulted stage h answer state progress handed standing st
     holds_at e q same (verdict_at page_machine (state_of o) o.progress.cursor) standing (step (verdict_at page_machine (state_of o) o.progress.cursor) answer)
     (λ d. not_both (verdict_at page_machine (state_of o) o.progress.cursor) (IsAtStage Pending (record e { progress = q })) found_faulted answer d (λ x. cc))
 holds_tested o e q same Dirty stage h answer state progress handed standing step =
-    let there : IsAtWatcher o.progress.cursor (state_of o).works.watchers = subst (λ g. IsAtStage g o) stage h.stage in
+    let there : IsAtWatcher o.progress.cursor (state_of o).works.watchers = (subst (λ g. IsAtStage g o) stage h.stage).0 in
     let came : q.cursor ≡ o.progress.cursor = ap (λ x. x.cursor) (step (verdict_at page_machine (state_of o) o.progress.cursor) answer) ∙ ap (λ x. x.cursor) progress in
     let still : state_of e ≡ state_of o = state ∙ ap (state_tested page_machine (state_of o) o.progress.cursor) answer in
     holds_at e q same (verdict_at page_machine (state_of o) o.progress.cursor) standing (step (verdict_at page_machine (state_of o) o.progress.cursor) answer)

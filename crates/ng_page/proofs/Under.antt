@@ -7,7 +7,7 @@ use Rattle.ng_base.specs.Views.{ViewTree}
 use Rattle.ng_base.specs.declared.path.Key.{Key}
 use Rattle.ng_behaviour.specs.Scopes.{Scope, path_at, children_at, child_path, with_child}
 use Rattle.ng_drawing.specs.Template.{Fragment}
-use Rattle.ng_fire.specs.Blocks.{Firing, went, gone, all_gone}
+use Rattle.ng_fire.specs.Blocks.{Firing, went, goes, gone, all_gone}
 use Rattle.ng_fire.specs.Runs.{destroy_run}
 use Rattle.ng_link.specs.Calls.{left_at, in_outlet, placed_on, unlinked_at}
 use Rattle.ng_link.specs.Events.{scope_in}
@@ -16,13 +16,14 @@ use Rattle.ng_link.specs.Shape.{key_on}
 use Rattle.ng_link.specs.Standing.{body_count, held_count}
 use Rattle.ng_link.specs.State.{State}
 use Rattle.ng_link.proofs.Keys.{equal_numbers}
+use Rattle.ng_link.proofs.Numbers.{both_true}
 use Rattle.ng_link.proofs.Paths.{other_path}
 use Rattle.ng_watch.specs.Keys.{is_key}
 use Rattle.ng_watch.specs.Seen.{Watcher}
 use Rattle.ng_watch.specs.Table.{found}
 use Rattle.ng_page.specs.Settled.{IsChild, IsWatched, Fits}
 use Rattle.ng_page.proofs.Fitting.{IsOut, fits_stays}
-use Rattle.ng_page.proofs.Going.{Goes, goes_on}
+use Rattle.ng_page.proofs.Going.{leaves, Goes, goes_on, AreSpared, spared_on}
 use Rattle.ng_page.proofs.Placing.{IsNew, HasRoom, others_found, holder_was, placed_watched, placed_fits}
 use Rattle.ng_page.proofs.ScopesStay.{ScopesStay, scopes_trans, scopes_grow, child_there, child_on, child_counted}
 use Rattle.ng_page.proofs.Sites.{SitesStay, left_sites}
@@ -61,14 +62,14 @@ module _ (k : Key) (v : ViewTree) (scope : ℕ) (ks : List Key) (left : list_any
 
   -- these bodies of the instance are to go
   abbrev pub AreGoing : List Body → State → Type 0
-  AreGoing bs s = (m : Linked) → linked_at k.path s.instances ≡ Some m → AllByRecursion (Goes k.serial.0 bs) m.page.outlets
+  AreGoing bs s = (m : Linked) → linked_at k.path s.instances ≡ Some m → AllByRecursion (Goes k.serial.0 v bs) m.page.outlets
 
   apart_here : (b : Body) (bs : List Body) (s : State) → AreGoing (b ∷ bs) s
       → (m : Linked) → linked_at k.path s.instances ≡ Some m → AllByRecursion (λ (x : OutletState). IsOut ks (key_on k.path x.serial) → body_count b.path x.bodies ≡ 0) m.page.outlets
-  apart_here b bs s h m at = all_map (Goes k.serial.0 (b ∷ bs)) (λ (x : OutletState). IsOut ks (key_on k.path x.serial) → body_count b.path x.bodies ≡ 0) m.page.outlets (λ x g out. by_filled x g out (is_filled_by k.serial.0 x) refl) (h m at)
+  apart_here b bs s h m at = all_map (Goes k.serial.0 v (b ∷ bs)) (λ (x : OutletState). IsOut ks (key_on k.path x.serial) → body_count b.path x.bodies ≡ 0) m.page.outlets (λ x g out. by_filled x g out (leaves k.serial.0 v x) refl) (h m at)
     where
-      by_filled : (x : OutletState) → Goes k.serial.0 (b ∷ bs) x → IsOut ks (key_on k.path x.serial) → (t : Bool) → is_filled_by k.serial.0 x ≡ t → body_count b.path x.bodies ≡ 0
-      by_filled x g out true on = let two : true ≡ false = sym (not_asked x on) ∙ out in absurd (cc)
+      by_filled : (x : OutletState) → Goes k.serial.0 v (b ∷ bs) x → IsOut ks (key_on k.path x.serial) → (t : Bool) → leaves k.serial.0 v x ≡ t → body_count b.path x.bodies ≡ 0
+      by_filled x g out true on = let two : true ≡ false = sym (not_asked x (both_true (is_filled_by k.serial.0 x) (goes x.filling v) on).0) ∙ out in absurd (cc)
       by_filled x g out false off = (g.apart off).0
 
   under_unlinked : (b : Body) (bs : List Body) (s : State) → AreGoing (b ∷ bs) s → IsUnder s → IsUnder (unlinked_at k.path b.path s)
@@ -96,20 +97,51 @@ module _ (k : Key) (v : ViewTree) (scope : ℕ) (ks : List Key) (left : list_any
   going_next : (b : Body) (bs : List Body) (s : State) → AreGoing (b ∷ bs) s → AreGoing bs (unlinked_at k.path b.path s)
   going_next b bs s h m at = by_here (unlinked_here k.path b.path s.instances m at)
     where
-      by_here : (l : Linked) × (linked_at k.path s.instances ≡ Some l) × (m ≡ with_outlets (body_gone b.path) l) → AllByRecursion (Goes k.serial.0 bs) m.page.outlets
-      by_here (l, old, same) = subst (λ (x : Linked). AllByRecursion (Goes k.serial.0 bs) x.page.outlets) (sym same) (goes_on k.serial.0 b bs l.page.outlets (h l old))
+      by_here : (l : Linked) × (linked_at k.path s.instances ≡ Some l) × (m ≡ with_outlets (body_gone b.path) l) → AllByRecursion (Goes k.serial.0 v bs) m.page.outlets
+      by_here (l, old, same) = subst (λ (x : Linked). AllByRecursion (Goes k.serial.0 v bs) x.page.outlets) (sym same) (goes_on k.serial.0 v b bs l.page.outlets (h l old))
 
-  under_gone : (b : Body) (bs : List Body) (g : Firing) → AreGoing (b ∷ bs) g.state → IsUnder g.state → IsUnder (gone k.path b g).state × AreGoing bs (gone k.path b g).state
-  under_gone b bs g h u =
+  -- what has become of the instance since it was this: its outlets that keep their bodies have them still
+  pub record IsSince (l m : Linked) : Type 0 where
+    pub serials : m.page.serials ≡ l.page.serials
+    pub fragment : m.fragment ≡ l.fragment
+    pub outlets : AreSpared k.serial.0 v l.page.outlets m.page.outlets
+
+  abbrev pub AreSince : Linked → State → Type 0
+  AreSince l s = (m : Linked) → linked_at k.path s.instances ≡ Some m → IsSince l m
+
+  since_next : (l : Linked) (b : Body) (bs : List Body) (s : State) → AreGoing (b ∷ bs) s → AreSince l s → AreSince l (unlinked_at k.path b.path s)
+  since_next l b bs s h since m at = by_here (unlinked_here k.path b.path s.instances m at)
+    where
+      by_here : (o : Linked) × (linked_at k.path s.instances ≡ Some o) × (m ≡ with_outlets (body_gone b.path) o) → IsSince l m
+      by_here (o, old, same) =
+          let was : IsSince l o = since o old in
+          subst (IsSince l) (sym same)
+          (record {
+            serials = was.serials;
+            fragment = was.fragment;
+            outlets = spared_on k.serial.0 v b bs l.page.outlets o.page.outlets (h o old) was.outlets;
+          })
+
+  pub record IsLeft (l : Linked) (bs : List Body) (s : State) : Type 0 where
+    pub under : IsUnder s
+    pub going : AreGoing bs s
+    pub since : AreSince l s
+
+  under_gone : (l : Linked) (b : Body) (bs : List Body) (g : Firing) → IsLeft l (b ∷ bs) g.state → IsLeft l bs (gone k.path b g).state
+  under_gone l b bs g h =
       let dead : ℕ = scope_in (linked_at b.path g.state.instances) in
       let t : State = (went (destroy_run dead g.state.core) g).state in
       let stay : SitesStay g.state t = followed_sites (destroy_run dead g.state.core) g.state (destroyed_stays dead g.state.core) in
-      let still : AreGoing (b ∷ bs) t = λ m at. h m (ap (linked_at k.path) (sym stay.instances) ∙ at) in
-      (under_unlinked b bs t still (under_stays g.state t stay u), going_next b bs t still)
+      let still : AreGoing (b ∷ bs) t = λ m at. h.going m (ap (linked_at k.path) (sym stay.instances) ∙ at) in
+      record {
+        under = under_unlinked b bs t still (under_stays g.state t stay h.under);
+        going = going_next b bs t still;
+        since = since_next l b bs t still (λ m at. h.since m (ap (linked_at k.path) (sym stay.instances) ∙ at));
+      }
 
-  pub under_all_gone : (bs : List Body) (g : Firing) → AreGoing bs g.state → IsUnder g.state → IsUnder (all_gone k.path bs g).state × AreGoing [] (all_gone k.path bs g).state
-  under_all_gone [] g h u = (u, h)
-  under_all_gone (b ∷ bs) g h u = let one = under_gone b bs g h u in under_all_gone bs (gone k.path b g) one.1 one.0
+  pub under_all_gone : (l : Linked) (bs : List Body) (g : Firing) → IsLeft l bs g.state → IsLeft l [] (all_gone k.path bs g).state
+  under_all_gone l [] g h = h
+  under_all_gone l (b ∷ bs) g h = under_all_gone l bs (gone k.path b g) (under_gone l b bs g h)
 
   -- ---- a body comes, on a scope that was made for it
 

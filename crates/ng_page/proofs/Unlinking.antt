@@ -7,6 +7,7 @@ use Rattle.std.specs.Map.{keys_of}
 use Rattle.ng_act.specs.State as act
 use Rattle.ng_base.specs.Order.{path_cmp, path_cmp_total}
 use Rattle.ng_base.specs.declared.path.Key.{Key}
+use Rattle.ng_drawing.specs.Template.{Outlet}
 use Rattle.ng_fire.specs.Blocks.{has_bodies}
 use Rattle.ng_link.specs.Calls.{left_at, unlinked_at}
 use Rattle.ng_link.specs.Instances.{OutletState, Linked, Instances, is_path, linked_at, with_outlets, outlets_changed, without_body, body_gone, unlinked}
@@ -18,7 +19,7 @@ use Rattle.ng_link.proofs.Paths.{path_is, other_path}
 use Rattle.ng_link.proofs.Sorted.{filter_sorted}
 use Rattle.ng_watch.specs.Keys.{begins}
 use Rattle.ng_watch.specs.Table.{Table}
-use Rattle.ng_page.specs.Settled.{IsChild, IsLinked, OutletFits, IsWatched, Fits}
+use Rattle.ng_page.specs.Settled.{IsChild, IsLinked, cases_under, OutletFits, IsWatched, Fits}
 use Rattle.ng_page.proofs.Bodies.{calls_same, all_mapped, filter_none, gone_outlets, gone_bodies, gone_count}
 use Rattle.ng_page.proofs.Fitting.{IsOut, fits_stays}
 use Rattle.ng_page.proofs.Sites.{left_sites}
@@ -78,6 +79,8 @@ linked_gone c t p q m h = record {
   there = h.there;
   count = h.count;
   below = h.below;
+  rising = h.rising;
+  sites = h.sites;
   watched = h.watched;
   outlets = gone_outlets p m.page.serials m.fragment.outlets m.page.outlets h.outlets;
   bodies = gone_bodies p (IsChild c.scopes m.page.scope) m.page.outlets h.bodies;
@@ -107,8 +110,9 @@ unlinked_watched holder p s h =
 
 -- ---- and fits
 
-fits_gone : (t : Table) (ks : List Key) (p holder serials : List ℕ) (x : OutletState) → OutletFits t ks holder serials x → (IsOut ks (key_on holder x.serial) → body_count p x.bodies ≡ 0) → OutletFits t ks holder serials (without_body p x)
-fits_gone t ks p holder serials x fit none site w e out = calls_same w.kept x (without_body p x) refl (ap has_bodies (filter_none p x.bodies (none out))) (fit site w e out)
+fits_gone : (t : Table) (ks : List Key) (p holder serials : List ℕ) (os : List Outlet) (x : OutletState) → OutletFits t ks holder serials os x → (IsOut ks (key_on holder x.serial) → body_count p x.bodies ≡ 0)
+    → OutletFits t ks holder serials os (without_body p x)
+fits_gone t ks p holder serials os x fit none site w e out = calls_same (cases_under serials os x.serial) w.kept x (without_body p x) refl (ap has_bodies (filter_none p x.bodies (none out))) (fit site w e out)
 
 pub unlinked_fits : (holder p : List ℕ) (s : State) (ks : List Key) → IsWatched s
     → ((m : Linked) → linked_at holder s.instances ≡ Some m → AllByRecursion (λ (x : OutletState). IsOut ks (key_on holder x.serial) → body_count p x.bodies ≡ 0) m.page.outlets)
@@ -118,17 +122,17 @@ unlinked_fits holder p s ks h none fits q l at =
     let k : Fits ks t = fits_stays s t ks (left_sites p s) h.keys fits in
     by_place t.watchers k (unlinked_some holder p q s.instances l at)
   where
-    by_place : (t : Table) → ((x : List ℕ) (m : Linked) → linked_at x s.instances ≡ Some m → AllByRecursion (OutletFits t ks x m.page.serials) m.page.outlets)
-        → (m : Linked) × (linked_at q s.instances ≡ Some m) × ((l ≡ m) ⊎ ((q ≡ holder) × (l ≡ with_outlets (body_gone p) m))) → AllByRecursion (OutletFits t ks q l.page.serials) l.page.outlets
-    by_place t k (m, at, inl same) = subst (λ (n : Linked). AllByRecursion (OutletFits t ks q n.page.serials) n.page.outlets) (sym same) (k q m at)
+    by_place : (t : Table) → ((x : List ℕ) (m : Linked) → linked_at x s.instances ≡ Some m → AllByRecursion (OutletFits t ks x m.page.serials m.fragment.outlets) m.page.outlets)
+        → (m : Linked) × (linked_at q s.instances ≡ Some m) × ((l ≡ m) ⊎ ((q ≡ holder) × (l ≡ with_outlets (body_gone p) m))) → AllByRecursion (OutletFits t ks q l.page.serials l.fragment.outlets) l.page.outlets
+    by_place t k (m, at, inl same) = subst (λ (n : Linked). AllByRecursion (OutletFits t ks q n.page.serials n.fragment.outlets) n.page.outlets) (sym same) (k q m at)
     by_place t k (m, at, inr here) =
-        subst (λ (n : Linked). AllByRecursion (OutletFits t ks q n.page.serials) n.page.outlets) (sym here.1)
-        (subst (λ (x : List ℕ). AllByRecursion (OutletFits t ks x m.page.serials) (body_gone p m.page.outlets)) (sym here.0)
+        subst (λ (n : Linked). AllByRecursion (OutletFits t ks q n.page.serials n.fragment.outlets) n.page.outlets) (sym here.1)
+        (subst (λ (x : List ℕ). AllByRecursion (OutletFits t ks x m.page.serials m.fragment.outlets) (body_gone p m.page.outlets)) (sym here.0)
         (changed m (subst (λ (x : List ℕ). linked_at x s.instances ≡ Some m) here.0 at) (k holder m (subst (λ (x : List ℕ). linked_at x s.instances ≡ Some m) here.0 at))))
       where
-        changed : (m : Linked) → linked_at holder s.instances ≡ Some m → AllByRecursion (OutletFits t ks holder m.page.serials) m.page.outlets → AllByRecursion (OutletFits t ks holder m.page.serials) (body_gone p m.page.outlets)
+        changed : (m : Linked) → linked_at holder s.instances ≡ Some m → AllByRecursion (OutletFits t ks holder m.page.serials m.fragment.outlets) m.page.outlets → AllByRecursion (OutletFits t ks holder m.page.serials m.fragment.outlets) (body_gone p m.page.outlets)
         changed m at fit =
-            all_mapped (λ (x : OutletState). OutletFits t ks holder m.page.serials x × (IsOut ks (key_on holder x.serial) → body_count p x.bodies ≡ 0)) (OutletFits t ks holder m.page.serials) (without_body p) m.page.outlets
-            (λ x two. fits_gone t ks p holder m.page.serials x two.0 two.1)
-            (all_both (OutletFits t ks holder m.page.serials) (λ (x : OutletState). IsOut ks (key_on holder x.serial) → body_count p x.bodies ≡ 0) (λ (x : OutletState). OutletFits t ks holder m.page.serials x × (IsOut ks (key_on holder x.serial) → body_count p x.bodies ≡ 0)) m.page.outlets
+            all_mapped (λ (x : OutletState). OutletFits t ks holder m.page.serials m.fragment.outlets x × (IsOut ks (key_on holder x.serial) → body_count p x.bodies ≡ 0)) (OutletFits t ks holder m.page.serials m.fragment.outlets) (without_body p) m.page.outlets
+            (λ x two. fits_gone t ks p holder m.page.serials m.fragment.outlets x two.0 two.1)
+            (all_both (OutletFits t ks holder m.page.serials m.fragment.outlets) (λ (x : OutletState). IsOut ks (key_on holder x.serial) → body_count p x.bodies ≡ 0) (λ (x : OutletState). OutletFits t ks holder m.page.serials m.fragment.outlets x × (IsOut ks (key_on holder x.serial) → body_count p x.bodies ≡ 0)) m.page.outlets
             (λ x f g. (f, g)) fit (none m at))

@@ -66,6 +66,8 @@ linked_stays c d t u p l stay le each h = record {
   there = let more = stay.more in let there = h.there in omega (arith, there, more);
   count = h.count;
   below = all_more c.serial d.serial l.page.serials le h.below;
+  rising = h.rising;
+  sites = h.sites;
   watched = subst (λ o. AreWatched u o p l.page.serials l.fragment.sites) (sym (stay.objects l.page.scope h.there)) (all_stay p t u (object_at c.scopes l.page.scope) l.page.serials l.fragment.sites each h.watched);
   outlets = h.outlets;
   bodies = all_map (λ (x : OutletState). AllByRecursion (IsChild c.scopes l.page.scope) x.bodies) (λ (x : OutletState). AllByRecursion (IsChild d.scopes l.page.scope) x.bodies) l.page.outlets

@@ -1,6 +1,7 @@
 -- The engine of a page as a world.
-use Rattle.std.specs.Prelude.{ℕ, ◌≡◌, ◌<◌, List, [], length, Option, Some, None, IsSome, option_map}
+use Rattle.std.specs.Prelude.{ℕ, ◌≡◌, ◌<◌, List, [], length, Option, Some, None, Result, Ok, Err, IsSome, option_map}
 use Rattle.ng_base.specs.Views.{ViewTree}
+use Rattle.ng_base.specs.declared.fault.Fault.{Fault}
 use Rattle.ng_base.specs.declared.path.Key.{Key}
 use Rattle.ng_digest.specs.Place.{Place, Moves}
 use Rattle.ng_digest.specs.Progress.{place}
@@ -13,6 +14,9 @@ use Rattle.ng_link.specs.State as link
 use Rattle.ng_link.specs.declared.works.Works.{Works}
 use Rattle.ng_value.specs.Snaps.{snap_of}
 use Rattle.ng_watch.specs.Table.{Table, found}
+use Rattle.ng_watch.specs.Verdicts.{Judged, judged_of, verdict}
+use Rattle.ng_watch.specs.Walks.{Arrival, behind_all, at_watcher}
+use Rattle.ng_watch.specs.declared.watch.Verdict.{Verdict}
 use Rattle.ng_page.specs.PageMachine.{State, handed_on_at, page_machine}
 use Rattle.ng_page.specs.Settled.{IsWatched, Fits}
 use Rattle.ng_page.specs.declared.engine.Engine.{Engine}
@@ -37,9 +41,35 @@ abbrev pub handed_on_from : State → Option Key → Option ViewTree
 handed_on_from s None = None
 handed_on_from s (Some k) = handed_on_at s k
 
--- between a test and its fire the snapshot of now is at hand
+-- what the test of the watcher at the cursor finds, if there is one
+abbrev pub judged_in : link.State → Key → Option (Result Judged Fault)
+judged_in s k = option_map (verdict s.core.objects) (found k s.watchers)
+
+abbrev pub judged_at : State → Option Key → Option (Result Judged Fault)
+judged_at s None = None
+judged_at s (Some k) = judged_in s.works k
+
+-- what a walk found at a watcher
+abbrev pub seen_found : Result Verdict Fault → Result Judged Fault
+seen_found (Ok v) = Ok (judged_of v)
+seen_found (Err f) = Err f
+
+-- the key to which a walk came, the one up to which it went where it came to none, and what it found: nothing new at the end
+abbrev pub key_at : Arrival → Option Key
+key_at (behind_all c) = None
+key_at (at_watcher k r) = Some k
+
+abbrev pub last_at : Arrival → Option Key
+last_at (behind_all c) = c
+last_at (at_watcher k r) = None
+
+abbrev pub found_there : Arrival → Result Judged Fault → Result Judged Fault
+found_there (behind_all c) r = r
+found_there (at_watcher k x) r = x
+
+-- before a test what it finds is at hand, and between it and its fire the snapshot of now
 abbrev pub IsAtStage : Stage → Engine → Type 0
-IsAtStage AtKey e = IsAtWatcher e.progress.cursor (link.state_of e.works).watchers
+IsAtStage AtKey e = IsAtWatcher e.progress.cursor (link.state_of e.works).watchers × (judged_at (state_of e) e.progress.cursor ≡ Some (seen_found e.ahead))
 IsAtStage Pending e = IsAtWatcher e.progress.cursor (link.state_of e.works).watchers × (option_map snap_of e.pending ≡ handed_on_from (state_of e) e.progress.cursor)
 IsAtStage stage e = Unit {0}
 
@@ -64,5 +94,6 @@ pub record Holds (e : Engine) : Type 0 where
   pub works : WorksAre e.works
   pub stage : IsAtStage e.progress.stage e
 
+-- which counter of a page stands at its last value isn't told yet: the calls that run programs answer so without it
 abbrev pub engine_moves : Moves Engine
-engine_moves = record { State = State; Key = Key; machine = page_machine; at = place_of; Holds = Holds; Rests = λ e. WorksAre e.works }
+engine_moves = record { State = State; Key = Key; machine = page_machine; at = place_of; Holds = Holds; Rests = λ e. WorksAre e.works; IsWorn = λ e. Unit {0} }

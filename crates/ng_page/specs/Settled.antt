@@ -1,5 +1,5 @@
 -- When no watcher of a page is dirty; how the sites of what is linked are watched; and when blocks have the bodies that they call for.
-use Rattle.std.specs.Prelude.{ℕ, ◌≡◌, ◌<◌, ◌≤◌, Bool, true, false, List, [], ◌∷◌, ◌++◌, length, Option, Some, None, Ok, slice_index_or}
+use Rattle.std.specs.Prelude.{ℕ, ◌≡◌, ◌<◌, ◌≤◌, true, false, List, [], ◌∷◌, ◌++◌, length, Option, Some, None, Ok, slice_index_or, if◌then◌else◌}
 use Rattle.std.specs.BTreeMap.{is_at}
 use Rattle.std.specs.List.{AllByRecursion, list_any}
 use Rattle.std.specs.List.Sorted.{IsStrictlySortedBy}
@@ -10,9 +10,9 @@ use Rattle.ng_base.specs.Order.{path_cmp}
 use Rattle.ng_base.specs.declared.path.Key.{Key}
 use Rattle.ng_base.specs.Views.{ViewTree}
 use Rattle.ng_behaviour.specs.Scopes.{Scope, path_at, object_at, children_at}
-use Rattle.ng_drawing.specs.Looks.{is_kept_true}
+use Rattle.ng_drawing.specs.Cases.{Case, case_in, calls_for}
 use Rattle.ng_drawing.specs.Template as template
-use Rattle.ng_drawing.specs.Template.{Outlet, Filling, body_if}
+use Rattle.ng_drawing.specs.Template.{Outlet}
 use Rattle.ng_fire.specs.Blocks.{has_bodies}
 use Rattle.ng_link.specs.Instances.{Body, OutletState, Linked, linked_at}
 use Rattle.ng_link.specs.Rows.{watching_site}
@@ -45,8 +45,9 @@ abbrev pub IsOutlet : List ℕ → Outlet → OutletState → Type 0
 IsOutlet serials o x = (x.serial ≡ slice_index_or serials o.site 0) × (x.filling ≡ o.filling)
 
 abbrev pub AreOutlets : List ℕ → List Outlet → List OutletState → Type 0
-AreOutlets serials os [] = Unit {0}
+AreOutlets serials [] [] = Unit {0}
 AreOutlets serials [] (x ∷ xs) = ⊥
+AreOutlets serials (o ∷ os) [] = ⊥
 AreOutlets serials (o ∷ os) (x ∷ xs) = IsOutlet serials o x × AreOutlets serials os xs
 
 -- a body has the path of a child of a scope
@@ -61,6 +62,8 @@ pub record IsLinked (c : act.State) (t : Table) (p : List ℕ) (l : Linked) : Ty
   pub there : l.page.scope < length c.scopes
   pub count : length l.page.serials ≡ length l.fragment.sites
   pub below : AllByRecursion (λ (n : ℕ). n < c.serial) l.page.serials
+  pub rising : IsStrictlySortedBy nat_cmp l.page.serials
+  pub sites : AllByRecursion (λ (o : Outlet). o.site < length l.page.serials) l.fragment.outlets
   pub watched : AreWatched t (object_at c.scopes l.page.scope) p l.page.serials l.fragment.sites
   pub outlets : AreOutlets l.page.serials l.fragment.outlets l.page.outlets
   pub bodies : AllByRecursion (λ (x : OutletState). AllByRecursion (IsChild c.scopes l.page.scope) x.bodies) l.page.outlets
@@ -73,18 +76,23 @@ pub record IsWatched (s : State) : Type 0 where
   pub keys : IsStrictlySortedBy key_cmp (keys_of s.watchers)
   pub templates : AllByRecursion (λ (t : Named). is_regular t.1 ≡ true) s.templates
 
--- Each block that is watched, whose site has kept a value, and whose fire did not fault, has the bodies that the value calls for.
-abbrev pub calls : Filling → ViewTree → Bool
-calls (body_if b) v = is_kept_true (Some v)
+-- the cases of a switch of a fragment, by the number of registration of its site
+abbrev pub cases_under : List ℕ → List Outlet → ℕ → List Case
+cases_under serials [] n = []
+cases_under serials (o ∷ os) n = if is_at (nat_cmp n) (slice_index_or serials o.site 0) then case_in o.filling ++ cases_under serials os n else cases_under serials os n
 
-abbrev pub CallsFor : Option ViewTree → OutletState → Type 0
-CallsFor None x = Unit {0}
-CallsFor (Some v) x = has_bodies x.bodies ≡ calls x.filling v
+-- a body stands exactly where it is called for, beside these cases
+abbrev pub CallsFor : List Case → Option ViewTree → OutletState → Type 0
+CallsFor cases None x = Unit {0}
+CallsFor cases (Some v) x = has_bodies x.bodies ≡ calls_for cases x.filling (Some v)
 
--- the outlets of sites that have these numbers of registration
-abbrev pub OutletFits : Table → List Key → List ℕ → List ℕ → OutletState → Type 0
-OutletFits t faulted p serials x =
-    list_any (is_at (nat_cmp x.serial)) serials ≡ true → (w : Watcher) → found (key_on p x.serial) t ≡ Some w → list_any (is_key (key_on p x.serial)) faulted ≡ false → CallsFor w.kept x
+-- Each block that is watched, whose site has kept a value, and whose fire did not fault, has the bodies that the value calls for. Its
+-- fragment has these outlets, and its sites these numbers of registration.
+abbrev pub OutletFits : Table → List Key → List ℕ → List ℕ → List Outlet → OutletState → Type 0
+OutletFits t faulted p serials os x =
+    list_any (is_at (nat_cmp x.serial)) serials ≡ true → (w : Watcher) → found (key_on p x.serial) t ≡ Some w → list_any (is_key (key_on p x.serial)) faulted ≡ false
+    → CallsFor (cases_under serials os x.serial) w.kept x
 
 abbrev pub Fits : List Key → State → Type 0
-Fits faulted s = (p : List ℕ) (l : Linked) → linked_at p s.instances ≡ Some l → AllByRecursion (OutletFits s.watchers faulted p l.page.serials) l.page.outlets
+Fits faulted s =
+    (p : List ℕ) (l : Linked) → linked_at p s.instances ≡ Some l → AllByRecursion (OutletFits s.watchers faulted p l.page.serials l.fragment.outlets) l.page.outlets

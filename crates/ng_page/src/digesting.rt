@@ -21,6 +21,7 @@ use ng_digest::log::Report;
 use ng_digest::progress::Progress;
 use ng_digest::rounds::{DigestFault, digest};
 use ng_link::works::Works;
+use ng_watch::watch::Verdict;
 use std::alloc::Global;
 use std::collections::BTreeSet;
 use std::mem::replace;
@@ -36,6 +37,7 @@ impl Engine {
             told: BTreeSet::new(alloc),
             faulted: BTreeSet::new(alloc),
             probed: Words::new(alloc),
+            ahead: Ok(Verdict::Clean),
             pending: None,
             progress: Progress::new(),
         }

@@ -336,8 +336,6 @@ impl Page {
 
     /// What stands of the template: for each site its key, its scope and what it has kept.
     pub fn instance(&self) -> Result<Option<Instance>, Memory>
-        requires page { IsPage self.now }
-        requires unspent { self.now.spent ≡ false }
         ensures { IfOk result (λ i. option_map (instance_of (fragments_of self.now)) i ≡ instance (state_of self.now)) }
     {
         self.engine.works.instance()

@@ -1,28 +1,25 @@
 //! What a test and a fire of a watcher do.
-ghost use Rattle.std.specs.Prelude.{◌≡◌, ℕ, List, Some, IsSome, OnOk, IfOk, Err, length, find, option_copied, option_map};
-ghost use Rattle.std.specs.List.Sorted.{IsStrictlySortedBy};
-ghost use Rattle.std.specs.Map.{keys_of};
-ghost use Rattle.std.specs.Option.{IfSome, ForSome};
+ghost use Rattle.std.specs.Prelude.{◌≡◌, ℕ, List, IsSome, OnOk, IfOk, Err, is_some, option_map};
 ghost use Rattle.ng_base.specs.declared.path.Key.{Key as Name};
-ghost use Rattle.ng_digest.specs.Machine.{above};
 ghost use Rattle.ng_fire.specs.Fires.{fired, fire_adds, IsDirtyWith};
-ghost use Rattle.ng_digest.specs.Place.{Answers, OnTested, state_tested};
+ghost use Rattle.ng_digest.specs.Place.{Answers, OnTested};
+ghost use Rattle.ng_digest.specs.Progress.{came_to, passed};
 ghost use Rattle.ng_link.specs.State.{state_of};
 ghost use Rattle.ng_value.specs.Snaps.{snap_of};
-ghost use Rattle.ng_watch.specs.Keys.{key_cmp};
-ghost use Rattle.ng_watch.specs.Seen.{WatchStands};
-ghost use Rattle.ng_watch.specs.Table.{found, watchers_of};
-ghost use Rattle.ng_page.specs.PageMachine.{page_machine, verdict_at, tell, fired_to, handed_on_at};
-ghost use Rattle.ng_page.specs.PlaceOf.{seen_of, WorksAre, OnDirty};
+ghost use Rattle.ng_watch.specs.Table.{found};
+ghost use Rattle.ng_watch.specs.Walks.{reached_of};
+ghost use Rattle.ng_page.specs.PageMachine.{found_as, tell, fired_to, handed_on};
+ghost use Rattle.ng_page.specs.PlaceOf.{seen_of, seen_found, key_at, last_at, found_there, WorksAre, OnDirty};
 
 use ng_base::fault::{Fault, Memory};
 use ng_base::path::Key;
+use ng_digest::progress::Progress;
 use ng_digest::world::Tested;
 use ng_fire::firing;
 use ng_link::works::Works;
 use ng_value::snapshot::Snap;
+use ng_watch::walking::{Reached, Walk};
 use ng_watch::watch::Verdict;
-use ng_watch::watchers::Watchers;
 use std::alloc::{AllocError, Global};
 use std::collections::BTreeSet;
 
@@ -36,28 +33,32 @@ fn copied(key: &Key) -> Result<Key, AllocError>
     })
 }
 
-/// The least key above the cursor.
-#[tactic(auto, using(crate::proofs::Stages::next_steps))]
-fn least_above<'a>(watchers: &'a Watchers, cursor: Option<&Key>) -> Option<&'a Key>
-    ensures next { option_copied result ≡ find (above page_machine (option_copied cursor.entry)) (keys_of (watchers_of watchers.now)) }
-    ensures there { IfSome result (λ k. IsSome (found k.now (watchers_of watchers.now))) }
+/// The cursor comes to where a walk ended, and what the walk found there is at hand. False where it came to no watcher.
+pub(crate) fn arrive(
+    progress: &mut Progress<Key>,
+    ahead: &mut Result<Verdict, Fault>,
+    walk: Walk,
+) -> bool
+    ensures answer { result ≡ is_some (key_at (reached_of walk.reached)) }
+    ensures step { progress.new ≡ came_to (key_at (reached_of walk.reached)) (passed walk.passed (last_at (reached_of walk.reached)) progress.old) }
+    ensures ahead { seen_found ahead.new ≡ found_there (reached_of walk.reached) (seen_found ahead.old) }
 {
-    match cursor {
-        None => watchers.first(),
-        Some(key) => watchers.next_after(key),
-    }
-}
-
-/// The key that the cursor comes to.
-pub(crate) fn next_of(watchers: &Watchers, cursor: Option<&Key>) -> Result<Option<Key>, AllocError>
-    ensures next { IfOk result (λ k. k ≡ find (above page_machine (option_copied cursor.entry)) (keys_of (watchers_of watchers.now))) }
-    ensures there { IfOk result (λ o. IfSome o (λ k. IsSome (found k (watchers_of watchers.now)))) }
-    ensures sorted { IsStrictlySortedBy key_cmp (keys_of (watchers_of watchers.now)) }
-{
-    let _in_order = watchers.count();
-    match least_above(watchers, cursor) {
-        None => Ok(None),
-        Some(key) => Ok(Some(copied(key)?)),
+    let Walk { passed, reached } = walk;
+    match reached {
+        Reached::End(last) => {
+            progress.pass(passed, last);
+            progress.come_to(None)
+        }
+        Reached::Watcher(key, verdict) => {
+            *ahead = Ok(verdict);
+            progress.pass(passed, None);
+            progress.come_to(Some(key))
+        }
+        Reached::Faulted(key, fault) => {
+            *ahead = Err(fault);
+            progress.pass(passed, None);
+            progress.come_to(Some(key))
+        }
     }
 }
 
@@ -79,28 +80,25 @@ fn tell(
     Ok(())
 }
 
-/// Tests the watcher of a key.
-pub(crate) fn test(
-    alloc: Global,
+/// What the test of a watcher found is handed on: the snapshot of a dirty one to its fire, and a fault to the page.
+pub(crate) fn hand_on(
     works: &mut Works,
     told: &mut BTreeSet<Key>,
     pending: &mut Option<Snap>,
     key: &Key,
+    found: Result<Verdict, Fault>,
 ) -> Tested
-    requires there { IsSome (found key.now (state_of works.old).watchers) }
-    requires stands { ForSome (found key.now (state_of works.old).watchers) (λ w. WatchStands (length (state_of works.old).core.objects) w.watch) }
-    ensures answer { (fs : List Name) (ps : List (List ℕ)) → Answers (verdict_at (seen_of works.old told.old.keys fs ps) key.now) result }
-    ensures state { OnTested result ((fs : List Name) (ps : List (List ℕ)) → seen_of works.new told.new.keys fs ps ≡ state_tested page_machine (seen_of works.old told.old.keys fs ps) (Some key.now) (verdict_at (seen_of works.old told.old.keys fs ps) key.now)) }
-    ensures handed_on { OnDirty result ((fs : List Name) (ps : List (List ℕ)) → option_map snap_of pending.new ≡ handed_on_at (seen_of works.old told.old.keys fs ps) key.now) }
+    ensures answer { Answers (found_as (seen_found found)) result }
+    ensures state { OnTested result ((fs : List Name) (ps : List (List ℕ)) → seen_of works.new told.new.keys fs ps ≡ tell key.now (seen_found found) (seen_of works.old told.old.keys fs ps)) }
+    ensures handed_on { OnDirty result (option_map snap_of pending.new ≡ handed_on (seen_found found)) }
     ensures works { OnTested result (WorksAre works.old → WorksAre works.new) }
 {
-    match works.watchers().test(alloc, &works.core.store, key) {
+    match found {
         Ok(Verdict::Clean) => Tested::Clean,
         Ok(Verdict::Dirty(snapshot)) => {
             *pending = Some(snapshot);
             Tested::Dirty
         }
-        Err(Fault::Memory(memory)) => Tested::Memory(memory),
         Err(fault) => match tell(works, told, key, fault) {
             Ok(()) => Tested::Faulted,
             Err(_) => Tested::Memory(Memory::Refused),

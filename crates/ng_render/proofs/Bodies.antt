@@ -1,26 +1,22 @@
 -- The bodies in an instance, and what is rendered of them.
-use Rattle.std.proofs.Common.{◌≡◌, ◌<◌, ◌≤◌, ◌+◌, ℕ, zero, suc, List, [], ◌∷◌, ◌++◌, map, drop, get_or, length, Bool, true, false, cond, Option, refl, ap, sym, subst, ◌∙◌, append_assoc, append-nil, slice_index_or, arith}
+use Rattle.std.proofs.Common.{◌≡◌, ◌<◌, ◌≤◌, ◌+◌, ℕ, zero, suc, List, [], ◌∷◌, ◌++◌, map, drop, get_or, length, Bool, true, false, cond, refl, ap, sym, subst, ◌∙◌, append_assoc, append-nil, slice_index_or, arith}
 use Rattle.std.proofs.lemmas.List.{at_drop_more, drop_all}
 use Rattle.std.proofs.lemmas.Bool.{ne_eqb}
 use Rattle.std.specs.Prelude.{slice_get, not, ◌==◌, vec_len}
-use Rattle.ng_base.specs.Views.{ViewTree}
 use Rattle.ng_base.specs.Objects.{Object}
 use Rattle.ng_behaviour.specs.Scopes.{Scope}
 use Rattle.ng_markup.specs.Forest.{Forest, no_nodes}
 use Rattle.ng_drawing.specs.Drawing.{Now, Rendered, shown_as, render}
-use Rattle.ng_drawing.specs.Instance.{SiteState, Instance, Instances, Outlets, instance_with, no_instances, instance_then, no_outlets, outlet_then, instances_from, outlets_from, has_any, is_filled, instance_now, outlet_at, rendering, rendering_all, rendering_in}
+use Rattle.ng_drawing.specs.Cases.{cases_of}
+use Rattle.ng_drawing.specs.Instance.{SiteState, CasesAt, Instance, Instances, Outlets, instance_with, no_instances, instance_then, no_outlets, outlet_then, instances_from, outlets_from, has_any, instance_now, outlet_at, rendering, rendering_all, rendering_in}
 use Rattle.ng_drawing.specs.InstanceOf.{state_of, Fragments, instance_step, instances_step, instance_of, instances_of}
-use Rattle.ng_drawing.specs.Looks.{is_kept_true}
 use Rattle.ng_drawing.specs.Template.{Site, Outlet, Contents, Part, Parts, anchor_part, Fragment, no_fragment}
 use Rattle.ng_render.specs.OverOf.{NamesStand, InstanceStands, OutletsStand}
-use Rattle.ng_template.specs.FragmentOf.{filling_of}
 use Rattle.ng_parse.specs.ProgramOf.{program}
 use Rattle.ng_template.specs.Seen.{contents_step, part_step, parts_step, part_of}
 use Rattle.ng_template.specs.declared.parts.Contents.TheFolds.{fold-roll-Part}
 use Rattle.ng_template.specs.declared.parts.Contents.TheOpen.{Part-F}
 use Rattle.ng_template.specs.declared.parts.Part.TheVariants as variants
-use Rattle.ng_template.specs.declared.outlets.Filling.{Filling}
-use Rattle.ng_template.specs.declared.outlets.Filling.TheVariants.{BodyIf}
 use Rattle.ng_drawing.specs.declared.instance.Instance as code_instance
 use Rattle.ng_drawing.specs.declared.instance.Instances as code_instances
 use Rattle.ng_drawing.specs.declared.instance.Instance.TheViews.{out-Instance, out-Instances}
@@ -50,12 +46,11 @@ not_not : (b : Bool) → not (not b) ≡ b
 not_not true = refl
 not_not false = refl
 
--- bodies that are there, or none, as a value calls for
-pub is_filled_by : (all : Fragments) (f : Filling) (v : Option ViewTree) (is : code_instances.Instances) (b : Bool) → is_kept_true v ≡ b
-    → is_filled (filling_of f) v (instances_of all is) ≡ cond b (not (vec_len (out-Instances is).items == 0)) (vec_len (out-Instances is).items == 0)
-is_filled_by all (BodyIf k) v is true e = ap (λ c. cond c (has_any (instances_of all is)) (not (has_any (instances_of all is)))) e ∙ any_of all is
-is_filled_by all (BodyIf k) v is false e =
-    ap (λ c. cond c (has_any (instances_of all is)) (not (has_any (instances_of all is)))) e ∙ (ap not (any_of all is) ∙ not_not (vec_len (out-Instances is).items == 0))
+-- bodies that are there, or none, as they are called for
+pub is_filled_by : (all : Fragments) (is : code_instances.Instances) (b : Bool)
+    → cond b (has_any (instances_of all is)) (not (has_any (instances_of all is))) ≡ cond b (not (vec_len (out-Instances is).items == 0)) (vec_len (out-Instances is).items == 0)
+is_filled_by all is true = any_of all is
+is_filled_by all is false = ap not (any_of all is) ∙ not_not (vec_len (out-Instances is).items == 0)
 
 -- how many bodies there are in bodies
 abbrev mutual
@@ -103,27 +98,27 @@ drop_again xs zero = refl
 drop_again [] (suc i) = let e : suc (i + 1) ≡ suc i + 1 = omega arith in ap (λ k. drop k []) e
 drop_again (x ∷ xs) (suc i) = let e : suc (i + 1) ≡ suc i + 1 = omega arith in drop_again xs i ∙ ap (λ k. drop k (x ∷ xs)) e
 
-module _ (objects : List Object) (scopes : List Scope) (now : Now) (states : List SiteState) where
+module _ (objects : List Object) (scopes : List Scope) (now : Now) (states : List SiteState) (cases : CasesAt) where
   abbrev pub filled_by : List Outlet → List Instances → List (Rendered Forest)
-  filled_by os is = rendering_in objects scopes now states os (outlets_from is)
+  filled_by os is = rendering_in objects scopes now states cases os (outlets_from is)
 
   filled_first : (os : List Outlet) (is : Instances) (rest : List Instances)
-      → filled_by os (is ∷ rest) ≡ outlet_at now states (slice_get os 0) is (rendering_all objects scopes is) ∷ filled_by (drop 1 os) rest
+      → filled_by os (is ∷ rest) ≡ outlet_at now states cases (slice_get os 0) is (rendering_all objects scopes is) ∷ filled_by (drop 1 os) rest
   filled_first [] is rest = refl
   filled_first (o ∷ os) is rest = refl
 
   module _ {X : Type 0} (seen : X → Instances) (os : List Outlet) (xs : List X) (i : ℕ) where
     -- one outlet more
-    pub filled_turn : (x : X) (done : List (Rendered Forest)) (g : Rendered Forest) → i < length xs → x ≡ get_or xs i x → g ≡ outlet_at now states (slice_get os i) (seen x) (rendering_all objects scopes (seen x))
+    pub filled_turn : (x : X) (done : List (Rendered Forest)) (g : Rendered Forest) → i < length xs → x ≡ get_or xs i x → g ≡ outlet_at now states cases (slice_get os i) (seen x) (rendering_all objects scopes (seen x))
         → (done ++ g ∷ []) ++ filled_by (drop (i + 1) os) (map seen (drop (i + 1) xs)) ≡ done ++ filled_by (drop i os) (map seen (drop i xs))
     filled_turn x done g l is shows =
         let rest : List Instances = map seen (drop (i + 1) xs) in
-        let here : g ≡ outlet_at now states (slice_get (drop i os) 0) (seen (get_or xs i x)) (rendering_all objects scopes (seen (get_or xs i x)))
-        = shows ∙ (ap (λ y. outlet_at now states (slice_get os i) (seen y) (rendering_all objects scopes (seen y))) is
-        ∙ ap (λ o. outlet_at now states o (seen (get_or xs i x)) (rendering_all objects scopes (seen (get_or xs i x)))) (sym (get_dropped os i))) in
+        let here : g ≡ outlet_at now states cases (slice_get (drop i os) 0) (seen (get_or xs i x)) (rendering_all objects scopes (seen (get_or xs i x)))
+        = shows ∙ (ap (λ y. outlet_at now states cases (slice_get os i) (seen y) (rendering_all objects scopes (seen y))) is
+        ∙ ap (λ o. outlet_at now states cases o (seen (get_or xs i x)) (rendering_all objects scopes (seen (get_or xs i x)))) (sym (get_dropped os i))) in
         append_assoc done (g ∷ []) (filled_by (drop (i + 1) os) rest)
         ∙ (ap (λ h. done ++ h ∷ filled_by (drop (i + 1) os) rest) here
-        ∙ (ap (λ qs. done ++ outlet_at now states (slice_get (drop i os) 0) (seen (get_or xs i x)) (rendering_all objects scopes (seen (get_or xs i x))) ∷ filled_by qs rest) (sym (drop_again os i))
+        ∙ (ap (λ qs. done ++ outlet_at now states cases (slice_get (drop i os) 0) (seen (get_or xs i x)) (rendering_all objects scopes (seen (get_or xs i x))) ∷ filled_by qs rest) (sym (drop_again os i))
         ∙ (ap (λ rs. done ++ rs) (sym (filled_first (drop i os) (seen (get_or xs i x)) rest))
         ∙ sym (at_drop_more (λ zs. done ++ filled_by (drop i os) (map seen zs)) xs i x l))))
 
@@ -144,15 +139,15 @@ module _ (objects : List Object) (scopes : List Scope) (all : Fragments) (i : co
   shape sites states gs parts = render (instance_now objects scopes sites states) (λ o. slice_index_or gs o (shown_as no_nodes)) parts
 
   abbrev groups_of : Fragment → List Site → List SiteState → List (Rendered Forest)
-  groups_of f sites states = rendering_in objects scopes (instance_now objects scopes sites states) states f.outlets outlets
+  groups_of f sites states = rendering_in objects scopes (instance_now objects scopes sites states) states (cases_of f.outlets) f.outlets outlets
 
   pub instance_is : (f : Fragment) (sites : List Site) (states : List SiteState) (os : List Outlet) (gs : List (Rendered Forest)) (parts : Parts) → all (out-Instance i).template.0 (out-Instance i).fragment ≡ f → sites ≡ f.sites → states ≡ kept → os ≡ f.outlets
-      → gs ≡ rendering_in objects scopes (instance_now objects scopes sites states) states os outlets → parts ≡ f.parts → rendering objects scopes (instance_of all i) ≡ shape sites states gs parts
+      → gs ≡ rendering_in objects scopes (instance_now objects scopes sites states) states (cases_of os) os outlets → parts ≡ f.parts → rendering objects scopes (instance_of all i) ≡ shape sites states gs parts
   instance_is f sites states os gs parts e s t o g p =
       ap (rendering objects scopes) (instance_out all i)
       ∙ (ap (λ x. rendering objects scopes (instance_with x (out-Instance i).scope.0 kept outlets)) e
       ∙ sym (ap (shape sites states gs) p
-      ∙ (ap (λ hs. shape sites states hs f.parts) (g ∙ ap (λ qs. rendering_in objects scopes (instance_now objects scopes sites states) states qs outlets) o)
+      ∙ (ap (λ hs. shape sites states hs f.parts) (g ∙ ap (λ qs. rendering_in objects scopes (instance_now objects scopes sites states) states (cases_of qs) qs outlets) o)
       ∙ (ap (λ ss. shape ss states (groups_of f ss states) f.parts) s
       ∙ ap (λ ks. shape f.sites ks (groups_of f f.sites ks) f.parts) t))))
 

@@ -1,8 +1,11 @@
 //! The rendering of an instance: the bodies in it first, and then its parts round them.
-ghost use Rattle.std.specs.Prelude.{◌≡◌, true, map, option_map, slice_get, IfOk, IfErr};
+ghost use Rattle.std.specs.Prelude.{◌≡◌, ◌==◌, [], true, not, map, option_map, slice_get, IfOk, IfErr, if◌then◌else◌};
 ghost use Rattle.ng_base.specs.Faults.{is_memory};
 ghost use Rattle.ng_base.specs.Meets.{Gives};
-ghost use Rattle.ng_drawing.specs.Instance.{rests_in, is_filled as is_filled_with, outlet_now, outlet_at, rendering, rendering_all, rendering_in, outlets_from};
+ghost use Rattle.std.specs.List.{list_any};
+ghost use Rattle.ng_blocks.specs.Switching.{matches};
+ghost use Rattle.ng_drawing.specs.Cases.{case_in, cases_of, is_chosen as is_chosen_of, is_chosen_by as is_chosen_by_of, calls_for as calls_for_of};
+ghost use Rattle.ng_drawing.specs.Instance.{has_any, rests_in, outlet_now, outlet_at, rendering, rendering_all, rendering_in, outlets_from};
 ghost use Rattle.ng_drawing.specs.InstanceOf.{Fragments, state_of, instance_of, instances_of};
 ghost use Rattle.ng_html.specs.Seen.{forest_of};
 ghost use Rattle.ng_template.specs.Kept.{templates_of, fragments_in};
@@ -16,13 +19,15 @@ use crate::over::{Group, Over};
 use crate::parts::rendered;
 use crate::sites::shown_now;
 use ng_base::fault::{Fault, Memory};
+use ng_base::txt::Txt;
+use ng_drawing::cases::{has_text, kept_as_text};
 use ng_drawing::instance::{Instance, Instances, SiteState};
 use ng_html::forest::Forest;
 use ng_scopes::scopes::Scopes;
 use ng_store::store::Store;
 use ng_template::{Filling, Outlet, Templates};
 use ng_value::snapshot::Snap;
-use std::alloc::Global;
+use std::alloc::{AllocError, Global};
 
 /// The templates, the data and the scopes that all instances of a page share.
 #[derive(Clone, Copy)]
@@ -43,30 +48,97 @@ fn rests(states: &[SiteState], n: u32) -> bool
     }
 }
 
-/// Whether the bodies that stand are those that a value calls for.
-fn is_filled(filling: Filling, shown: &Option<Snap>, bodies: &Instances) -> bool
-    ensures { (all : Fragments) → result ≡ is_filled_with (filling_of filling) (option_map snap_of shown.now) (instances_of all bodies.now) }
+/// Whether an outlet is that of a case of the switch of a site and has a text.
+fn case_has(outlet: &Outlet, site: u32, value: &Txt) -> bool
+    ensures { result ≡ list_any (matches value.now) (if outlet.now.site == site then case_in (filling_of outlet.now.filling) else []) }
 {
-    match filling {
-        Filling::BodyIf(_) => {
-            if is_kept_true(shown) {
-                !bodies.items.is_empty()
-            } else {
-                bodies.items.is_empty()
-            }
+    if outlet.site != site {
+        return false;
+    }
+    match &outlet.filling {
+        Filling::BodyIf(_) => false,
+        Filling::OnCase(case, _) => has_text(value, case),
+    }
+}
+
+/// Whether a case of the switch of a site has a text.
+#[tactic(auto, using(ng_drawing::proofs::Choices::any_case))]
+fn any_has(outlets: &[Outlet], site: u32, value: &Txt) -> bool
+    ensures { result ≡ list_any (matches value.now) (cases_of (outlets_of outlets.now) site) }
+{
+    for outlet in outlets {
+        if case_has(outlet, site, value) {
+            return true;
         }
+    }
+    false
+}
+
+/// Whether a case is shown beside those of the switch of a site, where the value has this text.
+fn is_chosen(outlets: &[Outlet], site: u32, value: &Txt, case: &Option<Txt>) -> bool
+    ensures { result ≡ is_chosen_of (cases_of (outlets_of outlets.now) site) value.now case.now }
+{
+    match case {
+        Some(_) => has_text(value, case),
+        None => !any_has(outlets, site, value),
+    }
+}
+
+/// Whether a value of the switch of a site calls for a case.
+fn is_chosen_by(
+    alloc: Global,
+    outlets: &[Outlet],
+    site: u32,
+    case: &Option<Txt>,
+    shown: &Option<Snap>,
+) -> Result<bool, AllocError>
+    ensures { IfOk result (λ b. b ≡ is_chosen_by_of (cases_of (outlets_of outlets.now) site) (option_map snap_of shown.now) case.now) }
+{
+    match shown {
+        None => Ok(false),
+        Some(snap) => {
+            let value = kept_as_text(alloc, snap.view())?;
+            Ok(is_chosen(outlets, site, &value, case))
+        }
+    }
+}
+
+/// Whether a value of its site calls for the body of an outlet, which is one of these.
+fn calls_for(
+    alloc: Global,
+    outlets: &[Outlet],
+    outlet: &Outlet,
+    shown: &Option<Snap>,
+) -> Result<bool, AllocError>
+    ensures { IfOk result (λ b. b ≡ calls_for_of (cases_of (outlets_of outlets.now) outlet.now.site) (filling_of outlet.now.filling) (option_map snap_of shown.now)) }
+{
+    match &outlet.filling {
+        Filling::BodyIf(_) => Ok(is_kept_true(shown)),
+        Filling::OnCase(case, _) => is_chosen_by(alloc, outlets, outlet.site, case, shown),
+    }
+}
+
+/// Whether bodies stand exactly where they are called for.
+fn is_filled(called: bool, bodies: &Instances) -> bool
+    ensures { (all : Fragments) → result ≡ (if called then has_any (instances_of all bodies.now) else not (has_any (instances_of all bodies.now))) }
+{
+    if called {
+        !bodies.items.is_empty()
+    } else {
+        bodies.items.is_empty()
     }
 }
 
 /// What fills an outlet of which this was rendered, where it is what the value of the site calls for now.
 fn filled(
     over: &Over<'_>,
+    outlets: &[Outlet],
     outlet: &Outlet,
     bodies: &Instances,
     group: Group,
 ) -> Result<Group, Memory>
     requires { Stands over.now }
-    ensures { (all : Fragments) → IfOk result (λ g. group_of g ≡ outlet_now (now_over over.now) (map state_of over.now.states.now) (outlet_of outlet.now) (instances_of all bodies.now) (group_of group)) }
+    ensures { (all : Fragments) → IfOk result (λ g. group_of g ≡ outlet_now (now_over over.now) (map state_of over.now.states.now) (cases_of (outlets_of outlets.now)) (outlet_of outlet.now) (instances_of all bodies.now) (group_of group)) }
 {
     if rests(over.states, outlet.site) {
         return Ok(group);
@@ -75,7 +147,8 @@ fn filled(
         Err(Fault::Memory(memory)) => Err(memory),
         Err(fault) => Ok(Group::Faulted(fault)),
         Ok(shown) => {
-            if is_filled(outlet.filling, &shown, bodies) {
+            let called = calls_for(over.alloc, outlets, outlet, &shown)?;
+            if is_filled(called, bodies) {
                 Ok(group)
             } else {
                 Ok(Group::Unfit)
@@ -93,11 +166,11 @@ fn filled_at(
     group: Group,
 ) -> Result<Group, Memory>
     requires { Stands over.now }
-    ensures { (all : Fragments) → IfOk result (λ g. group_of g ≡ outlet_at (now_over over.now) (map state_of over.now.states.now) (slice_get (outlets_of outlets.now) k) (instances_of all bodies.now) (group_of group)) }
+    ensures { (all : Fragments) → IfOk result (λ g. group_of g ≡ outlet_at (now_over over.now) (map state_of over.now.states.now) (cases_of (outlets_of outlets.now)) (slice_get (outlets_of outlets.now) k) (instances_of all bodies.now) (group_of group)) }
 {
     match outlets.get(k) {
         None => Ok(group),
-        Some(outlet) => filled(over, outlet, bodies, group),
+        Some(outlet) => filled(over, outlets, outlet, bodies, group),
     }
 }
 
@@ -153,7 +226,7 @@ fn rendered_outlets(
 ) -> Result<Vec<Group>, Fault>
     requires over { Stands over.now }
     requires stands { OutletsStand ground.now.store.now ground.now.scopes.now (outlets_from (map (instances_of (fragments_in (templates_of ground.now.all.now))) bodies.now)) }
-    ensures groups { IfOk result (λ gs. map group_of gs.items ≡ rendering_in ground.now.store.now ground.now.scopes.now (now_over over.now) (map state_of over.now.states.now) (outlets_of outlets.now) (outlets_from (map (instances_of (fragments_in (templates_of ground.now.all.now))) bodies.now))) }
+    ensures groups { IfOk result (λ gs. map group_of gs.items ≡ rendering_in ground.now.store.now ground.now.scopes.now (now_over over.now) (map state_of over.now.states.now) (cases_of (outlets_of outlets.now)) (outlets_of outlets.now) (outlets_from (map (instances_of (fragments_in (templates_of ground.now.all.now))) bodies.now))) }
     ensures faults { IfErr result (λ e. is_memory e ≡ true) }
 {
     let mut groups = Vec::new(ground.alloc);

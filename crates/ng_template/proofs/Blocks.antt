@@ -1,18 +1,19 @@
 -- The blocks round an element, stage by stage.
-use Rattle.std.proofs.Common.{◌≡◌, ◌<◌, ◌≤◌, ◌+◌, ℕ, suc, ℤ, Bool, true, false, cond, List, [], ◌∷◌, ◌++◌, drop, get_or, length, Option, None, Some, Result, Ok, Err, refl, ap, sym, ◌∙◌, append_assoc, append-nil}
+use Rattle.std.proofs.Common.{◌≡◌, ◌<◌, ◌≤◌, ◌+◌, ℕ, suc, ℤ, Bool, true, false, cond, List, [], ◌++◌, map, drop, get_or, length, Option, None, Some, Result, Ok, Err, refl, ap, sym, ◌∙◌, append_assoc, append-nil}
 use Rattle.std.proofs.lemmas.List.{at_drop_more, drop_all}
-use Rattle.std.specs.Prelude.{is_none, IsErrAnd}
+use Rattle.std.specs.Prelude.{is_none, is_some, unwrap_or, IsErrAnd}
 use Rattle.ng_base.specs.Meets.{◌>>=◌, Gives}
 use Rattle.ng_collect.specs.Collected.{collected}
 use Rattle.ng_collect.specs.declared.definition.DirectiveDef.{DirectiveDef}
 use Rattle.ng_collect.specs.declared.pick.Pick.{Pick}
-use Rattle.ng_drawing.specs.Template.{Site, Outlet, Part}
+use Rattle.ng_drawing.specs.Cases.{Case}
+use Rattle.ng_drawing.specs.Template.{Part}
 use Rattle.ng_drawing.specs.declared.kind.SiteKind.TheVariants as kinds
 use Rattle.ng_interp.specs.Parts.{Piece}
 use Rattle.ng_interp.specs.declared.pieces.InterpFault.{InterpFault}
 use Rattle.ng_markup.specs.Forest.{Node}
-use Rattle.ng_template.specs.Around.{picks_in, at_place, checked_as, checked, block_priority, Inside, is_plain, has_picks, Around, heads_of, heads_after, with_heads, around_these, around_picks, around_below, block_room, around_node}
-use Rattle.ng_template.specs.Compiles.{Made, begun_for, wrapped}
+use Rattle.ng_template.specs.Around.{attributes_in, picks_in, at_place, checked_as, checked, block_priority, Inside, is_plain, has_picks, Block, block_if, Around, case_at, cases_in, switched, heads_by, heads_of, heads_onto, Found, first_case, found_after, with_found, bare_around, around_these, around_picks, around_below, block_room, around_node}
+use Rattle.ng_template.specs.Compiles.{Made, Switch, Outermost, rounds, begun_body, wrapped, in_rounds, node_made}
 use Rattle.ng_template.specs.Directives.{text_on, whole}
 use Rattle.ng_template.specs.Free.{is_tpl_want}
 use Rattle.ng_template.specs.Manners.{are_built, any_makes_plain}
@@ -26,7 +27,7 @@ judged_as-checked : (place : ℕ) (o : Option TplKind) (ps : List Piece) → jud
 judged_as-checked place None ps = refl
 judged_as-checked place (Some kind) ps = refl
 
-judged-checked : (place : ℕ) (r : Result (List Piece) InterpFault) → judged place r ≡ at_place place (checked r)
+pub judged-checked : (place : ℕ) (r : Result (List Piece) InterpFault) → judged place r ≡ at_place place (checked r)
 judged-checked place (Err f) = refl
 judged-checked place (Ok ps) = judged_as-checked place (wrong ps) ps
 
@@ -35,143 +36,247 @@ placed_ok place (Ok w) v e = cc
 placed_ok place (Err kind) v e = absurd (cc)
 
 -- the first refusal stands
-refused_first : {A B : Type 0} (place : ℕ) (r : Result A TplKind) (go : A → Result B TplKind) (f : TplFault) → at_place place r ≡ Err f → at_place place (r >>= go) ≡ Err f
+pub refused_first : {A B : Type 0} (place : ℕ) (r : Result A TplKind) (go : A → Result B TplKind) (f : TplFault) → at_place place r ≡ Err f → at_place place (r >>= go) ≡ Err f
 refused_first place (Ok v) go f e = absurd (cc)
 refused_first place (Err kind) go f e = cc
 
--- the sites of one block more
-joined-heads : (before own : List Site) (r : Result (List Site) TplKind) → ((r >>= λ hs. Ok (own ++ hs)) >>= λ hs. Ok (before ++ hs)) ≡ (r >>= λ hs. Ok ((before ++ own) ++ hs))
-joined-heads before own (Ok hs) = ap Ok (sym (append_assoc before own hs))
-joined-heads before own (Err kind) = refl
+-- blocks after those that were found
+onto-more : (place : ℕ) (before now : List Block) (r s : Result (List Block) TplKind) → at_place place (heads_onto before r) ≡ Ok now → heads_onto before (r >>= λ h. s >>= λ hs. Ok (h ++ hs)) ≡ heads_onto now s
+onto-more place before now (Ok h) (Ok hs) e =
+    let same : before ++ h ≡ now = (cc) in
+    ap Ok (sym (append_assoc before h hs) ∙ ap (λ (xs : List Block). xs ++ hs) same)
+onto-more place before now (Ok h) (Err kind) e = refl
+onto-more place before now (Err kind) s e = absurd (cc)
 
-module _ (place : ℕ) (before : List Site) (p : Pick) (ps : List Pick) where
+onto-refused : (place : ℕ) (before : List Block) (r : Result (List Block) TplKind) (go : List Block → Result (List Block) TplKind) (f : TplFault) → at_place place (heads_onto before r) ≡ Err f
+    → at_place place (heads_onto before (r >>= go)) ≡ Err f
+onto-refused place before (Ok h) go f e = absurd (cc)
+onto-refused place before (Err kind) go f e = cc
+
+-- a block more
+abbrev pub head_at : Pick → Result (List Block) TplKind
+head_at p = heads_by (case_at p) (text_on p.attribute)
+
+module _ (place : ℕ) (xs : List Pick) (i : ℕ) (x : Pick) (l : i < length xs) (is : x ≡ get_or xs i x) (before : List Block) where
+  here : at_place place (heads_onto before (head_at x)) ≡ at_place place (heads_onto before (head_at (get_or xs i x)))
+  here = ap (λ (y : Pick). at_place place (heads_onto before (head_at y))) is
+
+  pub heads-turn : (now : List Block) → at_place place (heads_onto before (head_at x)) ≡ Ok now
+      → at_place place (heads_onto now (heads_of (drop (i + 1) xs))) ≡ at_place place (heads_onto before (heads_of (drop i xs)))
+  heads-turn now made =
+      sym (at_drop_more (λ zs. at_place place (heads_onto before (heads_of zs))) xs i x l
+      ∙ ap (at_place place) (onto-more place before now (head_at (get_or xs i x)) (heads_of (drop (i + 1) xs)) (sym here ∙ made)))
+
+  pub heads-refused : (f : TplFault) → at_place place (heads_onto before (head_at x)) ≡ Err f → at_place place (heads_onto before (heads_of (drop i xs))) ≡ Err f
+  heads-refused f made =
+      at_drop_more (λ zs. at_place place (heads_onto before (heads_of zs))) xs i x l
+      ∙ onto-refused place before (head_at (get_or xs i x)) (λ h. heads_of (drop (i + 1) xs) >>= λ hs. Ok (h ++ hs)) f (sym here ∙ made)
+
+pub heads-end : (place : ℕ) (xs : List Pick) (i : ℕ) (before : List Block) → length xs ≤ i → at_place place (heads_onto before (heads_of (drop i xs))) ≡ Ok before
+heads-end place xs i before l = ap (λ zs. at_place place (heads_onto before (heads_of zs))) (drop_all i xs l) ∙ ap Ok (append-nil before)
+
+-- the block of a directive that makes no case, from what was judged of its text
+module _ (place : ℕ) (before : List Block) (p : Pick) (none : case_at p ≡ None) where
   abbrev text : Result (List Piece) InterpFault
   text = whole (text_on p.attribute)
 
-  abbrev go : List Piece → Result (List Site) TplKind
-  go h = heads_of ps >>= λ hs. Ok (sites_in kinds.Reference h ++ hs)
+  abbrev go : List Piece → Result (List Block) TplKind
+  go h = Ok (map block_if (sites_in kinds.Reference h))
 
-  heads-more : (h : List Piece) → judged place text ≡ Ok h → heads_after before (p ∷ ps) ≡ heads_after (before ++ sites_in kinds.Reference h) ps
-  heads-more h e =
+  head-is : heads_onto before (head_at p) ≡ heads_onto before (checked text >>= go)
+  head-is = ap (λ (o : Option Case). heads_onto before (heads_by o (text_on p.attribute))) none
+
+  pub head-made : (h : List Piece) → judged place text ≡ Ok h → at_place place (heads_onto before (head_at p)) ≡ Ok (before ++ map block_if (sites_in kinds.Reference h))
+  head-made h e =
       let c : checked text ≡ Ok h = placed_ok place (checked text) h (sym (judged-checked place text) ∙ e) in
-      ap (λ (r : Result (List Piece) TplKind). (r >>= go) >>= λ hs. Ok (before ++ hs)) c ∙ joined-heads before (sites_in kinds.Reference h) (heads_of ps)
+      ap (at_place place) head-is ∙ ap (λ (r : Result (List Piece) TplKind). at_place place (heads_onto before (r >>= go))) c
 
-  heads-wrong : (f : TplFault) → judged place text ≡ Err f → at_place place (heads_after before (p ∷ ps)) ≡ Err f
-  heads-wrong f e =
+  pub head-wrong : (f : TplFault) → judged place text ≡ Err f → at_place place (heads_onto before (head_at p)) ≡ Err f
+  head-wrong f e =
       let c : at_place place (checked text) ≡ Err f = sym (judged-checked place text) ∙ e in
-      refused_first place (checked text >>= go) (λ hs. Ok (before ++ hs)) f (refused_first place (checked text) go f c)
+      ap (at_place place) head-is ∙ refused_first place (checked text >>= go) (λ hs. Ok (before ++ hs)) f (refused_first place (checked text) go f c)
 
-module _ (place : ℕ) (xs : List Pick) (i : ℕ) (x : Pick) (l : i < length xs) (is : x ≡ get_or xs i x) (before : List Site) where
-  here : judged place (whole (text_on x.attribute)) ≡ judged place (whole (text_on (get_or xs i x).attribute))
-  here = ap (λ (y : Pick). judged place (whole (text_on y.attribute))) is
+-- a directive that makes no case
+pub makes_none : (o : Option Case) → false ≡ is_some o → o ≡ None
+makes_none None e = refl
+makes_none (Some c) e = absurd (cc)
 
-  pub heads-turn : (now : List Site) (h : List Piece) → judged place (whole (text_on x.attribute)) ≡ Ok h → now ≡ before ++ sites_in kinds.Reference h
-      → at_place place (heads_after now (drop (i + 1) xs)) ≡ at_place place (heads_after before (drop i xs))
-  heads-turn now h made after =
-      ap (λ hs. at_place place (heads_after hs (drop (i + 1) xs))) after
-      ∙ (sym (ap (at_place place) (heads-more place before (get_or xs i x) (drop (i + 1) xs) h (sym here ∙ made)))
-      ∙ sym (at_drop_more (λ zs. at_place place (heads_after before zs)) xs i x l))
+-- and that of one that makes a case
+pub head-none : (place : ℕ) (before : List Block) (p : Pick) (c : Case) → case_at p ≡ Some c → at_place place (heads_onto before (head_at p)) ≡ Ok before
+head-none place before p c e = ap (λ (o : Option Case). at_place place (heads_onto before (heads_by o (text_on p.attribute)))) e ∙ ap Ok (append-nil before)
 
-  pub heads-refused : (f : TplFault) → judged place (whole (text_on x.attribute)) ≡ Err f → at_place place (heads_after before (drop i xs)) ≡ Err f
-  heads-refused f made = at_drop_more (λ zs. at_place place (heads_after before zs)) xs i x l ∙ heads-wrong place before (get_or xs i x) (drop (i + 1) xs) f (sym here ∙ made)
+-- what directives add to what was found
+module _ (place : ℕ) (f : Found) (has_switch : Bool) (ps : List Pick) where
+  abbrev pub cases_found : Result (Option Case) TplKind
+  cases_found = switched has_switch (cases_in ps)
 
-pub heads-end : (place : ℕ) (xs : List Pick) (i : ℕ) (before : List Site) → length xs ≤ i → at_place place (heads_after before (drop i xs)) ≡ Ok before
-heads-end place xs i before l = ap (λ zs. at_place place (heads_after before zs)) (drop_all i xs l) ∙ ap Ok (append-nil before)
+  abbrev found_with : Option Case → List Block → Result Found TplKind
+  found_with c hs = Ok (first_case f.0 c, hs)
+
+  abbrev with_heads : Option Case → Result (List Block) TplKind → Result Found TplKind
+  with_heads c r = r >>= λ hs. found_with c (f.1 ++ hs)
+
+  abbrev more : Option Case → Result Found TplKind
+  more c = with_heads c (heads_of ps)
+
+  pub case-refused : (e : TplFault) → at_place place cases_found ≡ Err e → at_place place (found_after f has_switch ps) ≡ Err e
+  case-refused e h = refused_first place cases_found more e h
+
+  with_case : (c : Option Case) → at_place place cases_found ≡ Ok c → found_after f has_switch ps ≡ more c
+  with_case c h = ap (λ (r : Result (Option Case) TplKind). r >>= more) (placed_ok place cases_found c h)
+
+  onto_found : (c : Option Case) (r : Result (List Block) TplKind) (now : List Block) → at_place place (heads_onto f.1 r) ≡ Ok now → with_heads c r ≡ found_with c now
+  onto_found c (Ok hs) now e = let same : f.1 ++ hs ≡ now = (cc) in ap (found_with c) same
+  onto_found c (Err kind) now e = absurd (cc)
+
+  onto_wrong : (c : Option Case) (r : Result (List Block) TplKind) (e : TplFault) → at_place place (heads_onto f.1 r) ≡ Err e → at_place place (with_heads c r) ≡ Err e
+  onto_wrong c (Ok hs) e h = absurd (cc)
+  onto_wrong c (Err kind) e h = cc
+
+  pub found-more : (c : Option Case) → at_place place cases_found ≡ Ok c → (now : List Block) → at_place place (heads_onto f.1 (heads_of ps)) ≡ Ok now → at_place place (found_after f has_switch ps) ≡ Ok (first_case f.0 c, now)
+  found-more c h now e = ap (at_place place) (with_case c h ∙ onto_found c (heads_of ps) now e)
+
+  pub heads-wrong : (c : Option Case) → at_place place cases_found ≡ Ok c → (e : TplFault) → at_place place (heads_onto f.1 (heads_of ps)) ≡ Err e → at_place place (found_after f has_switch ps) ≡ Err e
+  heads-wrong c h e g = ap (at_place place) (with_case c h) ∙ onto_wrong c (heads_of ps) e g
+
+-- what was found, and more
+abbrev joined : Found → Found → Found
+joined f g = (first_case f.0 g.0, f.1 ++ g.1)
+
+found-joined : (f : Found) (has_switch : Bool) (ps : List Pick) → found_after f has_switch ps ≡ (found_after (None, []) has_switch ps >>= λ g. Ok (joined f g))
+found-joined f has_switch ps = by (switched has_switch (cases_in ps)) (heads_of ps)
+  where
+    by : (c : Result (Option Case) TplKind) (h : Result (List Block) TplKind) → (c >>= λ x. h >>= λ hs. Ok (first_case f.0 x, f.1 ++ hs)) ≡ ((c >>= λ x. h >>= λ hs. Ok (x, hs)) >>= λ g. Ok (joined f g))
+    by (Ok c) (Ok hs) = refl
+    by (Ok c) (Err kind) = refl
+    by (Err kind) h = refl
+
+first-assoc : (a b c : Option Case) → first_case a (first_case b c) ≡ first_case (first_case a b) c
+first-assoc None b c = refl
+first-assoc (Some x) b c = refl
 
 -- the blocks round an element, after those that are found
-abbrev pub around_after : List Site → Result Around TplKind → Result Around TplKind
-around_after before r = r >>= λ a. Ok (with_heads before a)
+abbrev pub around_after : Found → Result Around TplKind → Result Around TplKind
+around_after f r = r >>= λ a. Ok (with_found f a)
 
-after-none : (r : Result Around TplKind) → around_after [] r ≡ r
+after-none : (r : Result Around TplKind) → around_after (None, []) r ≡ r
 after-none (Ok a) = refl
 after-none (Err kind) = refl
 
-after-both : (before hs : List Site) (r : Result Around TplKind) → around_after before (r >>= λ a. Ok (with_heads hs a)) ≡ around_after (before ++ hs) r
-after-both before hs (Ok a) = ap (λ (all : List Site). Ok (record { heads = all; inside = a.inside })) (sym (append_assoc before hs a.heads))
-after-both before hs (Err kind) = refl
+after-both : (f g : Found) (r : Result Around TplKind) → around_after f (r >>= λ a. Ok (with_found g a)) ≡ around_after (joined f g) r
+after-both f g (Ok a) =
+    ap (λ (c : Option Case). let b : Around = record { case = c; heads = f.1 ++ (g.1 ++ a.heads); inside = a.inside } in Ok b) (first-assoc f.0 g.0 a.case)
+    ∙ ap (λ (hs : List Block). let b : Around = record { case = first_case (first_case f.0 g.0) a.case; heads = hs; inside = a.inside } in Ok b) (sym (append_assoc f.1 g.1 a.heads))
+after-both f g (Err kind) = refl
+
+-- nothing more is round it
+after-bare : (f : Found) (i : Inside) → with_found f (bare_around i) ≡ record { case = f.0; heads = f.1; inside = i }
+after-bare f i =
+    ap (λ (hs : List Block). record { case = first_case f.0 None; heads = hs; inside = i }) (append-nil f.1)
+    ∙ ap (λ (c : Option Case). record { case = c; heads = f.1; inside = i }) (last f.0)
+  where
+    last : (c : Option Case) → first_case c None ≡ c
+    last None = refl
+    last (Some c) = refl
 
 -- what blocks leave to the body
-these-after : (place : ℕ) (before now : List Site) (s : Result (List Site) TplKind) (r : Result Around TplKind) → at_place place (s >>= λ hs. Ok (before ++ hs)) ≡ Ok now
-    → at_place place (around_after before (s >>= λ hs. r >>= λ a. Ok (with_heads hs a))) ≡ at_place place (around_after now r)
-these-after place before now (Ok hs) r e =
-    let same : before ++ hs ≡ now = (cc) in
-    ap (at_place place) (after-both before hs r) ∙ ap (λ all. at_place place (around_after all r)) same
-these-after place before now (Err kind) r e = absurd (cc)
+these-after : (place : ℕ) (f now : Found) (s : Result Found TplKind) (r : Result Around TplKind) → at_place place (s >>= λ g. Ok (joined f g)) ≡ Ok now
+    → at_place place (around_after f (s >>= λ g. r >>= λ a. Ok (with_found g a))) ≡ at_place place (around_after now r)
+these-after place f now (Ok g) r e =
+    let same : joined f g ≡ now = (cc) in
+    ap (at_place place) (after-both f g r) ∙ ap (λ all. at_place place (around_after all r)) same
+these-after place f now (Err kind) r e = absurd (cc)
 
-these-refused : (place : ℕ) (before : List Site) (s : Result (List Site) TplKind) (r : Result Around TplKind) (f : TplFault) → at_place place (s >>= λ hs. Ok (before ++ hs)) ≡ Err f
-    → at_place place (around_after before (s >>= λ hs. r >>= λ a. Ok (with_heads hs a))) ≡ Err f
-these-refused place before (Ok hs) r f e = absurd (cc)
-these-refused place before (Err kind) r f e = cc
+these-refused : (place : ℕ) (f : Found) (s : Result Found TplKind) (r : Result Around TplKind) (e : TplFault) → at_place place (s >>= λ g. Ok (joined f g)) ≡ Err e
+    → at_place place (around_after f (s >>= λ g. r >>= λ a. Ok (with_found g a))) ≡ Err e
+these-refused place f (Ok g) r e h = absurd (cc)
+these-refused place f (Err kind) r e h = cc
+
+abbrev around_with : Found → Inside → Around
+around_with f i = record { case = f.0; heads = f.1; inside = i }
 
 module _ (place : ℕ) (defs : List DirectiveDef) (n : Node) where
-  abbrev pub rest : List Site → ℕ → Option ℤ → Result Around TplFault
-  rest before room limit = at_place place (around_after before (around_below room defs limit n))
+  abbrev pub rest : Found → Bool → ℕ → Option ℤ → Result Around TplFault
+  rest f has_switch room limit = at_place place (around_after f (around_below room defs has_switch limit n))
 
-  pub first-stage : (before : List Site) (room : ℕ) → before ≡ [] → room ≡ block_room → rest before room None ≡ at_place place (around_node defs n)
-  first-stage before room none all = ap (λ hs. rest hs room None) none ∙ (ap (at_place place) (after-none (around_below room defs None n)) ∙ ap (λ k. at_place place (around_below k defs None n)) all)
+  pub first-stage : (f : Found) (has_switch : Bool) (room : ℕ) → f ≡ (None, []) → room ≡ block_room → rest f has_switch room None ≡ at_place place (around_node defs has_switch n)
+  first-stage f has_switch room none all =
+      ap (λ g. rest g has_switch room None) none
+      ∙ (ap (at_place place) (after-none (around_below room defs has_switch None n)) ∙ ap (λ k. at_place place (around_below k defs has_switch None n)) all)
 
-  pub last-stage : (before : List Site) (room : ℕ) (limit : Option ℤ) → room ≡ 0 → rest before room limit ≡ Ok (record { heads = before; inside = is_plain })
-  last-stage before room limit none = ap (λ k. rest before k limit) none ∙ ap (λ hs. Ok (record { heads = hs; inside = is_plain })) (append-nil before)
+  pub last-stage : (f : Found) (has_switch : Bool) (room : ℕ) (limit : Option ℤ) → room ≡ 0 → rest f has_switch room limit ≡ Ok (around_with f is_plain)
+  last-stage f has_switch room limit none = ap (λ k. rest f has_switch k limit) none ∙ ap Ok (after-bare f is_plain)
 
-  module _ (before : List Site) (room k : ℕ) (limit : Option ℤ) (more : room ≡ suc k) where
-    pub picks-refused : (f : TplFault) → at_place place (picks_in (collected defs limit n)) ≡ Err f → rest before room limit ≡ Err f
-    picks-refused f e =
-        let stage : Result Around TplKind = picks_in (collected defs limit n) >>= λ ps. around_picks ps (λ l. around_below k defs (Some l) n) in
-        ap (λ j. rest before j limit) more
-        ∙ refused_first place stage (λ a. Ok (with_heads before a)) f (refused_first place (picks_in (collected defs limit n)) (λ ps. around_picks ps (λ l. around_below k defs (Some l) n)) f e)
+  module _ (f : Found) (has_switch : Bool) (room k : ℕ) (limit : Option ℤ) (more : room ≡ suc k) where
+    abbrev below : ℤ → Result Around TplKind
+    below l = around_below k defs false (Some l) n
 
-    module _ (ps : List Pick) (read : at_place place (picks_in (collected defs limit n)) ≡ Ok ps) where
-      abbrev below : ℤ → Result Around TplKind
-      below l = around_below k defs (Some l) n
+    abbrev picks_here : Result (List Pick) TplKind
+    picks_here = picks_in (attributes_in n) (collected defs limit n)
 
+    pub picks-refused : (e : TplFault) → at_place place picks_here ≡ Err e → rest f has_switch room limit ≡ Err e
+    picks-refused e h =
+        ap (λ j. rest f has_switch j limit) more
+        ∙ refused_first place (picks_here >>= λ ps. around_picks has_switch ps below) (λ a. Ok (with_found f a)) e (refused_first place picks_here (λ ps. around_picks has_switch ps below) e h)
+
+    module _ (ps : List Pick) (read : at_place place picks_here ≡ Ok ps) where
       abbrev picked : Bool → Bool → Option ℤ → Result Around TplFault
-      picked plain built o = at_place place (around_after before (cond plain (Ok (record { heads = []; inside = is_plain })) (cond built (around_these ps o below) (Err Later))))
+      picked plain built o = at_place place (around_after f (cond plain (Ok (bare_around is_plain)) (cond built (around_these has_switch ps o below) (Err Later))))
 
-      stage : rest before room limit ≡ picked (any_makes_plain ps) (are_built ps) (block_priority ps)
+      stage : rest f has_switch room limit ≡ picked (any_makes_plain ps) (are_built ps) (block_priority ps)
       stage =
-          ap (λ j. rest before j limit) more
-          ∙ ap (λ r. at_place place (around_after before (r >>= λ qs. around_picks qs below))) (placed_ok place (picks_in (collected defs limit n)) ps read)
+          ap (λ j. rest f has_switch j limit) more
+          ∙ ap (λ r. at_place place (around_after f (r >>= λ qs. around_picks has_switch qs below))) (placed_ok place picks_here ps read)
 
-      pub plain-stage : any_makes_plain ps ≡ true → rest before room limit ≡ Ok (record { heads = before; inside = is_plain })
-      plain-stage plain = stage ∙ (ap (λ b. picked b (are_built ps) (block_priority ps)) plain ∙ ap (λ hs. Ok (record { heads = hs; inside = is_plain })) (append-nil before))
+      pub plain-stage : any_makes_plain ps ≡ true → rest f has_switch room limit ≡ Ok (around_with f is_plain)
+      plain-stage plain = stage ∙ (ap (λ b. picked b (are_built ps) (block_priority ps)) plain ∙ ap Ok (after-bare f is_plain))
 
       module _ (plain : any_makes_plain ps ≡ false) where
-        read_stage : (b : Bool) → are_built ps ≡ b → rest before room limit ≡ picked false b (block_priority ps)
+        read_stage : (b : Bool) → are_built ps ≡ b → rest f has_switch room limit ≡ picked false b (block_priority ps)
         read_stage b built = stage ∙ (ap (λ c. picked c (are_built ps) (block_priority ps)) plain ∙ ap (λ c. picked false c (block_priority ps)) built)
 
-        pub later-stage : are_built ps ≡ false → rest before room limit ≡ Err (refused Later place)
+        pub later-stage : are_built ps ≡ false → rest f has_switch room limit ≡ Err (refused Later place)
         later-stage built = read_stage false built
 
-        pub inner-stage : are_built ps ≡ true → block_priority ps ≡ None → rest before room limit ≡ Ok (record { heads = before; inside = has_picks ps })
-        inner-stage built none = read_stage true built ∙ (ap (picked false true) none ∙ ap (λ hs. Ok (record { heads = hs; inside = has_picks ps })) (append-nil before))
+        pub inner-stage : are_built ps ≡ true → block_priority ps ≡ None → rest f has_switch room limit ≡ Ok (around_with f (has_picks ps))
+        inner-stage built none = read_stage true built ∙ (ap (picked false true) none ∙ ap Ok (after-bare f (has_picks ps)))
 
-        pub block-stage : are_built ps ≡ true → (o : Option ℤ) → o ≡ block_priority ps → is_none o ≡ false → (now : List Site) → at_place place (heads_after before ps) ≡ Ok now → rest now k o ≡ rest before room limit
+        pub block-stage : are_built ps ≡ true → (o : Option ℤ) → o ≡ block_priority ps → is_none o ≡ false → (now : Found) → at_place place (found_after f has_switch ps) ≡ Ok now
+            → rest now false k o ≡ rest f has_switch room limit
         block-stage built None some is now e = absurd (cc)
-        block-stage built (Some l) some is now e = sym (read_stage true built ∙ (ap (picked false true) (sym some) ∙ these-after place before now (heads_of ps) (below l) e))
+        block-stage built (Some l) some is now e =
+            sym (read_stage true built ∙ (ap (picked false true) (sym some)
+            ∙ these-after place f now (found_after (None, []) has_switch ps) (below l) (ap (at_place place) (sym (found-joined f has_switch ps)) ∙ e)))
 
-        pub heads-stage : are_built ps ≡ true → (o : Option ℤ) → o ≡ block_priority ps → is_none o ≡ false → (f : TplFault) → at_place place (heads_after before ps) ≡ Err f → rest before room limit ≡ Err f
-        heads-stage built None some is f e = absurd (cc)
-        heads-stage built (Some l) some is f e = read_stage true built ∙ (ap (picked false true) (sym some) ∙ these-refused place before (heads_of ps) (below l) f e)
+        pub heads-stage : are_built ps ≡ true → (o : Option ℤ) → o ≡ block_priority ps → is_none o ≡ false → (e : TplFault) → at_place place (found_after f has_switch ps) ≡ Err e → rest f has_switch room limit ≡ Err e
+        heads-stage built None some is e h = absurd (cc)
+        heads-stage built (Some l) some is e h =
+            read_stage true built
+            ∙ (ap (picked false true) (sym some) ∙ these-refused place f (found_after (None, []) has_switch ps) (below l) e (ap (at_place place) (sym (found-joined f has_switch ps)) ∙ h))
 
 -- a refusal that is handed on
 pub gives_err : {A B : Type 0} (seen : A → B) (asked : Result B TplFault) (r : Result A TplFault) (e : TplFault) → IsErrAnd r (λ y. y ≡ e) → (is_tpl_want e ≡ false → asked ≡ Err e) → Gives is_tpl_want seen asked r
 gives_err seen asked (Ok v) e is h = absurd is
 gives_err seen asked (Err d) e is h = λ (free : is_tpl_want d ≡ false). h (ap is_tpl_want (sym is) ∙ free) ∙ ap Err (sym is)
 
-unwrapped : (sites : List Site) (outlets : List Outlet) (r : Result (Part × Made) TplFault) → (r >>= wrapped [] sites outlets) ≡ r
-unwrapped sites outlets (Ok q) = refl
-unwrapped sites outlets (Err f) = refl
+-- an element with what is found round it
+module _ (place : ℕ) (r : Result Around TplKind) (go : Inside → Switch → Made → Result (Part × Made) TplFault) (outer : Switch) (m : Made) (a : Around) (found : at_place place r ≡ Ok a) where
+  node_is : (at_place place r >>= node_made go outer m) ≡ node_made go outer m a
+  node_is = ap (λ (s : Result Around TplFault). s >>= node_made go outer m) found
 
--- an element without a block
-pub alone_is : (place : ℕ) (r : Result Around TplKind) (i : Inside) (made : Inside → Made → Result (Part × Made) TplFault) (m : Made) → at_place place r ≡ Ok (record { heads = []; inside = i })
-    → (at_place place r >>= λ a. made a.inside (begun_for a.heads m) >>= wrapped a.heads m.sites m.outlets) ≡ made i m
-alone_is place r i made m e =
-    ap (λ (s : Result Around TplFault). s >>= λ a. made a.inside (begun_for a.heads m) >>= wrapped a.heads m.sites m.outlets) e ∙ unwrapped m.sites m.outlets (made i m)
+  pub alone_is : rounds (unwrap_or outer 0) a.case a.heads ≡ None → (at_place place r >>= node_made go outer m) ≡ go a.inside outer m
+  alone_is none = node_is ∙ ap (λ o. in_rounds o (go a.inside) outer m) none
 
--- an element that came to a part, in its blocks
-pub wrapped_is : (place : ℕ) (r : Result Around TplKind) (h : Site) (hs : List Site) (i : Inside) (made : Inside → Made → Result (Part × Made) TplFault) (m : Made) (q : Part × Made)
-    → at_place place r ≡ Ok (record { heads = h ∷ hs; inside = i }) → made i (record m { sites = []; outlets = [] }) ≡ Ok q
-    → (at_place place r >>= λ a. made a.inside (begun_for a.heads m) >>= wrapped a.heads m.sites m.outlets) ≡ wrapped (h ∷ hs) m.sites m.outlets q
-wrapped_is place r h hs i made m q e inner =
-    ap (λ (s : Result Around TplFault). s >>= λ a. made a.inside (begun_for a.heads m) >>= wrapped a.heads m.sites m.outlets) e
-    ∙ ap (λ (s : Result (Part × Made) TplFault). s >>= wrapped (h ∷ hs) m.sites m.outlets) inner
+  pub wrapped_is : (o : Outermost) (bs : List Block) (q : Part × Made) → rounds (unwrap_or outer 0) a.case a.heads ≡ Some (o, bs) → go a.inside None (begun_body m) ≡ Ok q
+      → (at_place place r >>= node_made go outer m) ≡ wrapped o bs m.sites m.outlets q
+  wrapped_is o bs q some inner =
+      node_is
+      ∙ (ap (λ x. in_rounds x (go a.inside) outer m) some
+      ∙ ap (λ (s : Result (Part × Made) TplFault). s >>= wrapped o bs m.sites m.outlets) inner)
+
+  pub wrapped_wrong : (o : Outermost) (bs : List Block) (e : TplFault) → rounds (unwrap_or outer 0) a.case a.heads ≡ Some (o, bs) → go a.inside None (begun_body m) ≡ Err e
+      → (at_place place r >>= node_made go outer m) ≡ Err e
+  wrapped_wrong o bs e some inner =
+      node_is
+      ∙ (ap (λ x. in_rounds x (go a.inside) outer m) some
+      ∙ ap (λ (s : Result (Part × Made) TplFault). s >>= wrapped o bs m.sites m.outlets) inner)

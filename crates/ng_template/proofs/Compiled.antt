@@ -1,18 +1,19 @@
 -- What is proved of a whole document.
-use Rattle.std.proofs.Common.{◌≡◌, ◌⊎◌, ℕ, Bool, true, List, [], length, ap, sym, subst, ◌∙◌, Result, Ok, Err, refl}
+use Rattle.std.proofs.Common.{◌≡◌, ◌⊎◌, ℕ, Bool, true, false, None, List, [], length, ap, sym, subst, ◌∙◌, Result, Ok, Err, refl}
 use Rattle.std.proofs.lemmas.Bool.{and_from}
 use Rattle.std.specs.List.{list_all}
 use Rattle.ng_base.specs.Meets.{◌>>=◌}
 use Rattle.ng_collect.specs.declared.definition.DirectiveDef.{DirectiveDef}
-use Rattle.ng_drawing.specs.Template.{Site, Template, Parts}
-use Rattle.ng_markup.specs.Forest.{Node, Forest}
+use Rattle.ng_drawing.specs.Template.{Site, Outlet, Template, Parts}
+use Rattle.ng_markup.specs.Forest.{Forest}
 use Rattle.ng_template.specs.Compiles.{Made, after_forest, fragment_made, compiled_forest, compiled}
 use Rattle.ng_template.specs.Limits.{worn}
-use Rattle.ng_template.specs.Numbering.{after_parts, after_outlets, is_whole, is_regular}
-use Rattle.ng_template.specs.Order.{nodes_compiled, nodes_of_fragment, FirstRefusal, NoneRefused, sites_at, holes}
+use Rattle.ng_template.specs.Numbering.{parts_draw, is_undrawn, are_undrawn, is_whole, is_regular}
+use Rattle.ng_template.specs.Order.{Met, nodes_compiled, nodes_of_fragment, FirstRefusal, NoneRefused, sites_at, holes}
 use Rattle.ng_template.specs.Texts.{counted}
 use Rattle.ng_template.specs.declared.fault.TplFault.{TplFault}
-use Rattle.ng_template.proofs.Following.{Good, skipped, skipped_here, forest_good}
+use Rattle.ng_template.proofs.Apart.{all_apart}
+use Rattle.ng_template.proofs.Following.{Good, of_parts, near, skipped, skipped_here, forest_good}
 use Rattle.ng_template.proofs.Walks.{walk, walked}
 use Rattle.ng_template.proofs.Wholes.{Whole, whole_from}
 
@@ -36,26 +37,28 @@ pub record Facts (defs : List DirectiveDef) (source : Forest × List ℕ) (t : T
   pub regular : is_regular t ≡ true
 
 module _ (defs : List DirectiveDef) (source : Forest × List ℕ) where
-  abbrev GoodHere : List (Node × ℕ) → List Site → Result (Parts × Made) TplFault → Type 0
-  GoodHere ns ss r = Good holes after_parts after_outlets defs ns ss (after_forest source.0 source.1) (first source.1) r
+  abbrev GoodHere : List (Met × ℕ) → List Site → Result (Parts × Made) TplFault → Type 0
+  GoodHere ns ss r = Good of_parts defs None 0 ns ss (after_forest source.0 source.1) (first source.1) r
 
   abbrev made : Result (Parts × Made) TplFault
-  made = compiled_forest defs source.0 (first source.1)
+  made = compiled_forest defs None source.0 (first source.1)
 
   abbrev all_sites : List Site
   all_sites = sites_at defs (nodes_of_fragment defs source)
 
   all_good : GoodHere (nodes_compiled defs source) all_sites made
   all_good =
-      let sites : sites_at defs (walk (skipped_here defs) source.0 source.1) ≡ all_sites = ap (sites_at defs) (sym (walked (skipped_here defs) source.0 source.1)) in
-      subst (λ ns. GoodHere ns all_sites made) (sym (walked (skipped defs) source.0 source.1))
-      (subst (λ ss. GoodHere (walk (skipped defs) source.0 source.1) ss made) sites (forest_good defs source.0 (first source.1)))
+      let sites : sites_at defs (walk (near defs) (skipped_here defs) false source.0 source.1) ≡ all_sites = ap (sites_at defs) (sym (walked (near defs) (skipped_here defs) false source.0 source.1)) in
+      subst (λ ns. GoodHere ns all_sites made) (sym (walked (near defs) (skipped defs) false source.0 source.1))
+      (subst (λ ss. GoodHere (walk (near defs) (skipped defs) false source.0 source.1) ss made) sites (forest_good defs None source.0 (first source.1)))
 
-  regular_from : (ns : List (Node × ℕ)) (ss : List Site) (s : Parts × Made) → GoodHere ns ss (Ok s) → is_regular (template_made s) ≡ true
+  regular_from : (ns : List (Met × ℕ)) (ss : List Site) (s : Parts × Made) → GoodHere ns ss (Ok s) → is_regular (template_made s) ≡ true
   regular_from ns ss s h =
-      let w : Whole s.1 = h.whole (first_whole source.1) in
+      let w : Whole s.1 = h.whole tt (first_whole source.1) in
+      let undrawn : are_undrawn (fragment_made s) ≡ true
+      = subst (λ (os : List Outlet). list_all (is_undrawn (length s.1.sites) s.0) os ≡ true) (sym h.grown) (all_apart (length s.1.sites) (λ test. parts_draw test s.0) h.new h.apart) in
       and_from (is_whole (length s.1.bodies) (fragment_made s)) (list_all (is_whole (length s.1.bodies)) s.1.bodies)
-      (whole_from (length s.1.bodies) (fragment_made s) h.regular h.outlets w.outlets) w.bodies
+      (whole_from (length s.1.bodies) (fragment_made s) h.regular h.outlets w.outlets undrawn) w.bodies
 
   pub made_regular : (s : Parts × Made) → made ≡ Ok s → is_regular (template_made s) ≡ true
   made_regular s e = regular_from (nodes_compiled defs source) all_sites s (subst (GoodHere (nodes_compiled defs source) all_sites) e all_good)

@@ -20,19 +20,24 @@ use Rattle.ng_language.specs.OneTime.{one_time_of}
 use Rattle.ng_language.specs.Trees.{Trees}
 use Rattle.ng_markup.specs.Forest.{Attributes}
 use Rattle.ng_template.specs.Compiles.{class_with, bare}
-use Rattle.ng_template.specs.Directives.{Head, name_on, text_on, whole, parts_for, kind_for, set_by, class_by, bound_by, with_parts, is_classed, class_setting, attributes_of}
+use Rattle.ng_template.specs.Directives.{Head, name_on, text_on, whole, parts_for, kind_for, set_by, class_by, bound_by, switch_by, with_parts, is_classed, class_setting, attributes_of}
 use Rattle.ng_template.specs.Manners.{target_of}
 use Rattle.ng_template.specs.Plain.{plain_values}
 use Rattle.ng_template.specs.Numbering.{is_within, is_apart, is_piece_drawn, is_hiding_drawn, is_class_drawn, is_value_drawn, are_drawn}
 use Rattle.ng_template.specs.Texts.{numbered, sites_in}
 use Rattle.ng_template.specs.declared.manners.Setting.{Setting}
-use Rattle.ng_template.specs.declared.manners.Setting.TheVariants.{Interpolates, Links, Switches, Binds, Classes, Shows, Hides}
+use Rattle.ng_template.specs.declared.manners.Setting.TheVariants.{Interpolates, Links, Switches, Binds, Classes, Shows, Hides, Chooses}
 use Rattle.ng_template.proofs.Numbers.{numbered-drawn, class_more, attributes_more}
 
--- whether a number is one from n on, below c, but not that of the site whose text stands in place of the children
-abbrev pub apart_from : Option ℕ → ℕ → ℕ → ℕ → Bool
-apart_from None n c = is_within n c
-apart_from (Some b) n c = is_apart b n c
+-- whether a number is not this one
+abbrev pub is_not : Option ℕ → ℕ → Bool
+is_not None k = true
+is_not (Some b) k = not (k == b)
+
+-- Whether a number is one from n on, below c, but neither that of the site whose text stands in place of the children nor that of the one that
+-- chooses among cases.
+abbrev pub apart_from : Option ℕ → Option ℕ → ℕ → ℕ → ℕ → Bool
+apart_from o w n c k = is_within n c k && (is_not o k && is_not w k)
 
 abbrev pub is_bound_within : ℕ → ℕ → Option ℕ → Bool
 is_bound_within n c None = true
@@ -42,8 +47,9 @@ is_bound_within n c (Some b) = is_within n c b
 pub record Drawn (n : ℕ) (h : Head) : Type 0 where
   pub least : n ≤ length h.sites
   pub bound : is_bound_within n (length h.sites) h.bound ≡ true
-  pub attributes : are_drawn (apart_from h.bound n (length h.sites)) h.attributes ≡ true
-  pub class : is_class_drawn (apart_from h.bound n (length h.sites)) h.class ≡ true
+  pub switch : is_bound_within n (length h.sites) h.switch ≡ true
+  pub attributes : are_drawn (apart_from h.bound h.switch n (length h.sites)) h.attributes ≡ true
+  pub class : is_class_drawn (apart_from h.bound h.switch n (length h.sites)) h.class ≡ true
 
 pub both_all : {A : Type 0} (p : A → Bool) (xs ys : List A) → list_all p xs ≡ true → list_all p ys ≡ true → list_all p (xs ++ ys) ≡ true
 both_all p xs ys e h = list_all-append p xs ys ∙ and_from (list_all p xs) (list_all p ys) e h
@@ -52,53 +58,60 @@ pub one : {A : Type 0} (p : A → Bool) (x : A) → p x ≡ true → list_all p 
 one p x e = and_from (p x) true e refl
 
 module _ (n c : ℕ) where
-  within_parts : (k : ℕ) → is_within n c k ≡ true → (n ≤ k) × (k < c)
+  pub within_parts : (k : ℕ) → is_within n c k ≡ true → (n ≤ k) × (k < c)
   within_parts k e = let h = and_parts (nat_le n k) (nat_lt k c) e in (leb-true n k h.0, ltb-true k c h.1)
 
-  within_from : (k : ℕ) → n ≤ k → k < c → is_within n c k ≡ true
+  pub within_from : (k : ℕ) → n ≤ k → k < c → is_within n c k ≡ true
   within_from k l u = and_from (nat_le n k) (nat_lt k c) (le-leb n k l) (lt-ltb k c u)
 
-  apart_from_parts : (b k : ℕ) → n ≤ k → k < c → (k ≡ b → ⊥) → is_apart b n c k ≡ true
-  apart_from_parts b k l u ne = and_from (is_within n c k) (not (k == b)) (within_from k l u) (not_from_false (k == b) (ne_eqb k b ne))
+  pub apart_make : (b k : ℕ) → n ≤ k → k < c → (k ≡ b → ⊥) → is_apart b n c k ≡ true
+  apart_make b k l u ne = and_from (is_within n c k) (not (k == b)) (within_from k l u) (not_from_false (k == b) (ne_eqb k b ne))
 
-  apart_parts : (b k : ℕ) → is_apart b n c k ≡ true → (is_within n c k ≡ true) × (not (k == b) ≡ true)
-  apart_parts b k e = and_parts (is_within n c k) (not (k == b)) e
+  module _ (o w : Option ℕ) (k : ℕ) where
+    pub apart_parts : apart_from o w n c k ≡ true → (is_within n c k ≡ true) × ((is_not o k ≡ true) × (is_not w k ≡ true))
+    apart_parts e =
+        let h = and_parts (is_within n c k) (is_not o k && is_not w k) e in
+        let g = and_parts (is_not o k) (is_not w k) h.1 in
+        (h.0, (g.0, g.1))
 
-  apart_within : (o : Option ℕ) (k : ℕ) → apart_from o n c k ≡ true → (n ≤ k) × (k < c)
-  apart_within None k e = within_parts k e
-  apart_within (Some b) k e = within_parts k (apart_parts b k e).0
+    pub apart_whole : is_within n c k ≡ true → is_not o k ≡ true → is_not w k ≡ true → apart_from o w n c k ≡ true
+    apart_whole e f g = and_from (is_within n c k) (is_not o k && is_not w k) e (and_from (is_not o k) (is_not w k) f g)
+
+-- a number that is none from a bound on is not the number there
+not_above : (c k : ℕ) → k < c → is_not (Some c) k ≡ true
+not_above c k u = not_from_false (k == c) (ne_eqb k c (λ same. omega (arith, same, u)))
+
+-- and one from there on is none that is below
+not_below : (n c : ℕ) (o : Option ℕ) (k : ℕ) → is_bound_within n c o ≡ true → c ≤ k → is_not o k ≡ true
+not_below n c None k e l = refl
+not_below n c (Some b) k e l = let h = within_parts n c b e in not_from_false (k == b) (ne_eqb k b (λ same. let u = h.1 in omega (arith, same, u, l)))
 
 -- numbers below c are numbers below d
 module _ (n c d : ℕ) (up : c ≤ d) where
   within_more : (k : ℕ) → is_within n c k ≡ true → is_within n d k ≡ true
   within_more k e = let h = within_parts n c k e in within_from n d k h.0 (omega arith)
 
-  apart_more : (o : Option ℕ) (k : ℕ) → apart_from o n c k ≡ true → apart_from o n d k ≡ true
-  apart_more None k e = within_more k e
-  apart_more (Some b) k e =
-      let h = apart_parts n c b k e in
-      and_from (is_within n d k) (not (k == b)) (within_more k h.0) h.1
-
   bound_more : (o : Option ℕ) → is_bound_within n c o ≡ true → is_bound_within n d o ≡ true
   bound_more None e = refl
   bound_more (Some b) e = within_more b e
 
-  -- the number c is a new one
-  apart_bound : (o : Option ℕ) (k : ℕ) → apart_from o n c k ≡ true → apart_from (Some c) n d k ≡ true
-  apart_bound o k e = let h = apart_within n c o k e in apart_from_parts n d c k h.0 (omega arith) (λ same. omega arith)
+  -- a number that is there is apart from those that come
+  still_apart : (o w : Option ℕ) (k : ℕ) → apart_from o w n c k ≡ true → (p q : Option ℕ) → (is_not o k ≡ true → is_not p k ≡ true) → (is_not w k ≡ true → is_not q k ≡ true) → apart_from p q n d k ≡ true
+  still_apart o w k e p q f g = let h = apart_parts n c o w k e in apart_whole n d p q k (within_more k h.0) (f h.1.0) (g h.1.1)
 
-  apart_new : (o : Option ℕ) → n ≤ c → is_bound_within n c o ≡ true → (k : ℕ) → c ≤ k → k < d → apart_from o n d k ≡ true
-  apart_new None l e k from below = within_from n d k (omega arith) below
-  apart_new (Some b) l e k from below = let h = within_parts n c b e in apart_from_parts n d b k (omega arith) below (λ same. omega arith)
+  old : (s : Setting) (o w : Option ℕ) (k : ℕ) → apart_from o w n c k ≡ true → apart_from (bound_by s c o) (switch_by s c w) n d k ≡ true
+  old Interpolates o w k e = still_apart o w k e o w (λ x. x) (λ x. x)
+  old Links o w k e = still_apart o w k e o w (λ x. x) (λ x. x)
+  old Switches o w k e = still_apart o w k e o w (λ x. x) (λ x. x)
+  old Binds o w k e = still_apart o w k e (Some c) w (λ x. not_above c k (within_parts n c k (apart_parts n c o w k e).0).1) (λ x. x)
+  old Classes o w k e = still_apart o w k e o w (λ x. x) (λ x. x)
+  old Shows o w k e = still_apart o w k e o w (λ x. x) (λ x. x)
+  old Hides o w k e = still_apart o w k e o w (λ x. x) (λ x. x)
+  old Chooses o w k e = still_apart o w k e o (Some c) (λ x. x) (λ x. not_above c k (within_parts n c k (apart_parts n c o w k e).0).1)
 
-  old : (s : Setting) (o : Option ℕ) (k : ℕ) → apart_from o n c k ≡ true → apart_from (bound_by s c o) n d k ≡ true
-  old Interpolates o k e = apart_more o k e
-  old Links o k e = apart_more o k e
-  old Switches o k e = apart_more o k e
-  old Binds o k e = apart_bound o k e
-  old Classes o k e = apart_more o k e
-  old Shows o k e = apart_more o k e
-  old Hides o k e = apart_more o k e
+  -- and a new one from those that were
+  apart_new : (o w : Option ℕ) → n ≤ c → is_bound_within n c o ≡ true → is_bound_within n c w ≡ true → (k : ℕ) → c ≤ k → k < d → apart_from o w n d k ≡ true
+  apart_new o w l e f k from below = apart_whole n d o w k (within_from n d k (omega arith) below) (not_below n c o k e from) (not_below n c w k f from)
 
 -- more that is drawn of a class
 module _ (p : ℕ → Bool) (c : PartClass) (e : is_class_drawn p c ≡ true) where
@@ -131,24 +144,24 @@ one_hole kind once (Ok b) ps e =
     ap (λ (qs : List Piece). length (sites_in kind qs)) (sym same)
 one_hole kind once (Err f) ps e = absurd (cc)
 
-module _ (n c : ℕ) (o : Option ℕ) (l : n ≤ c) (b : is_bound_within n c o ≡ true) (t : List ℕ) (ps : List Piece) where
+module _ (n c : ℕ) (o w : Option ℕ) (l : n ≤ c) (b : is_bound_within n c o ≡ true) (v : is_bound_within n c w ≡ true) (t : List ℕ) (ps : List Piece) where
   abbrev end : Setting → ℕ
   end s = c + length (sites_in (kind_for s) ps)
 
   abbrev test : Setting → ℕ → Bool
-  test s = apart_from (bound_by s c o) n (end s)
+  test s = apart_from (bound_by s c o) (switch_by s c w) n (end s)
 
-  new : (d k : ℕ) → c ≤ d → c ≤ k → k < d → apart_from o n d k ≡ true
-  new d k up from below = apart_new n c d up o l b k from below
+  new : (d k : ℕ) → c ≤ d → c ≤ k → k < d → apart_from o w n d k ≡ true
+  new d k up from below = apart_new n c d up o w l b v k from below
 
   whole_one : (kind : SiteKind) → whole t ≡ Ok ps → length (sites_in kind ps) ≡ 1
   whole_one kind e = one_hole kind (one_time_of t).0 (expression_at (place_behind 0 (bytes_before (one_time_of t).0 t)) (one_time_of t).1) ps e
 
-  first_new : (kind : SiteKind) → whole t ≡ Ok ps → apart_from o n (c + length (sites_in kind ps)) c ≡ true
+  first_new : (kind : SiteKind) → whole t ≡ Ok ps → apart_from o w n (c + length (sites_in kind ps)) c ≡ true
   first_new kind e = let h = whole_one kind e in new (c + length (sites_in kind ps)) c (omega arith) (omega arith) (omega arith)
 
-  pieces_new : list_all (is_piece_drawn (apart_from o n (c + length (sites_in kinds.Text ps)))) (numbered c ps) ≡ true
-  pieces_new = numbered-drawn kinds.Text (apart_from o n (c + length (sites_in kinds.Text ps))) c ps (λ k from below. new (c + length (sites_in kinds.Text ps)) k (omega arith) from below)
+  pieces_new : list_all (is_piece_drawn (apart_from o w n (c + length (sites_in kinds.Text ps)))) (numbered c ps) ≡ true
+  pieces_new = numbered-drawn kinds.Text (apart_from o w n (c + length (sites_in kinds.Text ps))) c ps (λ k from below. new (c + length (sites_in kinds.Text ps)) k (omega arith) from below)
 
   set_drawn : (s : Setting) (own target : List ℕ) → parts_for s t ≡ Ok ps → are_drawn (test s) (set_by s own target c (numbered c ps)) ≡ true
   set_drawn Interpolates own target e = and_from _ true pieces_new refl
@@ -158,6 +171,7 @@ module _ (n c : ℕ) (o : Option ℕ) (l : n ≤ c) (b : is_bound_within n c o �
   set_drawn Classes own target e = refl
   set_drawn Shows own target e = refl
   set_drawn Hides own target e = refl
+  set_drawn Chooses own target e = refl
 
   class_drawn : (s : Setting) (own : List ℕ) (cl : PartClass) → parts_for s t ≡ Ok ps → is_class_drawn (test s) cl ≡ true → is_class_drawn (test s) (class_by s own c (numbered c ps) cl) ≡ true
   class_drawn Interpolates own cl e h =
@@ -169,6 +183,7 @@ module _ (n c : ℕ) (o : Option ℕ) (l : n ≤ c) (b : is_bound_within n c o �
   class_drawn Classes own cl e h = with_word (test Classes) cl h c (first_new kinds.Words e)
   class_drawn Shows own cl e h = with_hiding (test Shows) cl h (while_false c) (first_new kinds.Reference e)
   class_drawn Hides own cl e h = with_hiding (test Hides) cl h (while_true c) (first_new kinds.Reference e)
+  class_drawn Chooses own cl e h = h
 
   bound_drawn : (s : Setting) → parts_for s t ≡ Ok ps → is_bound_within n (end s) (bound_by s c o) ≡ true
   bound_drawn Interpolates e = bound_more n c (end Interpolates) (omega arith) o b
@@ -178,6 +193,17 @@ module _ (n c : ℕ) (o : Option ℕ) (l : n ≤ c) (b : is_bound_within n c o �
   bound_drawn Classes e = bound_more n c (end Classes) (omega arith) o b
   bound_drawn Shows e = bound_more n c (end Shows) (omega arith) o b
   bound_drawn Hides e = bound_more n c (end Hides) (omega arith) o b
+  bound_drawn Chooses e = bound_more n c (end Chooses) (omega arith) o b
+
+  switch_drawn : (s : Setting) → parts_for s t ≡ Ok ps → is_bound_within n (end s) (switch_by s c w) ≡ true
+  switch_drawn Interpolates e = bound_more n c (end Interpolates) (omega arith) w v
+  switch_drawn Links e = bound_more n c (end Links) (omega arith) w v
+  switch_drawn Switches e = bound_more n c (end Switches) (omega arith) w v
+  switch_drawn Binds e = bound_more n c (end Binds) (omega arith) w v
+  switch_drawn Classes e = bound_more n c (end Classes) (omega arith) w v
+  switch_drawn Shows e = bound_more n c (end Shows) (omega arith) w v
+  switch_drawn Hides e = bound_more n c (end Hides) (omega arith) w v
+  switch_drawn Chooses e = let h = whole_one kinds.Deep e in within_from n (end Chooses) c l (omega arith)
 
 -- a directive more
 module _ (p : Pick) (s : Setting) (ps : List Piece) (e : parts_for s (text_on p.attribute) ≡ Ok ps) (n : ℕ) (h : Head) (g : Drawn n h) where
@@ -188,30 +214,31 @@ module _ (p : Pick) (s : Setting) (ps : List Piece) (e : parts_for s (text_on p.
   last = first + length (sites_in (kind_for s) ps)
 
   abbrev now : ℕ → Bool
-  now = apart_from (bound_by s first h.bound) n last
+  now = apart_from (bound_by s first h.bound) (switch_by s first h.switch) n last
 
   size : length (h.sites ++ sites_in (kind_for s) ps) ≡ last
   size = length-append h.sites (sites_in (kind_for s) ps)
 
-  kept : (k : ℕ) → apart_from h.bound n first k ≡ true → now k ≡ true
-  kept k d = old n first last (omega arith) s h.bound k d
+  kept : (k : ℕ) → apart_from h.bound h.switch n first k ≡ true → now k ≡ true
+  kept k d = old n first last (omega arith) s h.bound h.switch k d
 
   attributes_now : are_drawn now (with_parts p s ps h).attributes ≡ true
   attributes_now =
       let set : PartAttributes = set_by s (name_on p.attribute) (target_of p.directive) first (numbered first ps) in
-      both_all (λ a. is_value_drawn now a.1) h.attributes set (attributes_more (apart_from h.bound n first) now kept h.attributes g.attributes)
-      (set_drawn n first h.bound g.least g.bound (text_on p.attribute) ps s (name_on p.attribute) (target_of p.directive) e)
+      both_all (λ a. is_value_drawn now a.1) h.attributes set (attributes_more (apart_from h.bound h.switch n first) now kept h.attributes g.attributes)
+      (set_drawn n first h.bound h.switch g.least g.bound g.switch (text_on p.attribute) ps s (name_on p.attribute) (target_of p.directive) e)
 
   class_now : is_class_drawn now (with_parts p s ps h).class ≡ true
   class_now =
-      class_drawn n first h.bound g.least g.bound (text_on p.attribute) ps s (name_on p.attribute) h.class e (class_more (apart_from h.bound n first) now kept h.class g.class)
+      class_drawn n first h.bound h.switch g.least g.bound g.switch (text_on p.attribute) ps s (name_on p.attribute) h.class e (class_more (apart_from h.bound h.switch n first) now kept h.class g.class)
 
   pub parts_drawn : Drawn n (with_parts p s ps h)
   parts_drawn = record {
     least = omega (arith, size, g.least);
-    bound = subst (λ c. is_bound_within n c (bound_by s first h.bound) ≡ true) (sym size) (bound_drawn n first h.bound g.least g.bound (text_on p.attribute) ps s e);
-    attributes = subst (λ c. are_drawn (apart_from (bound_by s first h.bound) n c) (with_parts p s ps h).attributes ≡ true) (sym size) attributes_now;
-    class = subst (λ c. is_class_drawn (apart_from (bound_by s first h.bound) n c) (with_parts p s ps h).class ≡ true) (sym size) class_now;
+    bound = subst (λ c. is_bound_within n c (bound_by s first h.bound) ≡ true) (sym size) (bound_drawn n first h.bound h.switch g.least g.bound g.switch (text_on p.attribute) ps s e);
+    switch = subst (λ c. is_bound_within n c (switch_by s first h.switch) ≡ true) (sym size) (switch_drawn n first h.bound h.switch g.least g.bound g.switch (text_on p.attribute) ps s e);
+    attributes = subst (λ c. are_drawn (apart_from (bound_by s first h.bound) (switch_by s first h.switch) n c) (with_parts p s ps h).attributes ≡ true) (sym size) attributes_now;
+    class = subst (λ c. is_class_drawn (apart_from (bound_by s first h.bound) (switch_by s first h.switch) n c) (with_parts p s ps h).class ≡ true) (sym size) class_now;
   }
 
 -- no directive yet
@@ -227,14 +254,24 @@ pub bare_drawn : (ats : Attributes) (sites : List Site) → Drawn (length sites)
 bare_drawn ats sites = record {
   least = omega arith;
   bound = refl;
-  attributes = plain_drawn (is_within (length sites) (length sites)) (kept_attributes ats);
-  class = class_with_drawn (is_within (length sites) (length sites)) (lookup (λ n. bytes_eq n (codes "class")) (kept_attributes ats));
+  switch = refl;
+  attributes = plain_drawn (apart_from None None (length sites) (length sites)) (kept_attributes ats);
+  class = class_with_drawn (apart_from None None (length sites) (length sites)) (lookup (λ n. bytes_eq n (codes "class")) (kept_attributes ats));
 }
 
 -- all attributes, with the class
-pub all_drawn : (n : ℕ) (h : Head) → Drawn n h → are_drawn (apart_from h.bound n (length h.sites)) (attributes_of h) ≡ true
+pub all_drawn : (n : ℕ) (h : Head) → Drawn n h → are_drawn (apart_from h.bound h.switch n (length h.sites)) (attributes_of h) ≡ true
 all_drawn n h g =
-    let test : ℕ → Bool = apart_from h.bound n (length h.sites) in
+    let test : ℕ → Bool = apart_from h.bound h.switch n (length h.sites) in
     let last : are_drawn test (class_setting h.class) ≡ true =
     if_held (is_classed h.class) ((codes "class", classes h.class) ∷ []) [] (λ ats. are_drawn test ats ≡ true) (λ _. and_from (is_class_drawn test h.class) true g.class refl) (λ _. refl) in
     both_all (λ a. is_value_drawn test a.1) h.attributes (class_setting h.class) g.attributes last
+
+-- so an element is numbered: its attributes are drawn from its own sites, but for that of its contents
+pub plain_alone : (n c : ℕ) (w : Option ℕ) (ats : PartAttributes) → are_drawn (apart_from None w n c) ats ≡ true → are_drawn (is_within n c) ats ≡ true
+plain_alone n c w ats e = attributes_more (apart_from None w n c) (is_within n c) (λ k f. (apart_parts n c None w k f).0) ats e
+
+pub bound_alone : (b n c : ℕ) (w : Option ℕ) (ats : PartAttributes) → is_within n c b ≡ true → are_drawn (apart_from (Some b) w n c) ats ≡ true → (is_within n c b && are_drawn (is_apart b n c) ats) ≡ true
+bound_alone b n c w ats e f =
+    and_from (is_within n c b) (are_drawn (is_apart b n c) ats) e
+    (attributes_more (apart_from (Some b) w n c) (is_apart b n c) (λ k g. let h = apart_parts n c (Some b) w k g in and_from (is_within n c k) (not (k == b)) h.0 h.1.0) ats f)

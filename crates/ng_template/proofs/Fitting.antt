@@ -8,7 +8,7 @@ use Rattle.ng_drawing.specs.Template as template
 use Rattle.ng_drawing.specs.declared.kind.SiteKind.TheVariants as kinds
 use Rattle.ng_interp.specs.Parts.{Piece}
 use Rattle.ng_template.specs.Compiles.{Made, other_places, with_text, text_made}
-use Rattle.ng_template.specs.Directives.{Head, name_on, kind_for, set_by, class_by, bound_by, with_parts, if_it_fits}
+use Rattle.ng_template.specs.Directives.{Head, name_on, kind_for, set_by, class_by, bound_by, switch_by, with_parts, if_it_fits}
 use Rattle.ng_template.specs.Limits.{site_limit, worn}
 use Rattle.ng_template.specs.Manners.{target_of}
 use Rattle.ng_template.specs.Texts.{numbered, sites_in, counted}
@@ -37,14 +37,15 @@ module _ (p : Pick) (s : Setting) (ps : List Piece) (h : Head) where
   pub parts_full : site_limit < length h.sites + length (sites_in (kind_for s) ps) → if_it_fits p s ps h ≡ Err worn
   parts_full l = no_room (Err worn) (Ok (with_parts p s ps h)) (length h.sites + length (sites_in (kind_for s) ps)) l
 
-  pub parts_placed : (n : ℕ) (pieces : List template.Piece) (attributes : PartAttributes) (class : PartClass) (bound : Option ℕ) (own : List ℕ) (sites : List Site) → n ≡ length h.sites → pieces ≡ numbered n ps
+  pub parts_placed : (n : ℕ) (pieces : List template.Piece) (attributes : PartAttributes) (class : PartClass) (bound switch : Option ℕ) (own : List ℕ) (sites : List Site) → n ≡ length h.sites → pieces ≡ numbered n ps
       → attributes ≡ h.attributes ++ set_by s (name_on p.attribute) (target_of p.directive) n pieces
       → class ≡ class_by s (name_on p.attribute) n pieces h.class
       → bound ≡ bound_by s n h.bound
+      → switch ≡ switch_by s n h.switch
       → own ≡ h.own ++ counted n (sites_in (kind_for s) ps)
       → sites ≡ h.sites ++ sites_in (kind_for s) ps
       → length h.sites + length (sites_in (kind_for s) ps) ≤ site_limit
-      → if_it_fits p s ps h ≡ Ok (record { attributes = attributes; class = class; bound = bound; own = own; acts = h.acts; sites = sites })
-  parts_placed n pieces attributes class bound own sites first named a c b o t fits =
-      let same : with_parts p s ps h ≡ record { attributes = attributes; class = class; bound = bound; own = own; acts = h.acts; sites = sites } = (cc) in
+      → if_it_fits p s ps h ≡ Ok (record { attributes = attributes; class = class; bound = bound; switch = switch; own = own; acts = h.acts; sites = sites })
+  parts_placed n pieces attributes class bound switch own sites first named a c b w o t fits =
+      let same : with_parts p s ps h ≡ record { attributes = attributes; class = class; bound = bound; switch = switch; own = own; acts = h.acts; sites = sites } = (cc) in
       room (Err worn) (Ok (with_parts p s ps h)) (length h.sites + length (sites_in (kind_for s) ps)) fits ∙ ap Ok same

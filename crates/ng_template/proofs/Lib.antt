@@ -5,8 +5,11 @@ pub mod Walks
 pub mod Judging
 pub mod Numbers
 pub mod Drawn
+pub mod Ranges
 pub mod PlainNodes
 pub mod Picking
+pub mod Apart
+pub mod NoCase
 pub mod Wholes
 pub mod Blocks
 pub mod Wraps

@@ -1,14 +1,14 @@
 -- Numbers of sites: those that a list of parts gets, and those that what is drawn has.
-use Rattle.std.proofs.Common.{◌≡◌, ◌<◌, ◌≤◌, ◌+◌, ℕ, zero, suc, Bool, true, false, cond, List, [], ◌∷◌, ◌++◌, length, Option, None, Some, refl, ap, sym, ◌∙◌, append_assoc, add-one, arith}
+use Rattle.std.proofs.Common.{◌≡◌, ◌<◌, ◌≤◌, ◌+◌, ℕ, zero, suc, Bool, true, cond, List, [], ◌∷◌, ◌++◌, length, None, Some, refl, ap, ◌∙◌, append_assoc, add-one, arith}
 use Rattle.std.proofs.lemmas.Bool.{and_parts, and_from, eq-eqb}
 use Rattle.std.specs.List.{list_all, flat_map}
 use Rattle.std.specs.Prelude.{◌&&◌}
-use Rattle.ng_drawing.specs.Template.{word, hole, Hiding, while_true, while_false, PartClass, PartValue, always, unless_empty, flag, classes, PartAttributes}
+use Rattle.ng_drawing.specs.Template.{word, hole, Hiding, while_true, while_false, PartClass, PartValue, always, unless_empty, flag, classes, PartAttributes, Part, Contents, Parts, text_part, comment_part, element_part, anchor_part, children, bound, no_parts, part_then}
 use Rattle.ng_drawing.specs.Template as template
 use Rattle.ng_drawing.specs.declared.kind.SiteKind.{SiteKind}
 use Rattle.ng_interp.specs.Parts.{Piece}
 use Rattle.ng_interp.specs.Parts as interp
-use Rattle.ng_template.specs.Numbering.{after_pieces, after_own, is_piece_drawn, is_hiding_drawn, is_class_drawn, is_value_drawn, are_drawn}
+use Rattle.ng_template.specs.Numbering.{after_pieces, after_own, is_piece_drawn, is_hiding_drawn, is_class_drawn, is_value_drawn, are_drawn, part_draws, contents_draw, parts_draw}
 use Rattle.ng_template.specs.Order.{piece_holes}
 use Rattle.ng_template.specs.Texts.{numbered, sites_in, counted}
 
@@ -102,3 +102,22 @@ module _ (p q : ℕ → Bool) (go : (k : ℕ) → p k ≡ true → q k ≡ true)
 
   pub attributes_more : (ats : PartAttributes) → are_drawn p ats ≡ true → are_drawn q ats ≡ true
   attributes_more = all_more (λ a. is_value_drawn p a.1) (λ a. is_value_drawn q a.1) (λ a. value_more a.1)
+
+  mutual
+    pub part_more : (x : Part) → part_draws p x ≡ true → part_draws q x ≡ true
+    part_more (text_part ps) e = pieces_more ps e
+    part_more (comment_part t) e = refl
+    part_more (element_part name own acts ats c) e =
+        let h = and_parts (are_drawn p ats) (contents_draw p c) e in
+        and_from (are_drawn q ats) (contents_draw q c) (attributes_more ats h.0) (contents_more c h.1)
+    part_more (anchor_part outlet own starts) e = refl
+
+    pub contents_more : (c : Contents) → contents_draw p c ≡ true → contents_draw q c ≡ true
+    contents_more (children ps) e = parts_more ps e
+    contents_more (bound b) e = go b e
+
+    pub parts_more : (ps : Parts) → parts_draw p ps ≡ true → parts_draw q ps ≡ true
+    parts_more no_parts e = refl
+    parts_more (part_then x ps) e =
+        let h = and_parts (part_draws p x) (parts_draw p ps) e in
+        and_from (part_draws q x) (parts_draw q ps) (part_more x h.0) (parts_more ps h.1)

@@ -8,10 +8,10 @@ use Rattle.ng_drawing.specs.Template.{Site}
 use Rattle.ng_interp.specs.Parts as interp
 use Rattle.ng_interp.specs.declared.pieces.InterpFault.{InterpFault}
 use Rattle.ng_language.specs.Trees.{Trees}
-use Rattle.ng_template.specs.Directives.{Head, text_on, parts_for, kind_for, bound_by, with_parts, if_it_fits, with_start, with_handler, with_manner, with_picks}
+use Rattle.ng_template.specs.Directives.{Head, text_on, parts_for, kind_for, bound_by, switch_by, with_parts, if_it_fits, with_start, with_handler, with_manner, with_picks}
 use Rattle.ng_template.specs.Limits.{site_limit, worn}
 use Rattle.ng_template.specs.Manners.{manner_of, event_name}
-use Rattle.ng_template.specs.Order.{text_refusal, manner_refusal, pick_refusal, first_of, first_pick_refusal, is_binding, is_bind, text_sites, manner_sites, pick_sites}
+use Rattle.ng_template.specs.Order.{text_refusal, manner_refusal, pick_refusal, first_of, first_pick_refusal, is_binding, is_bind, is_choosing, is_switch, text_sites, manner_sites, pick_sites}
 use Rattle.ng_template.specs.Programs.{program_in, program_refusal, judged_program}
 use Rattle.ng_template.specs.Texts.{judged, counted, sites_in}
 use Rattle.ng_template.specs.declared.fault.TplFault.{TplFault}
@@ -19,22 +19,23 @@ use Rattle.ng_template.specs.declared.fault.TplKind.{TplKind}
 use Rattle.ng_template.specs.declared.manners.Manner.{Manner}
 use Rattle.ng_template.specs.declared.manners.Manner.TheVariants.{Sets, Starts, Handles, Fills}
 use Rattle.ng_template.specs.declared.manners.Setting.{Setting}
-use Rattle.ng_template.specs.declared.manners.Setting.TheVariants.{Interpolates, Links, Switches, Binds, Classes, Shows, Hides}
+use Rattle.ng_template.specs.declared.manners.Setting.TheVariants.{Interpolates, Links, Switches, Binds, Classes, Shows, Hides, Chooses}
 use Rattle.ng_template.proofs.Drawn.{Drawn, parts_drawn}
 use Rattle.ng_template.proofs.Judging.{Judged, fine, faulty, judged_is, JudgedProgram, program_fine, program_faulty, judged_program_is}
 use Rattle.ng_template.proofs.Numbers.{counted-append}
 
--- what directives with these sites make of an element, some of which puts a text in place of the children or none
-pub record Picked (ss : List Site) (binds : Bool) (h k : Head) : Type 0 where
+-- what directives with these sites make of an element, some of which puts a text in place of the children, or chooses among cases, or none
+pub record Picked (ss : List Site) (binds chooses : Bool) (h k : Head) : Type 0 where
   pub own : k.own ≡ h.own ++ counted (length h.sites) ss
   pub sites : k.sites ≡ h.sites ++ ss
   pub bound : is_some k.bound ≡ (is_some h.bound || binds)
+  pub switch : is_some k.switch ≡ (is_some h.switch || chooses)
   pub drawn : (n : ℕ) → Drawn n h → Drawn n k
 
 -- the answer is such an element, where none is refused, or the refusal
-abbrev pub Answers : ℕ → List Site → Bool → Option TplKind → Head → Result Head TplFault → Type 0
-Answers place ss binds o h (Ok k) = Picked ss binds h k × (o ≡ None)
-Answers place ss binds o h (Err f) = ((f.place ≡ place) × (o ≡ Some f.kind)) ⊎ (f ≡ worn)
+abbrev pub Answers : ℕ → List Site → Bool → Bool → Option TplKind → Head → Result Head TplFault → Type 0
+Answers place ss binds chooses o h (Ok k) = Picked ss binds chooses h k × (o ≡ None)
+Answers place ss binds chooses o h (Err f) = ((f.place ≡ place) × (o ≡ Some f.kind)) ⊎ (f ≡ worn)
 
 or-false : (b : Bool) → b ≡ (b || false)
 or-false true = refl
@@ -56,50 +57,62 @@ bound_after Binds n o = or-true (is_some o)
 bound_after Classes n o = or-false (is_some o)
 bound_after Shows n o = or-false (is_some o)
 bound_after Hides n o = or-false (is_some o)
+bound_after Chooses n o = or-false (is_some o)
+
+switch_after : (s : Setting) (n : ℕ) (o : Option ℕ) → is_some (switch_by s n o) ≡ (is_some o || is_choosing (Some (Sets s)))
+switch_after Interpolates n o = or-false (is_some o)
+switch_after Links n o = or-false (is_some o)
+switch_after Switches n o = or-false (is_some o)
+switch_after Binds n o = or-false (is_some o)
+switch_after Classes n o = or-false (is_some o)
+switch_after Shows n o = or-false (is_some o)
+switch_after Hides n o = or-false (is_some o)
+switch_after Chooses n o = or-true (is_some o)
 
 -- nothing is watched
-acted : (h k : Head) → k.own ≡ h.own → k.sites ≡ h.sites → k.bound ≡ h.bound → ((n : ℕ) → Drawn n h → Drawn n k) → Picked [] false h k
-acted h k own sites bound drawn = record {
+acted : (h k : Head) → k.own ≡ h.own → k.sites ≡ h.sites → k.bound ≡ h.bound → k.switch ≡ h.switch → ((n : ℕ) → Drawn n h → Drawn n k) → Picked [] false false h k
+acted h k own sites bound switch drawn = record {
   own = own ∙ sym (append-nil h.own);
   sites = sites ∙ sym (append-nil h.sites);
   bound = ap is_some bound ∙ or-false (is_some h.bound);
+  switch = ap is_some switch ∙ or-false (is_some h.switch);
   drawn = drawn;
 }
 
 module _ (place : ℕ) where
   module _ (p : Pick) (h : Head) where
     fitting : (s : Setting) (ps : List interp.Piece) → parts_for s (text_on p.attribute) ≡ Ok ps → (o : Option TplKind) → o ≡ None → (b : Bool)
-        → Answers place (sites_in (kind_for s) ps) (is_binding (Some (Sets s))) o h (cond b (Err worn) (Ok (with_parts p s ps h)))
+        → Answers place (sites_in (kind_for s) ps) (is_binding (Some (Sets s))) (is_choosing (Some (Sets s))) o h (cond b (Err worn) (Ok (with_parts p s ps h)))
     fitting s ps e o none true = inr refl
     fitting s ps e o none false =
-        (record { own = refl; sites = refl; bound = bound_after s (length h.sites) h.bound; drawn = λ n g. parts_drawn p s ps e n h g }, none)
+        (record { own = refl; sites = refl; bound = bound_after s (length h.sites) h.bound; switch = switch_after s (length h.sites) h.switch; drawn = λ n g. parts_drawn p s ps e n h g }, none)
 
     set : (s : Setting) (r : Result (List interp.Piece) InterpFault) → parts_for s (text_on p.attribute) ≡ r → (j : Result (List interp.Piece) TplFault) → Judged place r j
-        → Answers place (text_sites (kind_for s) r) (is_binding (Some (Sets s))) (text_refusal r) h (j >>= λ ps. if_it_fits p s ps h)
+        → Answers place (text_sites (kind_for s) r) (is_binding (Some (Sets s))) (is_choosing (Some (Sets s))) (text_refusal r) h (j >>= λ ps. if_it_fits p s ps h)
     set s (Ok ps) e (Ok qs) (fine same none) =
         let here : ps ≡ qs = (cc) in
         let there = subst (λ x. parts_for s (text_on p.attribute) ≡ Ok x) here e in
-        subst (λ x. Answers place (sites_in (kind_for s) x) (is_binding (Some (Sets s))) (text_refusal (Ok x)) h (if_it_fits p s qs h)) (sym here)
+        subst (λ x. Answers place (sites_in (kind_for s) x) (is_binding (Some (Sets s))) (is_choosing (Some (Sets s))) (text_refusal (Ok x)) h (if_it_fits p s qs h)) (sym here)
         (fitting s qs there (text_refusal (Ok qs)) (ap (λ x. text_refusal (Ok x)) (sym here) ∙ none) (nat_lt site_limit (length h.sites + length (sites_in (kind_for s) qs))))
     set s (Err f) e (Ok qs) (fine same none) = absurd (cc)
     set s r e (Err f) (faulty is) = inl (refl, is)
 
-    started : (o : Option Trees) (j : Result Trees TplFault) → JudgedProgram place o j → Answers place [] false (program_refusal o) h (j >>= λ b. Ok (with_start b h))
+    started : (o : Option Trees) (j : Result Trees TplFault) → JudgedProgram place o j → Answers place [] false false (program_refusal o) h (j >>= λ b. Ok (with_start b h))
     started o (Ok b) (program_fine none) =
-        (acted h (with_start b h) refl refl refl (λ n g. record { least = g.least; bound = g.bound; attributes = g.attributes; class = g.class }), none)
+        (acted h (with_start b h) refl refl refl refl (λ n g. record { least = g.least; bound = g.bound; switch = g.switch; attributes = g.attributes; class = g.class }), none)
     started o (Err f) (program_faulty is) = inl (refl, is)
 
-    handled : (event : List ℕ) (o : Option Trees) (j : Result Trees TplFault) → JudgedProgram place o j → Answers place [] false (program_refusal o) h (j >>= λ b. Ok (with_handler event b h))
+    handled : (event : List ℕ) (o : Option Trees) (j : Result Trees TplFault) → JudgedProgram place o j → Answers place [] false false (program_refusal o) h (j >>= λ b. Ok (with_handler event b h))
     handled event o (Ok b) (program_fine none) =
-        (acted h (with_handler event b h) refl refl refl (λ n g. record { least = g.least; bound = g.bound; attributes = g.attributes; class = g.class }), none)
+        (acted h (with_handler event b h) refl refl refl refl (λ n g. record { least = g.least; bound = g.bound; switch = g.switch; attributes = g.attributes; class = g.class }), none)
     handled event o (Err f) (program_faulty is) = inl (refl, is)
 
-    manner_answers : (o : Option Manner) → Answers place (manner_sites o p.attribute) (is_binding o) (manner_refusal o p.attribute) h (with_manner place p o h)
+    manner_answers : (o : Option Manner) → Answers place (manner_sites o p.attribute) (is_binding o) (is_choosing o) (manner_refusal o p.attribute) h (with_manner place p o h)
     manner_answers None = inl (refl, refl)
     manner_answers (Some (Sets s)) =
         let r : Result (List interp.Piece) InterpFault = parts_for s (text_on p.attribute) in
         set s r refl (judged place r) (judged_is place r)
-    manner_answers (Some Fills) = (acted h h refl refl refl (λ n g. g), refl)
+    manner_answers (Some Fills) = (acted h h refl refl refl refl (λ n g. g), refl)
     manner_answers (Some Starts) =
         let o : Option Trees = program_in (text_on p.attribute) in
         started o (judged_program place o) (judged_program_is place o)
@@ -108,8 +121,8 @@ module _ (place : ℕ) where
         handled (event_name e) o (judged_program place o) (judged_program_is place o)
 
   -- one after another
-  both : (ss ts : List Site) (b c : Bool) (h k l : Head) → Picked ss b h k → Picked ts c k l → Picked (ss ++ ts) (b || c) h l
-  both ss ts b c h k l f g =
+  both : (ss ts : List Site) (b c d e : Bool) (h k l : Head) → Picked ss b d h k → Picked ts c e k l → Picked (ss ++ ts) (b || c) (d || e) h l
+  both ss ts b c d e h k l f g =
       let size : length k.sites ≡ length h.sites + length ss = ap length f.sites ∙ length-append h.sites ss in
       record {
         own = g.own ∙ (ap (λ (xs : List ℕ). xs ++ counted (length k.sites) ts) f.own
@@ -117,22 +130,23 @@ module _ (place : ℕ) where
             ∙ ap (λ (xs : List ℕ). h.own ++ xs) (ap (λ n. counted (length h.sites) ss ++ counted n ts) size ∙ sym (counted-append (length h.sites) ss ts))));
         sites = g.sites ∙ (ap (λ (xs : List Site). xs ++ ts) f.sites ∙ append_assoc h.sites ss ts);
         bound = g.bound ∙ (ap (λ x. x || c) f.bound ∙ or-assoc (is_some h.bound) b c);
-        drawn = λ n d. g.drawn n (f.drawn n d);
+        switch = g.switch ∙ (ap (λ x. x || e) f.switch ∙ or-assoc (is_some h.switch) d e);
+        drawn = λ n w. g.drawn n (f.drawn n w);
       }
 
-  second : (ss ts : List Site) (b c : Bool) (a o : Option TplKind) (h k : Head) → Picked ss b h k → a ≡ None → (r : Result Head TplFault) → Answers place ts c o k r → Answers place (ss ++ ts) (b || c) (first_of a o) h r
-  second ss ts b c a o h k f none (Ok l) g = (both ss ts b c h k l f g.0, ap (λ x. first_of x o) none ∙ g.1)
-  second ss ts b c a o h k f none (Err d) (inl g) = inl (g.0, ap (λ x. first_of x o) none ∙ g.1)
-  second ss ts b c a o h k f none (Err d) (inr g) = inr g
+  second : (ss ts : List Site) (b c d e : Bool) (a o : Option TplKind) (h k : Head) → Picked ss b d h k → a ≡ None → (r : Result Head TplFault) → Answers place ts c e o k r → Answers place (ss ++ ts) (b || c) (d || e) (first_of a o) h r
+  second ss ts b c d e a o h k f none (Ok l) g = (both ss ts b c d e h k l f g.0, ap (λ x. first_of x o) none ∙ g.1)
+  second ss ts b c d e a o h k f none (Err w) (inl g) = inl (g.0, ap (λ x. first_of x o) none ∙ g.1)
+  second ss ts b c d e a o h k f none (Err w) (inr g) = inr g
 
-  in_turn : (ss ts : List Site) (b c : Bool) (a o : Option TplKind) (h : Head) (r : Result Head TplFault) → Answers place ss b a h r → (go : Head → Result Head TplFault) → ((k : Head) → Answers place ts c o k (go k))
-      → Answers place (ss ++ ts) (b || c) (first_of a o) h (r >>= go)
-  in_turn ss ts b c a o h (Ok k) f go g = second ss ts b c a o h k f.0 f.1 (go k) (g k)
-  in_turn ss ts b c a o h (Err d) (inl f) go g = inl (f.0, ap (λ x. first_of x o) f.1)
-  in_turn ss ts b c a o h (Err d) (inr f) go g = inr f
+  in_turn : (ss ts : List Site) (b c d e : Bool) (a o : Option TplKind) (h : Head) (r : Result Head TplFault) → Answers place ss b d a h r → (go : Head → Result Head TplFault)
+      → ((k : Head) → Answers place ts c e o k (go k)) → Answers place (ss ++ ts) (b || c) (d || e) (first_of a o) h (r >>= go)
+  in_turn ss ts b c d e a o h (Ok k) f go g = second ss ts b c d e a o h k f.0 f.1 (go k) (g k)
+  in_turn ss ts b c d e a o h (Err w) (inl f) go g = inl (f.0, ap (λ x. first_of x o) f.1)
+  in_turn ss ts b c d e a o h (Err w) (inr f) go g = inr f
 
-  pub picks_answer : (ps : List Pick) (h : Head) → Answers place (flat_map pick_sites ps) (list_any is_bind ps) (first_pick_refusal ps) h (with_picks place ps h)
-  picks_answer [] h = (acted h h refl refl refl (λ n g. g), refl)
+  pub picks_answer : (ps : List Pick) (h : Head) → Answers place (flat_map pick_sites ps) (list_any is_bind ps) (list_any is_switch ps) (first_pick_refusal ps) h (with_picks place ps h)
+  picks_answer [] h = (acted h h refl refl refl refl (λ n g. g), refl)
   picks_answer (p ∷ ps) h =
-      in_turn (pick_sites p) (flat_map pick_sites ps) (is_bind p) (list_any is_bind ps) (pick_refusal p) (first_pick_refusal ps) h
+      in_turn (pick_sites p) (flat_map pick_sites ps) (is_bind p) (list_any is_bind ps) (is_switch p) (list_any is_switch ps) (pick_refusal p) (first_pick_refusal ps) h
       (with_manner place p (manner_of p.directive) h) (manner_answers p h (manner_of p.directive)) (with_picks place ps) (λ k. picks_answer ps k)

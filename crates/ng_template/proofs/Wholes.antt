@@ -1,20 +1,26 @@
--- Fragments whose outlets have numbers of sites and bodies that are there.
+-- Fragments whose outlets have numbers of sites and bodies that are there, and from whose sites nothing is drawn.
 use Rattle.std.proofs.Common.{◌≡◌, ◌<◌, ◌≤◌, ◌+◌, ℕ, true, List, [], ◌∷◌, ◌++◌, length, Option, Some, refl, ap, ◌∙◌, length-append, arith}
 use Rattle.std.proofs.lemmas.Bool.{and_parts, and_from, leb-true, le-leb, ltb-true, lt-ltb, eq-eqb}
 use Rattle.std.specs.List.{list_all}
 use Rattle.std.specs.Prelude.{◌&&◌, nat_le, nat_lt, option_and_then}
-use Rattle.ng_drawing.specs.Template.{Site, Part, no_parts, part_then, Filling, body_if, Outlet, Fragment}
-use Rattle.ng_template.specs.Compiles.{Made, fragment_made, outlet_for, block_alone, nested}
-use Rattle.ng_template.specs.Numbering.{after_part, after_parts, outlets_of_part, after_outlets, is_number, is_body, is_outlet, is_whole}
+use Rattle.ng_drawing.specs.Cases.{Case}
+use Rattle.ng_drawing.specs.Template.{Site, Part, no_parts, part_then, Filling, body_if, on_case, Outlet, Fragment}
+use Rattle.ng_template.specs.Around.{Block, block_if}
+use Rattle.ng_template.specs.Compiles.{Made, fragment_made, outlet_by, filling_in, block_alone, nested, bodies_with}
+use Rattle.ng_template.specs.Numbering.{after_part, after_parts, outlets_of_part, after_outlets, is_number, is_body, is_outlet, are_outlets, are_undrawn, is_numbered, is_whole}
 use Rattle.ng_template.proofs.Drawn.{both_all, one}
 use Rattle.ng_template.proofs.Numbers.{all_more}
 
 -- what there is among fewer is there among more
-body_more : (c d : ℕ) → c ≤ d → (x : Filling) → is_body c x ≡ true → is_body d x ≡ true
-body_more c d l (body_if b) e =
+number_more : (c d b : ℕ) → c ≤ d → (nat_lt 0 b && nat_le b c) ≡ true → (nat_lt 0 b && nat_le b d) ≡ true
+number_more c d b l e =
     let h = and_parts (nat_lt 0 b) (nat_le b c) e in
     let g : b ≤ c = leb-true b c h.1 in
     and_from (nat_lt 0 b) (nat_le b d) h.0 (le-leb b d (omega arith))
+
+body_more : (c d : ℕ) → c ≤ d → (x : Filling) → is_body c x ≡ true → is_body d x ≡ true
+body_more c d l (body_if b) e = number_more c d b l e
+body_more c d l (on_case k b) e = number_more c d b l e
 
 module _ (s t c d : ℕ) (up : s ≤ t) (more : c ≤ d) where
   outlet_more : (o : Outlet) → is_outlet s c o ≡ true → is_outlet t d o ≡ true
@@ -29,20 +35,20 @@ module _ (s t c d : ℕ) (up : s ≤ t) (more : c ≤ d) where
 pub number_is : (n : ℕ) (o : Option ℕ) → o ≡ Some n → is_number n o ≡ true
 number_is n o e = ap (is_number n) e ∙ eq-eqb n n refl
 
-pub whole_from : (n : ℕ) (f : Fragment) → after_parts 0 f.parts ≡ Some (length f.sites) → after_outlets 0 f.parts ≡ Some (length f.outlets) → list_all (is_outlet (length f.sites) n) f.outlets ≡ true → is_whole n f ≡ true
-whole_from n f sites outlets e =
+-- a fragment that is numbered, whose outlets are there, and from whose sites nothing is drawn
+pub whole_from : (n : ℕ) (f : Fragment) → after_parts 0 f.parts ≡ Some (length f.sites) → after_outlets 0 f.parts ≡ Some (length f.outlets) → are_outlets n f ≡ true → are_undrawn f ≡ true → is_whole n f ≡ true
+whole_from n f sites outlets e undrawn =
     let first : is_number (length f.sites) (after_parts 0 f.parts) ≡ true = number_is (length f.sites) (after_parts 0 f.parts) sites in
     let second : is_number (length f.outlets) (after_outlets 0 f.parts) ≡ true = number_is (length f.outlets) (after_outlets 0 f.parts) outlets in
-    and_from (is_number (length f.sites) (after_parts 0 f.parts)) (is_number (length f.outlets) (after_outlets 0 f.parts) && list_all (is_outlet (length f.sites) n) f.outlets) first
-    (and_from (is_number (length f.outlets) (after_outlets 0 f.parts)) (list_all (is_outlet (length f.sites) n) f.outlets) second e)
+    and_from (is_numbered f) (are_outlets n f && are_undrawn f) (and_from (is_number (length f.sites) (after_parts 0 f.parts)) (is_number (length f.outlets) (after_outlets 0 f.parts)) first second)
+    (and_from (are_outlets n f) (are_undrawn f) e undrawn)
 
 pub whole_more : (c d : ℕ) → c ≤ d → (f : Fragment) → is_whole c f ≡ true → is_whole d f ≡ true
 whole_more c d l f e =
-    let h = and_parts (is_number (length f.sites) (after_parts 0 f.parts)) (is_number (length f.outlets) (after_outlets 0 f.parts) && list_all (is_outlet (length f.sites) c) f.outlets) e in
-    let g = and_parts (is_number (length f.outlets) (after_outlets 0 f.parts)) (list_all (is_outlet (length f.sites) c) f.outlets) h.1 in
+    let h = and_parts (is_numbered f) (are_outlets c f && are_undrawn f) e in
+    let g = and_parts (are_outlets c f) (are_undrawn f) h.1 in
     let same : length f.sites ≤ length f.sites = omega arith in
-    and_from (is_number (length f.sites) (after_parts 0 f.parts)) (is_number (length f.outlets) (after_outlets 0 f.parts) && list_all (is_outlet (length f.sites) d) f.outlets) h.0
-    (and_from (is_number (length f.outlets) (after_outlets 0 f.parts)) (list_all (is_outlet (length f.sites) d) f.outlets) g.0 (outlets_more (length f.sites) (length f.sites) c d same l f.outlets g.1))
+    and_from (is_numbered f) (are_outlets d f && are_undrawn f) h.0 (and_from (are_outlets d f) (are_undrawn f) (outlets_more (length f.sites) (length f.sites) c d same l f.outlets g.0) g.1)
 
 -- bodies of which each has outlets that bodies of theirs fill
 abbrev pub AreWhole : List Fragment → Type 0
@@ -56,35 +62,44 @@ one_more bodies f e h =
     both_all (is_whole n) bodies (f ∷ []) (all_more (is_whole (length bodies)) (is_whole n) (whole_more (length bodies) n l) bodies e) (one (is_whole n) f h)
 
 -- blocks that stand in one another
-pub length-nested : (hs : List Site) (bodies : List Fragment) → length (nested hs bodies) ≡ length bodies + length hs
+pub length-nested : (bs : List Block) (bodies : List Fragment) → length (nested bs bodies) ≡ length bodies + length bs
 length-nested [] bodies = omega arith
-length-nested (h ∷ hs) bodies =
-    let inner : List Fragment = nested hs bodies in
-    let before : length inner ≡ length bodies + length hs = length-nested hs bodies in
-    let size : length (inner ++ block_alone h inner ∷ []) ≡ length inner + length (block_alone h inner ∷ []) = length-append inner (block_alone h inner ∷ []) in
+length-nested (b ∷ bs) bodies =
+    let inner : List Fragment = nested bs bodies in
+    let before : length inner ≡ length bodies + length bs = length-nested bs bodies in
+    let size : length (inner ++ block_alone b inner ∷ []) ≡ length inner + length (block_alone b inner ∷ []) = length-append inner (block_alone b inner ∷ []) in
     omega (arith, before, size)
 
-pub last-nested : (hs : List Site) (h : Site) (bodies : List Fragment) → nested (hs ++ h ∷ []) bodies ≡ nested hs (bodies ++ block_alone h bodies ∷ [])
-last-nested [] h bodies = refl
-last-nested (x ∷ hs) h bodies = ap (λ (fs : List Fragment). fs ++ block_alone x fs ∷ []) (last-nested hs h bodies)
+pub last-nested : (bs : List Block) (b : Block) (bodies : List Fragment) → nested (bs ++ b ∷ []) bodies ≡ nested bs (bodies ++ block_alone b bodies ∷ [])
+last-nested [] b bodies = refl
+last-nested (x ∷ bs) b bodies = ap (λ (fs : List Fragment). fs ++ block_alone x fs ∷ []) (last-nested bs b bodies)
 
--- the outlet of the body that was made last
-pub outlet_there : (s n site : ℕ) (bodies : List Fragment) → site < s → 0 < length bodies → length bodies ≤ n → is_outlet s n (outlet_for site bodies) ≡ true
-outlet_there s n site bodies l some few =
-    and_from (nat_lt site s) (nat_lt 0 (length bodies) && nat_le (length bodies) n) (lt-ltb site s l)
-    (and_from (nat_lt 0 (length bodies)) (nat_le (length bodies) n) (lt-ltb 0 (length bodies) some) (le-leb (length bodies) n few))
+-- the body that was made last has a number
+number_there : (n k : ℕ) → 0 < k → k ≤ n → (nat_lt 0 k && nat_le k n) ≡ true
+number_there n k some few = and_from (nat_lt 0 k) (nat_le k n) (lt-ltb 0 k some) (le-leb k n few)
 
-alone_whole : (h : Site) (bodies : List Fragment) (n : ℕ) → 0 < length bodies → length bodies ≤ n → is_whole n (block_alone h bodies) ≡ true
-alone_whole h bodies n some few =
-    whole_from n (block_alone h bodies) refl refl (one (is_outlet (length (h ∷ [])) n) (outlet_for 0 bodies) (outlet_there (length (h ∷ [])) n 0 bodies (omega arith) some few))
+pub block_there : (b : Block) (n k : ℕ) → 0 < k → k ≤ n → is_body n (filling_in b k) ≡ true
+block_there (block_if h) n k some few = number_there n k some few
 
-pub nested_whole : (hs : List Site) (bodies : List Fragment) → 0 < length bodies → AreWhole bodies → AreWhole (nested hs bodies)
+pub case_there : (c : Case) (n k : ℕ) → 0 < k → k ≤ n → is_body n (on_case c k) ≡ true
+case_there c n k some few = number_there n k some few
+
+-- the outlet of that body
+pub outlet_there : (s n site : ℕ) (filling : ℕ → Filling) (bodies : List Fragment) → site < s → is_body n (filling (length bodies)) ≡ true → is_outlet s n (outlet_by site filling bodies) ≡ true
+outlet_there s n site filling bodies l is = and_from (nat_lt site s) (is_body n (filling (length bodies))) (lt-ltb site s l) is
+
+alone_whole : (b : Block) (bodies : List Fragment) (n : ℕ) → 0 < length bodies → length bodies ≤ n → is_whole n (block_alone b bodies) ≡ true
+alone_whole b bodies n some few =
+    whole_from n (block_alone b bodies) refl refl
+    (one (is_outlet (length (block_alone b bodies).sites) n) (outlet_by 0 (filling_in b) bodies) (outlet_there (length (block_alone b bodies).sites) n 0 (filling_in b) bodies (omega arith) (block_there b n (length bodies) some few))) refl
+
+pub nested_whole : (bs : List Block) (bodies : List Fragment) → 0 < length bodies → AreWhole bodies → AreWhole (nested bs bodies)
 nested_whole [] bodies some e = e
-nested_whole (h ∷ hs) bodies some e =
-    let inner : List Fragment = nested hs bodies in
-    let before : length inner ≡ length bodies + length hs = length-nested hs bodies in
-    let size : length (inner ++ block_alone h inner ∷ []) ≡ length inner + length (block_alone h inner ∷ []) = length-append inner (block_alone h inner ∷ []) in
-    one_more inner (block_alone h inner) (nested_whole hs bodies some e) (alone_whole h inner (length (inner ++ block_alone h inner ∷ [])) (omega (arith, before)) (omega (arith, size)))
+nested_whole (b ∷ bs) bodies some e =
+    let inner : List Fragment = nested bs bodies in
+    let before : length inner ≡ length bodies + length bs = length-nested bs bodies in
+    let size : length (inner ++ block_alone b inner ∷ []) ≡ length inner + length (block_alone b inner ∷ []) = length-append inner (block_alone b inner ∷ []) in
+    one_more inner (block_alone b inner) (nested_whole bs bodies some e) (alone_whole b inner (length (inner ++ block_alone b inner ∷ [])) (omega (arith, before)) (omega (arith, size)))
 
 -- what is being made: its outlets and bodies have numbers that are there
 pub record Whole (m : Made) : Type 0 where
@@ -104,45 +119,45 @@ pub begun_whole : (m : Made) → Whole m → Whole (record m { sites = []; outle
 begun_whole m w = record { outlets = refl; bodies = w.bodies }
 
 -- a body that is made, and those of the blocks round it
-module _ (hs : List Site) (p : Part) (n : Made) where
-  abbrev made : Fragment
+module _ (bs : List Block) (p : Part) (n : Made) where
+  abbrev pub made : Fragment
   made = fragment_made (part_then p no_parts, n)
 
   abbrev inner : List Fragment
   inner = n.bodies ++ made ∷ []
 
   abbrev pub all_bodies : List Fragment
-  all_bodies = nested hs inner
+  all_bodies = bodies_with bs (p, n)
 
   inner_size : length inner ≡ length n.bodies + length (made ∷ [])
   inner_size = length-append n.bodies (made ∷ [])
 
   pub bodies_grow : length n.bodies < length all_bodies
-  bodies_grow = let size : length all_bodies ≡ length inner + length hs = length-nested hs inner in omega (arith, size, inner_size)
+  bodies_grow = let size : length all_bodies ≡ length inner + length bs = length-nested bs inner in omega (arith, size, inner_size)
 
-  inner_whole : after_part 0 p ≡ Some (length n.sites) → outlets_of_part 0 p ≡ Some (length n.outlets) → Whole n → AreWhole inner
-  inner_whole sites outlets w =
+  inner_whole : after_part 0 p ≡ Some (length n.sites) → outlets_of_part 0 p ≡ Some (length n.outlets) → are_undrawn made ≡ true → Whole n → AreWhole inner
+  inner_whole sites outlets undrawn w =
       let l : length n.bodies ≤ length inner = omega (arith, inner_size) in
       let same : length n.sites ≤ length n.sites = omega arith in
       one_more n.bodies made w.bodies
       (whole_from (length inner) made (ap (option_and_then (λ k. after_parts k no_parts)) sites) (ap (option_and_then (λ k. after_outlets k no_parts)) outlets)
-      (outlets_more (length n.sites) (length n.sites) (length n.bodies) (length inner) same l n.outlets w.outlets))
+      (outlets_more (length n.sites) (length n.sites) (length n.bodies) (length inner) same l n.outlets w.outlets) undrawn)
 
-  all_whole : after_part 0 p ≡ Some (length n.sites) → outlets_of_part 0 p ≡ Some (length n.outlets) → Whole n → AreWhole all_bodies
-  all_whole sites outlets w = nested_whole hs inner (omega (arith, inner_size)) (inner_whole sites outlets w)
+  pub all_whole : after_part 0 p ≡ Some (length n.sites) → outlets_of_part 0 p ≡ Some (length n.outlets) → are_undrawn made ≡ true → Whole n → AreWhole all_bodies
+  all_whole sites outlets undrawn w = nested_whole bs inner (omega (arith, inner_size)) (inner_whole sites outlets undrawn w)
 
-  pub wrapped_whole : (m : Made) (h : Site) → length m.bodies ≤ length n.bodies → after_part 0 p ≡ Some (length n.sites) → outlets_of_part 0 p ≡ Some (length n.outlets) → Whole m → Whole n
-      → Whole (record { places = n.places; sites = m.sites ++ h ∷ []; outlets = m.outlets ++ outlet_for (length m.sites) all_bodies ∷ []; bodies = all_bodies })
-  wrapped_whole m h more sites outlets v w =
-      let size : length (m.sites ++ h ∷ []) ≡ length m.sites + length (h ∷ []) = length-append m.sites (h ∷ []) in
-      let up : length m.sites < length (m.sites ++ h ∷ []) = omega (arith, size) in
-      let least : length m.sites ≤ length (m.sites ++ h ∷ []) = omega (arith, size) in
-      let grown : length m.bodies ≤ length all_bodies = omega (arith, bodies_grow, more) in
-      let some : 0 < length all_bodies = omega (arith, bodies_grow) in
-      let same : length all_bodies ≤ length all_bodies = omega arith in
-      record {
-        outlets = both_all (is_outlet (length (m.sites ++ h ∷ [])) (length all_bodies)) m.outlets (outlet_for (length m.sites) all_bodies ∷ [])
-            (outlets_more (length m.sites) (length (m.sites ++ h ∷ [])) (length m.bodies) (length all_bodies) least grown m.outlets v.outlets)
-            (one (is_outlet (length (m.sites ++ h ∷ [])) (length all_bodies)) (outlet_for (length m.sites) all_bodies) (outlet_there (length (m.sites ++ h ∷ [])) (length all_bodies) (length m.sites) all_bodies up some same));
-        bodies = all_whole sites outlets w;
-      }
+  -- the fragment round it has an outlet more, whose site is there
+  module _ (m : Made) (sites : List Site) (site : ℕ) (filling : ℕ → Filling) where
+    abbrev last : Outlet
+    last = outlet_by site filling all_bodies
+
+    pub wrapped_whole : length m.bodies ≤ length n.bodies → length m.sites ≤ length sites → site < length sites → is_body (length all_bodies) (filling (length all_bodies)) ≡ true → Whole m → AreWhole all_bodies
+        → Whole (record { places = n.places; sites = sites; outlets = m.outlets ++ last ∷ []; bodies = all_bodies })
+    wrapped_whole more least there is v w =
+        let grown : length m.bodies ≤ length all_bodies = omega (arith, bodies_grow, more) in
+        record {
+          outlets = both_all (is_outlet (length sites) (length all_bodies)) m.outlets (last ∷ [])
+              (outlets_more (length m.sites) (length sites) (length m.bodies) (length all_bodies) least grown m.outlets v.outlets)
+              (one (is_outlet (length sites) (length all_bodies)) last (outlet_there (length sites) (length all_bodies) site filling all_bodies there is));
+          bodies = w;
+        }

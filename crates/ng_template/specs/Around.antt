@@ -1,6 +1,9 @@
--- The blocks of an element, from the outside in (guide: HTML Compiler, "How directives are compiled"; API: ngIf). A block stands in place
--- of its element, and leaves the directives of lower priority to its body. Of two blocks of one priority the second is in the first.
-use Rattle.std.specs.Prelude.{ℕ, zero, suc, ℤ, List, [], ◌∷◌, ◌++◌, find, Option, None, Some, option_map, Result, Ok, Err, if◌then◌else◌}
+-- The blocks of an element, from the outside in (guide: HTML Compiler, "How directives are compiled"; API: ngIf, ngSwitch). A block stands
+-- in place of its element, and leaves the directives of lower priority to its body. Of two blocks of one priority the second is in the first.
+-- A case of a switch is the outermost, since none has a higher priority.
+use Rattle.std.specs.Prelude.{ℕ, zero, suc, ℤ, Bool, true, false, List, [], ◌∷◌, ◌++◌, map, find, Option, None, Some, option_map, Result, Ok, Err, codes, if◌then◌else◌}
+use Rattle.std.specs.Map.{lookup}
+use Rattle.std.specs.Str.{bytes_eq}
 use Rattle.ng_base.specs.Meets.{◌>>=◌}
 use Rattle.ng_collect.specs.Collected.{collected}
 use Rattle.ng_collect.specs.Sorted.{of_core}
@@ -8,10 +11,16 @@ use Rattle.ng_collect.specs.Table.{is_block}
 use Rattle.ng_collect.specs.declared.definition.DirectiveDef.{DirectiveDef}
 use Rattle.ng_collect.specs.declared.fault.CollectFault.{CollectFault}
 use Rattle.ng_collect.specs.declared.fault.CollectFault.TheVariants as collect
+use Rattle.ng_collect.specs.declared.pick.Directive.{Directive}
+use Rattle.ng_collect.specs.declared.pick.Directive.TheVariants.{Core, Interpolated, User}
 use Rattle.ng_collect.specs.declared.pick.Pick.{Pick}
+use Rattle.ng_collect.specs.declared.table.CoreDirective.{CoreDirective}
+use Rattle.ng_collect.specs.declared.table.CoreDirective.TheVariants as dirs
+use Rattle.ng_drawing.specs.Cases.{Case}
 use Rattle.ng_drawing.specs.Template.{Site}
 use Rattle.ng_drawing.specs.declared.kind.SiteKind.TheVariants as kinds
-use Rattle.ng_markup.specs.Forest.{Node}
+use Rattle.ng_markup.specs.Forest.{Attributes, Node, element, text, comment}
+use Rattle.ng_tags.specs.declared.attrs.Attr.{Attr}
 use Rattle.ng_template.specs.Directives.{text_on, whole}
 use Rattle.ng_template.specs.Manners.{are_built, any_makes_plain}
 use Rattle.ng_interp.specs.Parts.{Piece}
@@ -19,17 +28,48 @@ use Rattle.ng_interp.specs.declared.pieces.InterpFault.{InterpFault}
 use Rattle.ng_template.specs.Texts.{refused, wrong, sites_in}
 use Rattle.ng_template.specs.declared.fault.TplFault.{TplFault}
 use Rattle.ng_template.specs.declared.fault.TplKind.{TplKind}
-use Rattle.ng_template.specs.declared.fault.TplKind.TheVariants.{LeftOut, MultiDir, Later, Expression, Memory}
+use Rattle.ng_template.specs.declared.fault.TplKind.TheVariants.{LeftOut, MultiDir, CaseWithoutSwitch, Later, Expression, Memory}
 
 abbrev pub unpicked : CollectFault → TplKind
 unpicked collect.MultiDir = MultiDir
 unpicked collect.LeftOut = LeftOut
 unpicked (collect.Memory m) = Memory m
 
+-- The attribute that has the expression of a directive whose own is empty: `on` that of a switch (API: ngSwitch, "Usage").
+abbrev pub core_source : CoreDirective → Option (List ℕ)
+core_source dirs.Switch = Some (codes "on")
+core_source _ = None
+
+abbrev pub source_of : Directive → Option (List ℕ)
+source_of (Core d) = core_source d
+source_of Interpolated = None
+source_of (User n) = None
+
+abbrev pub found_as : List ℕ → Option (List ℕ) → Option Attr → Option Attr
+found_as name None own = own
+found_as name (Some value) own = Some (record { name = name; value = value })
+
+abbrev pub sourced : Option (List ℕ) → Attributes → Option Attr → Option Attr
+sourced None attributes own = own
+sourced (Some name) attributes own = found_as name (lookup (λ n. bytes_eq n name) attributes) own
+
+abbrev pub if_empty : List ℕ → Option Attr → Option Attr → Option Attr
+if_empty [] other own = other
+if_empty (c ∷ cs) other own = own
+
+-- a directive with the attribute that has its text
+abbrev pub worded : Attributes → Pick → Pick
+worded attributes p = record p { attribute = if_empty (text_on p.attribute) (sourced (source_of p.directive) attributes p.attribute) p.attribute }
+
+abbrev pub attributes_in : Node → Attributes
+attributes_in (element name attributes kids) = attributes
+attributes_in (text t) = []
+attributes_in (comment t) = []
+
 -- the directives of an element, or why they are refused
-abbrev pub picks_in : Result (List Pick) CollectFault → Result (List Pick) TplKind
-picks_in (Err f) = Err (unpicked f)
-picks_in (Ok ps) = Ok ps
+abbrev pub picks_in : Attributes → Result (List Pick) CollectFault → Result (List Pick) TplKind
+picks_in attributes (Err f) = Err (unpicked f)
+picks_in attributes (Ok ps) = Ok (map (worded attributes) ps)
 
 -- what is refused stands at a place
 abbrev pub at_place : {A : Type 0} → ℕ → Result A TplKind → Result A TplFault
@@ -54,45 +94,99 @@ pub data Inside : Type 0 where
   is_plain : Inside
   has_picks : List Pick → Inside
 
--- the sites of the blocks round an element, from the outside in; and the element itself
+-- a block round an element: its body stands while the value of its site is true
+pub data Block : Type 0 where
+  block_if : Site → Block
+
+-- the case that an element is, the blocks round it, from the outside in, and the element itself
 pub record Around : Type 0 where
-  pub heads : List Site
+  pub case : Option Case
+  pub heads : List Block
   pub inside : Inside
 
--- the sites of blocks, whose text is an expression as a whole, or what is wrong with the first of them
-abbrev pub heads_of : List Pick → Result (List Site) TplKind
+-- the case that a directive with a text makes of its element
+abbrev pub core_case : CoreDirective → List ℕ → Option Case
+core_case dirs.SwitchWhen t = Some (Some t)
+core_case dirs.SwitchDefault t = Some None
+core_case _ t = None
+
+abbrev pub case_for : Directive → List ℕ → Option Case
+case_for (Core d) t = core_case d t
+case_for Interpolated t = None
+case_for (User n) t = None
+
+abbrev pub case_at : Pick → Option Case
+case_at p = case_for p.directive (text_on p.attribute)
+
+abbrev pub case_then : Option Case → List Case → List Case
+case_then None cs = cs
+case_then (Some c) cs = c ∷ cs
+
+abbrev pub cases_in : List Pick → List Case
+cases_in [] = []
+cases_in (p ∷ ps) = case_then (case_at p) (cases_in ps)
+
+-- A case needs a switch round it, without a block between; the second of two would have the first between.
+abbrev pub switched : Bool → List Case → Result (Option Case) TplKind
+switched has_switch [] = Ok None
+switched false (c ∷ cs) = Err CaseWithoutSwitch
+switched true (c ∷ []) = Ok (Some c)
+switched true (c ∷ d ∷ cs) = Err CaseWithoutSwitch
+
+-- the blocks of directives that are no cases, whose text is an expression as a whole, or what is wrong with the first of them
+abbrev pub heads_by : Option Case → List ℕ → Result (List Block) TplKind
+heads_by (Some c) t = Ok []
+heads_by None t = checked (whole t) >>= λ h. Ok (map block_if (sites_in kinds.Reference h))
+
+abbrev pub heads_of : List Pick → Result (List Block) TplKind
 heads_of [] = Ok []
-heads_of (p ∷ ps) = checked (whole (text_on p.attribute)) >>= λ h. heads_of ps >>= λ hs. Ok (sites_in kinds.Reference h ++ hs)
+heads_of (p ∷ ps) = heads_by (case_at p) (text_on p.attribute) >>= λ h. heads_of ps >>= λ hs. Ok (h ++ hs)
 
--- the sites that stand, and those of these blocks after them
-abbrev pub heads_after : List Site → List Pick → Result (List Site) TplKind
-heads_after before ps = heads_of ps >>= λ hs. Ok (before ++ hs)
+-- blocks after those that were found
+abbrev pub heads_onto : List Block → Result (List Block) TplKind → Result (List Block) TplKind
+heads_onto before r = r >>= λ hs. Ok (before ++ hs)
 
-abbrev pub with_heads : List Site → Around → Around
-with_heads hs a = record { heads = hs ++ a.heads; inside = a.inside }
+-- what was found so far
+abbrev pub Found : Type 0
+Found = Option Case × List Block
+
+abbrev pub first_case : Option Case → Option Case → Option Case
+first_case None o = o
+first_case (Some c) o = Some c
+
+-- and what these directives, of which one is a block, add to that
+abbrev pub found_after : Found → Bool → List Pick → Result Found TplKind
+found_after f has_switch ps = switched has_switch (cases_in ps) >>= λ c. heads_of ps >>= λ hs. Ok (first_case f.0 c, f.1 ++ hs)
+
+abbrev pub with_found : Found → Around → Around
+with_found f a = record { case = first_case f.0 a.case; heads = f.1 ++ a.heads; inside = a.inside }
+
+abbrev pub bare_around : Inside → Around
+bare_around i = record { case = None; heads = []; inside = i }
 
 -- what is made of these directives, given what their blocks leave to the body
-abbrev pub around_these : List Pick → Option ℤ → (ℤ → Result Around TplKind) → Result Around TplKind
-around_these ps None below = Ok (record { heads = []; inside = has_picks ps })
-around_these ps (Some limit) below = heads_of ps >>= λ hs. below limit >>= λ a. Ok (with_heads hs a)
+abbrev pub around_these : Bool → List Pick → Option ℤ → (ℤ → Result Around TplKind) → Result Around TplKind
+around_these has_switch ps None below = Ok (bare_around (has_picks ps))
+around_these has_switch ps (Some limit) below = found_after (None, []) has_switch ps >>= λ f. below limit >>= λ a. Ok (with_found f a)
 
 -- A plain element has no block round it but those that leave it to their body. A directive that is not built yet comes before what is
 -- wrong with others.
-abbrev pub around_picks : List Pick → (ℤ → Result Around TplKind) → Result Around TplKind
-around_picks ps below =
-    if any_makes_plain ps then Ok (record { heads = []; inside = is_plain })
-    else if are_built ps then around_these ps (block_priority ps) below
+abbrev pub around_picks : Bool → List Pick → (ℤ → Result Around TplKind) → Result Around TplKind
+around_picks has_switch ps below =
+    if any_makes_plain ps then Ok (bare_around is_plain)
+    else if are_built ps then around_these has_switch ps (block_priority ps) below
     else Err Later
 
--- The blocks round an element whose directives are those below a limit, or why it is refused. So many priorities are looked at.
-abbrev pub around_below : ℕ → List DirectiveDef → Option ℤ → Node → Result Around TplKind
-around_below zero defs limit n = Ok (record { heads = []; inside = is_plain })
-around_below (suc room) defs limit n = picks_in (collected defs limit n) >>= λ ps. around_picks ps (λ l. around_below room defs (Some l) n)
+-- The blocks round an element whose directives are those below a limit, or why it is refused. So many priorities are looked at. What is in a
+-- block has no switch round it.
+abbrev pub around_below : ℕ → List DirectiveDef → Bool → Option ℤ → Node → Result Around TplKind
+around_below zero defs has_switch limit n = Ok (bare_around is_plain)
+around_below (suc room) defs has_switch limit n = picks_in (attributes_in n) (collected defs limit n) >>= λ ps. around_picks has_switch ps (λ l. around_below room defs false (Some l) n)
 
 -- one more than there are priorities of blocks
 unfoldable pub block_room : ℕ
 block_room = 5
 
--- an element with its blocks
-abbrev pub around_node : List DirectiveDef → Node → Result Around TplKind
-around_node defs n = around_below block_room defs None n
+-- an element with its blocks, where there is a switch round it or not
+abbrev pub around_node : List DirectiveDef → Bool → Node → Result Around TplKind
+around_node defs has_switch n = around_below block_room defs has_switch None n

@@ -21,7 +21,7 @@ use Rattle.ng_template.specs.Texts.{refused, judged, numbered, sites_in, counted
 use Rattle.ng_template.specs.declared.manners.Manner.{Manner}
 use Rattle.ng_template.specs.declared.manners.Manner.TheVariants.{Sets, Starts, Handles, Fills}
 use Rattle.ng_template.specs.declared.manners.Setting.{Setting}
-use Rattle.ng_template.specs.declared.manners.Setting.TheVariants.{Interpolates, Links, Switches, Binds, Classes, Shows, Hides}
+use Rattle.ng_template.specs.declared.manners.Setting.TheVariants.{Interpolates, Links, Switches, Binds, Classes, Shows, Hides, Chooses}
 use Rattle.ng_template.specs.declared.fault.TplFault.{TplFault}
 use Rattle.ng_template.specs.declared.fault.TplKind.TheVariants.{Later}
 
@@ -47,6 +47,7 @@ parts_for Binds t = whole t
 parts_for Classes t = whole t
 parts_for Shows t = whole t
 parts_for Hides t = whole t
+parts_for Chooses t = whole t
 
 -- what its sites keep
 abbrev pub kind_for : Setting → SiteKind
@@ -57,6 +58,7 @@ kind_for Binds = kinds.Text
 kind_for Classes = kinds.Words
 kind_for Shows = kinds.Reference
 kind_for Hides = kinds.Reference
+kind_for Chooses = kinds.Deep
 
 -- the attributes that are set, in order, where the first hole of its parts has the number n: its own; its own and another, which is not
 -- there while it is empty; or another, where the value is true
@@ -68,6 +70,7 @@ set_by Binds own target n ps = []
 set_by Classes own target n ps = []
 set_by Shows own target n ps = []
 set_by Hides own target n ps = []
+set_by Chooses own target n ps = []
 
 -- what the class is then made of: an interpolated class has its pieces in place of the text that was written
 abbrev pub class_by : Setting → List ℕ → ℕ → List template.Piece → PartClass → PartClass
@@ -78,6 +81,7 @@ class_by Binds own n ps c = c
 class_by Classes own n ps c = record c { words = c.words ++ n ∷ [] }
 class_by Shows own n ps c = record c { hidings = c.hidings ++ while_false n ∷ [] }
 class_by Hides own n ps c = record c { hidings = c.hidings ++ while_true n ∷ [] }
+class_by Chooses own n ps c = c
 
 -- the site whose text stands in place of the children
 abbrev pub bound_by : Setting → ℕ → Option ℕ → Option ℕ
@@ -88,13 +92,26 @@ bound_by Binds n b = Some n
 bound_by Classes n b = b
 bound_by Shows n b = b
 bound_by Hides n b = b
+bound_by Chooses n b = b
+
+-- the site that chooses among the cases in the element
+abbrev pub switch_by : Setting → ℕ → Option ℕ → Option ℕ
+switch_by Interpolates n s = s
+switch_by Links n s = s
+switch_by Switches n s = s
+switch_by Binds n s = s
+switch_by Classes n s = s
+switch_by Shows n s = s
+switch_by Hides n s = s
+switch_by Chooses n s = Some n
 
 -- An element that is being made: its attributes, what its class is made of, the site whose text stands in place of its children, the
--- numbers of its own sites, what it does, and all sites so far.
+-- site that chooses among the cases in it, the numbers of its own sites, what it does, and all sites so far.
 pub record Head : Type 0 where
   pub attributes : PartAttributes
   pub class : PartClass
   pub bound : Option ℕ
+  pub switch : Option ℕ
   pub own : List ℕ
   pub acts : Acts
   pub sites : List Site
@@ -105,6 +122,7 @@ with_parts p s ps h = record {
   attributes = h.attributes ++ set_by s (name_on p.attribute) (target_of p.directive) (length h.sites) (numbered (length h.sites) ps);
   class = class_by s (name_on p.attribute) (length h.sites) (numbered (length h.sites) ps) h.class;
   bound = bound_by s (length h.sites) h.bound;
+  switch = switch_by s (length h.sites) h.switch;
   own = h.own ++ counted (length h.sites) (sites_in (kind_for s) ps);
   acts = h.acts;
   sites = h.sites ++ sites_in (kind_for s) ps;

@@ -5,7 +5,7 @@ use Rattle.ng_template.specs.Seen.{parts_of}
 use Rattle.ng_template.specs.SiteOf.{site_of}
 use Rattle.ng_template.specs.declared.fragment.Fragment.{Fragment}
 use Rattle.ng_template.specs.declared.outlets.Filling.{Filling}
-use Rattle.ng_template.specs.declared.outlets.Filling.TheVariants.{BodyIf}
+use Rattle.ng_template.specs.declared.outlets.Filling.TheVariants.{BodyIf, OnCase}
 use Rattle.ng_template.specs.declared.outlets.Outlet.{Outlet}
 use Rattle.ng_template.specs.declared.site.Site.{Site}
 
@@ -14,6 +14,7 @@ sites_of sites = map site_of sites
 
 abbrev pub filling_of : Filling → template.Filling
 filling_of (BodyIf body) = template.body_if body
+filling_of (OnCase text body) = template.on_case text body
 
 abbrev pub outlet_of : Outlet → template.Outlet
 outlet_of o = record { site = o.site; filling = filling_of o.filling }

@@ -1,5 +1,5 @@
 -- What each directive does with its text, and which attribute it sets beside its own (API: ngHref, ngSrc, ngChecked, ngDisabled, ngOpen,
--- ngReadonly, ngSelected, ngBind, ngClass, ngShow, ngHide, ngInit, ngClick, ngNonBindable, ngIf).
+-- ngReadonly, ngSelected, ngBind, ngClass, ngShow, ngHide, ngInit, ngClick, ngNonBindable, ngIf, ngSwitch).
 use Rattle.std.specs.Prelude.{ℕ, Bool, true, false, List, [], Option, None, Some, is_some, codes}
 use Rattle.std.specs.List.{list_all, list_any}
 use Rattle.ng_collect.specs.declared.pick.Directive.{Directive}
@@ -11,10 +11,12 @@ use Rattle.ng_collect.specs.declared.table.DomEvent.{DomEvent}
 use Rattle.ng_collect.specs.declared.table.DomEvent.TheVariants as events
 use Rattle.ng_template.specs.declared.manners.Manner.{Manner}
 use Rattle.ng_template.specs.declared.manners.Manner.TheVariants as manners
-use Rattle.ng_template.specs.declared.manners.Setting.TheVariants.{Interpolates, Links, Switches, Binds, Classes, Shows, Hides}
+use Rattle.ng_template.specs.declared.manners.Setting.TheVariants.{Interpolates, Links, Switches, Binds, Classes, Shows, Hides, Chooses}
 
 -- what a directive of the core does with its text; some are not built yet
 abbrev pub core_manner : CoreDirective → Option Manner
+core_manner dirs.SwitchWhen = Some manners.Fills
+core_manner dirs.SwitchDefault = Some manners.Fills
 core_manner dirs.If = Some manners.Fills
 core_manner dirs.Init = Some manners.Starts
 core_manner dirs.Checked = Some (manners.Sets Switches)
@@ -28,6 +30,7 @@ core_manner dirs.Bind = Some (manners.Sets Binds)
 core_manner dirs.Show = Some (manners.Sets Shows)
 core_manner dirs.Hide = Some (manners.Sets Hides)
 core_manner dirs.Class = Some (manners.Sets Classes)
+core_manner dirs.Switch = Some (manners.Sets Chooses)
 core_manner (dirs.Event e) = Some (manners.Handles e)
 core_manner _ = None
 

@@ -2,7 +2,7 @@
 -- children, and an element's attributes and contents are drawn from its own sites alone.
 use Rattle.std.specs.Prelude.{ℕ, ◌+◌, ◌==◌, ◌&&◌, Bool, true, false, not, List, [], ◌∷◌, length, Option, Some, None, option_and_then, nat_le, nat_lt, if◌then◌else◌}
 use Rattle.std.specs.List.{list_all}
-use Rattle.ng_drawing.specs.Template.{Piece, word, hole, Hiding, while_true, while_false, PartClass, PartValue, always, unless_empty, flag, classes, PartAttributes, Part, Contents, Parts, text_part, comment_part, element_part, anchor_part, children, bound, no_parts, part_then, Filling, body_if, Outlet, Fragment, Template}
+use Rattle.ng_drawing.specs.Template.{Piece, word, hole, Hiding, while_true, while_false, PartClass, PartValue, always, unless_empty, flag, classes, PartAttributes, Part, Contents, Parts, text_part, comment_part, element_part, anchor_part, children, bound, no_parts, part_then, Filling, body_if, on_case, Outlet, Fragment, Template}
 
 -- the number after those of the holes, where they are numbered from n on
 abbrev pub after_pieces : ℕ → List Piece → Option ℕ
@@ -60,6 +60,22 @@ abbrev mutual
   after_parts n no_parts = Some n
   after_parts n (part_then p ps) = option_and_then (λ k. after_parts k ps) (after_part n p)
 
+-- whether parts are drawn from such sites alone
+abbrev mutual
+  pub part_draws : (ℕ → Bool) → Part → Bool
+  part_draws test (text_part ps) = list_all (is_piece_drawn test) ps
+  part_draws test (comment_part t) = true
+  part_draws test (element_part e own acts ats p) = are_drawn test ats && contents_draw test p
+  part_draws test (anchor_part outlet own starts) = true
+
+  pub contents_draw : (ℕ → Bool) → Contents → Bool
+  contents_draw test (children ps) = parts_draw test ps
+  contents_draw test (bound b) = test b
+
+  pub parts_draw : (ℕ → Bool) → Parts → Bool
+  parts_draw test no_parts = true
+  parts_draw test (part_then p ps) = part_draws test p && parts_draw test ps
+
 -- the number after those of the outlets, where they are numbered from n on
 abbrev mutual
   pub outlets_of_part : ℕ → Part → Option ℕ
@@ -83,14 +99,28 @@ is_number n (Some k) = k == n
 -- an outlet has the number of a site and that of a body
 abbrev pub is_body : ℕ → Filling → Bool
 is_body bodies (body_if b) = nat_lt 0 b && nat_le b bodies
+is_body bodies (on_case c b) = nat_lt 0 b && nat_le b bodies
 
 abbrev pub is_outlet : ℕ → ℕ → Outlet → Bool
 is_outlet sites bodies o = nat_lt o.site sites && is_body bodies o.filling
 
--- the sites and outlets of a fragment are numbered so, where there are so many bodies
+-- each outlet of a fragment has numbers that are there, where there are so many bodies
+abbrev pub are_outlets : ℕ → Fragment → Bool
+are_outlets bodies f = list_all (is_outlet (length f.sites) bodies) f.outlets
+
+-- nothing is drawn from the site of an outlet
+abbrev pub is_undrawn : ℕ → Parts → Outlet → Bool
+is_undrawn sites ps o = parts_draw (is_apart o.site 0 sites) ps
+
+abbrev pub are_undrawn : Fragment → Bool
+are_undrawn f = list_all (is_undrawn (length f.sites) f.parts) f.outlets
+
+-- the sites and outlets of a fragment are numbered so
+abbrev pub is_numbered : Fragment → Bool
+is_numbered f = is_number (length f.sites) (after_parts 0 f.parts) && is_number (length f.outlets) (after_outlets 0 f.parts)
+
 abbrev pub is_whole : ℕ → Fragment → Bool
-is_whole bodies f =
-    is_number (length f.sites) (after_parts 0 f.parts) && (is_number (length f.outlets) (after_outlets 0 f.parts) && list_all (is_outlet (length f.sites) bodies) f.outlets)
+is_whole bodies f = is_numbered f && (are_outlets bodies f && are_undrawn f)
 
 -- and so are those of each fragment of a template
 abbrev pub is_regular : Template → Bool

@@ -1,14 +1,16 @@
 -- Document order, in the words of documents: what a node is refused for by itself, and which holes and sites it has.
-use Rattle.std.specs.Prelude.{◌≡◌, ℕ, zero, suc, Bool, true, false, ◌||◌, List, [], ◌∷◌, ◌++◌, length, Option, None, Some, Result, Ok, Err, if◌then◌else◌}
+use Rattle.std.specs.Prelude.{◌≡◌, ℕ, zero, suc, Bool, true, false, not, ◌&&◌, ◌||◌, List, [], ◌∷◌, ◌++◌, Option, None, Some, Result, Ok, Err, if◌then◌else◌}
 use Rattle.std.specs.List.{flat_map, list_any}
 use Rattle.ng_collect.specs.declared.definition.DirectiveDef.{DirectiveDef}
 use Rattle.ng_collect.specs.declared.pick.Pick.{Pick}
+use Rattle.ng_drawing.specs.Cases.{Case}
+use Rattle.ng_drawing.specs.Nodes.{forest_count}
 use Rattle.ng_drawing.specs.Template.{Site, Piece, word, hole, Part, Contents, Parts, text_part, comment_part, element_part, anchor_part, children, bound, no_parts, part_then}
 use Rattle.ng_interp.specs.Parts as interp
 use Rattle.ng_interp.specs.declared.pieces.InterpFault.{InterpFault}
 use Rattle.ng_markup.specs.Forest.{Node, Forest, element, text, comment, no_nodes, node}
-use Rattle.ng_template.specs.Around.{Inside, is_plain, has_picks, Around, around_node}
-use Rattle.ng_template.specs.Compiles.{first_place, other_places}
+use Rattle.ng_template.specs.Around.{Inside, is_plain, has_picks, Block, Around, around_node}
+use Rattle.ng_template.specs.Compiles.{first_place, other_places, site_in}
 use Rattle.ng_drawing.specs.declared.kind.SiteKind.{SiteKind}
 use Rattle.ng_drawing.specs.declared.kind.SiteKind.TheVariants as kinds
 use Rattle.ng_tags.specs.declared.attrs.Attr.{Attr}
@@ -18,28 +20,32 @@ use Rattle.ng_template.specs.Programs.{program_in, program_refusal}
 use Rattle.ng_template.specs.Texts.{refused, wrong, sites_in}
 use Rattle.ng_template.specs.declared.manners.Manner.{Manner}
 use Rattle.ng_template.specs.declared.manners.Manner.TheVariants.{Sets, Starts, Handles, Fills}
-use Rattle.ng_template.specs.declared.manners.Setting.TheVariants.{Binds}
+use Rattle.ng_template.specs.declared.manners.Setting.TheVariants.{Binds, Chooses}
 use Rattle.ng_template.specs.declared.fault.TplFault.{TplFault}
 use Rattle.ng_template.specs.declared.fault.TplKind.{TplKind}
 use Rattle.ng_template.specs.declared.fault.TplKind.TheVariants.{Later, Expression}
 
--- the nodes of a document in document order: a node comes before those in it
-abbrev mutual
-  pub node_order : Node → List Node
-  node_order (element name attributes kids) = element name attributes kids ∷ in_order kids
-  node_order (text t) = text t ∷ []
-  node_order (comment t) = comment t ∷ []
+-- A node of a document, and whether it has a switch round it with no block between
+abbrev pub Met : Type 0
+Met = Node × Bool
 
-  pub in_order : Forest → List Node
-  in_order no_nodes = []
-  in_order (node n f) = node_order n ++ in_order f
+-- the nodes of a document in document order: a node comes before those in it. It is said which elements have a switch for the nodes in them.
+abbrev mutual
+  pub node_order : (Met → Bool) → Bool → Node → List Met
+  node_order near outer (element name attributes kids) = (element name attributes kids, outer) ∷ in_order near (near (element name attributes kids, outer)) kids
+  node_order near outer (text t) = (text t, outer) ∷ []
+  node_order near outer (comment t) = (comment t, outer) ∷ []
+
+  pub in_order : (Met → Bool) → Bool → Forest → List Met
+  in_order near outer no_nodes = []
+  in_order near outer (node n f) = node_order near outer n ++ in_order near outer f
 
 -- each with its place
-abbrev pub placed : List Node → List ℕ → List (Node × ℕ)
+abbrev pub placed : List Met → List ℕ → List (Met × ℕ)
 placed [] places = []
 placed (n ∷ ns) places = (n, first_place places) ∷ placed ns (other_places places)
 
--- whether a directive puts a text in place of the element's children
+-- whether a directive puts a text in place of the element's children, and whether it chooses among the cases in the element
 abbrev pub is_binding : Option Manner → Bool
 is_binding (Some (Sets Binds)) = true
 is_binding _ = false
@@ -47,49 +53,74 @@ is_binding _ = false
 abbrev pub is_bind : Pick → Bool
 is_bind p = is_binding (manner_of p.directive)
 
+abbrev pub is_choosing : Option Manner → Bool
+is_choosing (Some (Sets Chooses)) = true
+is_choosing _ = false
+
+abbrev pub is_switch : Pick → Bool
+is_switch p = is_choosing (manner_of p.directive)
+
 -- whether the nodes in an element are not compiled: it is plain, or a text stands in their place
 abbrev pub is_passed_over : Inside → Bool
 is_passed_over is_plain = true
 is_passed_over (has_picks ps) = list_any is_bind ps
 
--- whether the nodes in an element are none of its fragment: they are not compiled, or they are of a block's body
-abbrev pub has_block : List Site → Bool
-has_block [] = false
-has_block (h ∷ hs) = true
+abbrev pub has_switch : Inside → Bool
+has_switch is_plain = false
+has_switch (has_picks ps) = list_any is_switch ps
 
+-- whether an element is a case, or has a block round it
+abbrev pub has_block : Option Case → List Block → Bool
+has_block None [] = false
+has_block None (b ∷ bs) = true
+has_block (Some c) bs = true
+
+-- what is round an element of the document
+abbrev pub round_met : List DirectiveDef → Met → Result Around TplKind
+round_met defs n = around_node defs n.1 n.0
+
+-- whether the nodes in an element are none of its fragment: they are not compiled, or they are of a block's body
 abbrev pub is_left : Result Around TplKind → Bool
 is_left (Ok a) = is_passed_over a.inside
 is_left (Err f) = false
 
 abbrev pub is_left_to_body : Result Around TplKind → Bool
-is_left_to_body (Ok a) = has_block a.heads || is_passed_over a.inside
+is_left_to_body (Ok a) = has_block a.case a.heads || is_passed_over a.inside
 is_left_to_body (Err f) = false
+
+-- whether they have a switch round them: the element's own, or the one round the element, where it has no block
+abbrev pub is_near : Result Around TplKind → Bool → Bool
+is_near (Ok a) outer = has_switch a.inside || (not (has_block a.case a.heads) && outer)
+is_near (Err f) outer = false
+
+abbrev pub switch_near : List DirectiveDef → Met → Bool
+switch_near defs n = is_near (round_met defs n) n.1
 
 -- how many nodes after an element are in it, where those are skipped
 abbrev pub count_if : Bool → Node → ℕ
-count_if b (element name attributes kids) = if b then length (in_order kids) else 0
+count_if b (element name attributes kids) = if b then forest_count kids else 0
 count_if b (text t) = 0
 count_if b (comment t) = 0
 
 -- how many of them are not compiled, and how many are none of its fragment
-abbrev pub not_compiled : List DirectiveDef → Node → ℕ
-not_compiled defs n = count_if (is_left (around_node defs n)) n
+abbrev pub not_compiled : List DirectiveDef → Met → ℕ
+not_compiled defs n = count_if (is_left (round_met defs n)) n.0
 
-abbrev pub not_in_fragment : List DirectiveDef → Node → ℕ
-not_in_fragment defs n = count_if (is_left_to_body (around_node defs n)) n
+abbrev pub not_in_fragment : List DirectiveDef → Met → ℕ
+not_in_fragment defs n = count_if (is_left_to_body (round_met defs n)) n.0
 
 -- the first k nodes are left out, and after each other node as many as are said to be
-abbrev pub without : (Node → ℕ) → ℕ → List (Node × ℕ) → List (Node × ℕ)
+abbrev pub without : (Met → ℕ) → ℕ → List (Met × ℕ) → List (Met × ℕ)
 without left k [] = []
 without left zero (n ∷ ns) = n ∷ without left (left n.0) ns
 without left (suc k) (n ∷ ns) = without left k ns
 
 -- the nodes of a document that are compiled, in document order, each with its place; and those of its own fragment
-abbrev pub nodes_compiled : List DirectiveDef → Forest × List ℕ → List (Node × ℕ)
-nodes_compiled defs source = without (not_compiled defs) 0 (placed (in_order source.0) source.1)
+abbrev pub nodes_compiled : List DirectiveDef → Forest × List ℕ → List (Met × ℕ)
+nodes_compiled defs source = without (not_compiled defs) 0 (placed (in_order (switch_near defs) false source.0) source.1)
 
-abbrev pub nodes_of_fragment : List DirectiveDef → Forest × List ℕ → List (Node × ℕ)
-nodes_of_fragment defs source = without (not_in_fragment defs) 0 (placed (in_order source.0) source.1)
+abbrev pub nodes_of_fragment : List DirectiveDef → Forest × List ℕ → List (Met × ℕ)
+nodes_of_fragment defs source = without (not_in_fragment defs) 0 (placed (in_order (switch_near defs) false source.0) source.1)
 
 -- why a text with these parts is refused
 abbrev pub text_refusal : Result (List interp.Piece) InterpFault → Option TplKind
@@ -116,8 +147,8 @@ abbrev pub first_pick_refusal : List Pick → Option TplKind
 first_pick_refusal [] = None
 first_pick_refusal (p ∷ ps) = first_of (pick_refusal p) (first_pick_refusal ps)
 
--- why an element is refused by itself: what is left out, what cannot stand together, one that is not built yet, what is wrong with a
--- block round it, or with the first of its directives; a plain element is not
+-- why an element is refused by itself: what is left out, what cannot stand together, one that is not built yet, a case without a switch,
+-- what is wrong with a block round it, or with the first of its directives; a plain element is not
 abbrev pub inside_refusal : Inside → Option TplKind
 inside_refusal is_plain = None
 inside_refusal (has_picks ps) = first_pick_refusal ps
@@ -126,19 +157,22 @@ abbrev pub around_refusal : Result Around TplKind → Option TplKind
 around_refusal (Err kind) = Some kind
 around_refusal (Ok a) = inside_refusal a.inside
 
--- why a node is refused by itself, whatever stands around it
-abbrev pub refusal : List DirectiveDef → Node → Option TplKind
-refusal defs (element name attributes kids) = around_refusal (around_node defs (element name attributes kids))
-refusal defs (text t) = text_refusal (interp.pieces_in t)
-refusal defs (comment t) = None
+-- why a node is refused by itself, where it has a switch round it or not
+abbrev pub node_refusal : List DirectiveDef → Bool → Node → Option TplKind
+node_refusal defs outer (element name attributes kids) = around_refusal (around_node defs outer (element name attributes kids))
+node_refusal defs outer (text t) = text_refusal (interp.pieces_in t)
+node_refusal defs outer (comment t) = None
+
+abbrev pub refusal : List DirectiveDef → Met → Option TplKind
+refusal defs n = node_refusal defs n.1 n.0
 
 -- the first node that is refused, at its place: those before it are not
-pub data FirstRefusal (defs : List DirectiveDef) : List (Node × ℕ) → TplFault → Type 0 where
-  refused_here : {n : Node} {place : ℕ} {ns : List (Node × ℕ)} {kind : TplKind} → refusal defs n ≡ Some kind → FirstRefusal defs ((n, place) ∷ ns) (refused kind place)
-  refused_after : {n : Node} {place : ℕ} {ns : List (Node × ℕ)} {f : TplFault} → refusal defs n ≡ None → FirstRefusal defs ns f → FirstRefusal defs ((n, place) ∷ ns) f
+pub data FirstRefusal (defs : List DirectiveDef) : List (Met × ℕ) → TplFault → Type 0 where
+  refused_here : {n : Met} {place : ℕ} {ns : List (Met × ℕ)} {kind : TplKind} → refusal defs n ≡ Some kind → FirstRefusal defs ((n, place) ∷ ns) (refused kind place)
+  refused_after : {n : Met} {place : ℕ} {ns : List (Met × ℕ)} {f : TplFault} → refusal defs n ≡ None → FirstRefusal defs ns f → FirstRefusal defs ((n, place) ∷ ns) f
 
 -- no node is refused
-abbrev pub NoneRefused : List DirectiveDef → List (Node × ℕ) → Type 0
+abbrev pub NoneRefused : List DirectiveDef → List (Met × ℕ) → Type 0
 NoneRefused defs [] = Unit {0}
 NoneRefused defs (n ∷ ns) = (refusal defs n.0 ≡ None) × NoneRefused defs ns
 
@@ -162,24 +196,25 @@ abbrev pub inside_sites : Inside → List Site
 inside_sites is_plain = []
 inside_sites (has_picks ps) = flat_map pick_sites ps
 
--- the outermost block has a site of the fragment; without a block it is the element that has
-abbrev pub heads_sites : List Site → Inside → List Site
-heads_sites [] i = inside_sites i
-heads_sites (h ∷ hs) i = h ∷ []
+-- the outermost block has a site of the fragment, and a case has none; without them it is the element that has
+abbrev pub heads_sites : Option Case → List Block → Inside → List Site
+heads_sites None [] i = inside_sites i
+heads_sites None (b ∷ bs) i = site_in b ∷ []
+heads_sites (Some c) bs i = []
 
 abbrev pub around_sites : Result Around TplKind → List Site
 around_sites (Err f) = []
-around_sites (Ok a) = heads_sites a.heads a.inside
+around_sites (Ok a) = heads_sites a.case a.heads a.inside
 
 -- the sites of a node by itself, in the fragment in which it stands
-abbrev pub node_sites : List DirectiveDef → Node → List Site
-node_sites defs (element name attributes kids) = around_sites (around_node defs (element name attributes kids))
-node_sites defs (text t) = text_sites kinds.Text (interp.pieces_in t)
-node_sites defs (comment t) = []
+abbrev pub node_sites : List DirectiveDef → Bool → Node → List Site
+node_sites defs outer (element name attributes kids) = around_sites (around_node defs outer (element name attributes kids))
+node_sites defs outer (text t) = text_sites kinds.Text (interp.pieces_in t)
+node_sites defs outer (comment t) = []
 
 -- the sites of these nodes
-abbrev pub sites_at : List DirectiveDef → List (Node × ℕ) → List Site
-sites_at defs ns = flat_map (λ n. node_sites defs n.0) ns
+abbrev pub sites_at : List DirectiveDef → List (Met × ℕ) → List Site
+sites_at defs ns = flat_map (λ (n : Met × ℕ). node_sites defs n.0.1 n.0.0) ns
 
 -- the sites of parts in document order, by number: the holes of texts, and an element's own before those of its children
 abbrev pub piece_holes : Piece → List ℕ

@@ -1,20 +1,19 @@
 //! Compiles a document.
-ghost use Rattle.std.specs.Prelude.{◌≡◌, ◌∷◌, [], true, IfOk, MatchOption};
+ghost use Rattle.std.specs.Prelude.{◌≡◌, [], true, IfOk, option_map, unwrap_or};
 ghost use Rattle.ng_base.specs.Meets.{Gives};
 ghost use Rattle.ng_html.specs.Seen.{node_of, forest_of};
 ghost use Rattle.ng_html.specs.TreeSeen.{source_of};
 ghost use Rattle.ng_interp.specs.Parts.{pieces_in};
-ghost use Rattle.ng_template.specs.Compiles.{first_place, past as past_of, text_made, after_node as after_node_of, after_forest as after_forest_of, contents_made, element_made, compiled_node, compiled_forest, compiled};
-ghost use Rattle.ng_template.specs.AroundOf.{inside_of};
-ghost use Rattle.ng_template.specs.SiteOf.{site_of};
+ghost use Rattle.ng_template.specs.Compiles.{first_place, past as past_of, text_made, after_node as after_node_of, after_forest as after_forest_of, contents_made, switch_in as switch_in_of, element_made, rounds as rounds_of, compiled_node, compiled_forest, compiled};
+ghost use Rattle.ng_template.specs.AroundOf.{inside_of, blocks_of, case_of, outermost_of};
 ghost use Rattle.ng_template.specs.Free.{is_tpl_want};
 ghost use Rattle.ng_template.specs.Numbering.{is_regular};
 ghost use Rattle.ng_template.specs.Seen.{part_of, contents_of, parts_of};
-ghost use Rattle.ng_template.specs.FragmentOf.{sites_of, fragments_of};
+ghost use Rattle.ng_template.specs.FragmentOf.{fragments_of};
 ghost use Rattle.ng_template.specs.TemplateOf.{template_of, made_of};
 ghost use Rattle.ng_template.specs.Texts.{judged};
 
-use crate::around::{Around, Inside, find_blocks};
+use crate::around::{Around, Block, Found, Inside, find_blocks};
 use crate::elements::{Element, element_of};
 use crate::fault::TplFault;
 use crate::fragment::Fragment;
@@ -22,10 +21,9 @@ use crate::known::Known;
 use crate::parts::{Contents, Part, Parts, bound as bound_to, children, comment, element, text};
 use crate::plain::plain_part;
 use crate::settings::with_class;
-use crate::site::Site;
 use crate::texts::{SITE_LIMIT, count_holes, first_of, place_parts, read_text, worn};
 use crate::tpl::{Making, Tpl};
-use crate::wrapping::wrap;
+use crate::wrapping::{Outermost, wrap};
 use ng_base::txt::Txt;
 use ng_collect::Registry;
 use ng_drawing::kind::SiteKind;
@@ -118,38 +116,64 @@ fn begun_body<'a>(alloc: Global, places: &'a [u64], bodies: Vec<Fragment>) -> Ma
     }
 }
 
-/// The first of some sites, and the others.
-fn split_first(heads: Vec<Site>) -> Option<(Site, Vec<Site>)>
-    ensures { MatchOption result (sites_of heads.items ≡ []) (λ p. sites_of heads.items ≡ site_of p.0 ∷ sites_of p.1.items) }
+/// What is round an element: the outermost, and the blocks in that.
+fn rounds(switch: Option<u32>, found: Found) -> Option<(Outermost, Vec<Block>)>
+    ensures { option_map (λ r. (outermost_of r.0, blocks_of r.1.items)) result ≡ rounds_of (unwrap_or switch 0) (option_map case_of found.case) (blocks_of found.heads.items) }
 {
-    let mut others = heads;
-    if others.is_empty() {
-        return None;
+    let Found { case, heads } = found;
+    match case {
+        Some(case) => Some((Outermost::Case(switch.unwrap_or(0), case), heads)),
+        None => {
+            let mut others = heads;
+            if others.is_empty() {
+                return None;
+            }
+            let first = others.remove(0);
+            Some((Outermost::Block(first), others))
+        }
     }
-    let first = others.remove(0);
-    Some((first, others))
 }
 
-/// The part of a node.
+/// The switch that is nearest in an element.
+fn switch_in(own: Option<u32>, outer: Option<u32>) -> Option<u32>
+    ensures { result ≡ switch_in_of own outer }
+{
+    match own {
+        None => outer,
+        Some(n) => Some(n),
+    }
+}
+
+/// The part of a node, which may have a switch round it, of whose site this is the number.
 #[cycle(build)]
 fn part_at<'a>(
     alloc: Global,
     r: &Registry,
     known: &mut Known,
+    outer: Option<u32>,
     node: &Node,
     made: Making<'a>,
 ) -> Result<(Part, Making<'a>), TplFault>
-    ensures { Gives is_tpl_want (λ q. (part_of q.0, made_of q.1)) (compiled_node r.now (node_of node.now) (made_of made.entry)) result }
+    ensures { Gives is_tpl_want (λ q. (part_of q.0, made_of q.1)) (compiled_node r.now outer (node_of node.now) (made_of made.entry)) result }
 {
     match node {
         Node::Text(whole) => text_at(alloc, known, whole, made),
         Node::Comment(whole) => Ok((comment(whole.copied()?), past(made))),
         Node::Element { name, attrs, kids } => {
             let (place, _) = first_of(made.places);
-            let Around { heads, inside } = find_blocks(alloc, known, node, r, place)?;
-            match split_first(heads) {
-                None => element_at(alloc, r, known, kids, node, name, attrs, inside, made),
-                Some((head, others)) => {
+            let Around { found, inside } = find_blocks(
+                alloc,
+                known,
+                node,
+                r,
+                place,
+                outer.is_some(),
+            )?;
+            match rounds(outer, found) {
+                None => element_at(
+                    alloc, r, known, outer, kids, node, name, attrs, inside, made,
+                ),
+                Some((outermost, others)) => {
                     let Making {
                         places,
                         sites,
@@ -158,9 +182,9 @@ fn part_at<'a>(
                     } = made;
                     let body = begun_body(alloc, places, bodies);
                     let (part, after) = element_at(
-                        alloc, r, known, kids, node, name, attrs, inside, body,
+                        alloc, r, known, None, kids, node, name, attrs, inside, body,
                     )?;
-                    wrap(alloc, head, others, sites, outlets, part, after)
+                    wrap(alloc, outermost, others, sites, outlets, part, after)
                 }
             }
         }
@@ -173,6 +197,7 @@ fn element_at<'a>(
     alloc: Global,
     r: &Registry,
     known: &mut Known,
+    outer: Option<u32>,
     kids: &Forest,
     node: &Node,
     name: &Txt,
@@ -180,7 +205,7 @@ fn element_at<'a>(
     inside: Inside,
     made: Making<'a>,
 ) -> Result<(Part, Making<'a>), TplFault>
-    ensures { Gives is_tpl_want (λ q. (part_of q.0, made_of q.1)) (element_made (node_of node.now) name.now attrs.now (forest_of kids.now) (inside_of inside) (λ k. compiled_forest r.now (forest_of kids.now) k) (made_of made.entry)) result }
+    ensures { Gives is_tpl_want (λ q. (part_of q.0, made_of q.1)) (element_made (node_of node.now) name.now attrs.now (forest_of kids.now) (inside_of inside) (λ o k. compiled_forest r.now o (forest_of kids.now) k) outer (made_of made.entry)) result }
 {
     match inside {
         Inside::Plain => Ok((plain_part(alloc, node)?, past_all(node, made))),
@@ -196,6 +221,7 @@ fn element_at<'a>(
                 attributes,
                 class,
                 bound,
+                switch,
                 own,
                 acts,
                 sites,
@@ -208,7 +234,8 @@ fn element_at<'a>(
                 outlets,
                 bodies,
             };
-            let (contents, after) = contents_at(alloc, r, known, bound, kids, inner)?;
+            let near = switch_in(switch, outer);
+            let (contents, after) = contents_at(alloc, r, known, near, bound, kids, inner)?;
             Ok((element(name, own, acts, attributes, contents), after))
         }
     }
@@ -220,15 +247,16 @@ fn contents_at<'a>(
     alloc: Global,
     r: &Registry,
     known: &mut Known,
+    near: Option<u32>,
     bound: Option<u32>,
     kids: &Forest,
     made: Making<'a>,
 ) -> Result<(Contents, Making<'a>), TplFault>
-    ensures { Gives is_tpl_want (λ q. (contents_of q.0, made_of q.1)) (contents_made bound (forest_of kids.now) (made_of made.entry) (compiled_forest r.now (forest_of kids.now) (made_of made.entry))) result }
+    ensures { Gives is_tpl_want (λ q. (contents_of q.0, made_of q.1)) (contents_made bound (forest_of kids.now) (made_of made.entry) (compiled_forest r.now near (forest_of kids.now) (made_of made.entry))) result }
 {
     match bound {
         None => {
-            let (parts, after) = parts_at(alloc, r, known, kids, made)?;
+            let (parts, after) = parts_at(alloc, r, known, near, kids, made)?;
             Ok((children(parts), after))
         }
         Some(n) => Ok((
@@ -247,15 +275,16 @@ fn parts_at<'a>(
     alloc: Global,
     r: &Registry,
     known: &mut Known,
+    near: Option<u32>,
     forest: &Forest,
     made: Making<'a>,
 ) -> Result<(Parts, Making<'a>), TplFault>
-    ensures { Gives is_tpl_want (λ q. (parts_of q.0, made_of q.1)) (compiled_forest r.now (forest_of forest.now) (made_of made.entry)) result }
+    ensures { Gives is_tpl_want (λ q. (parts_of q.0, made_of q.1)) (compiled_forest r.now near (forest_of forest.now) (made_of made.entry)) result }
 {
     let mut parts = Parts::new(alloc);
     let mut now = made;
     for node in &forest.items {
-        let (part, after) = part_at(alloc, r, known, node, now)?;
+        let (part, after) = part_at(alloc, r, known, near, node, now)?;
         parts.push(part)?;
         now = after;
     }
@@ -263,8 +292,8 @@ fn parts_at<'a>(
 }
 
 /// Compiles a document (guide: HTML Compiler). The first refusal in document order stands, at the `<` of its element or at the first
-/// byte of its text: in an element LeftOut, MultiDir, Later where a directive is not built yet, what is wrong with the text of a block
-/// round it, and then directive by directive, in their order, Expression, UnknownFilter and, unless it is a program that runs, Impure; in a
+/// byte of its text: in an element LeftOut, MultiDir, Later where a directive is not built yet, CaseWithoutSwitch, what is wrong with the text
+/// of a block round it, and then directive by directive, in their order, Expression, UnknownFilter and, unless it is a program that runs, Impure; in a
 /// text Expression of all its holes, UnknownFilter of all, then Impure of all. The children in whose place a bound text stands are neither
 /// compiled nor refused. Of a plain element and of what is in it nothing is read.
 pub fn compile(alloc: Global, s: &Source, r: &Registry, slots: bool) -> Result<Tpl, TplFault>
@@ -272,7 +301,7 @@ pub fn compile(alloc: Global, s: &Source, r: &Registry, slots: bool) -> Result<T
     ensures regular { IfOk result (λ t. is_regular (template_of t) ≡ true) }
 {
     let made = begun_body(alloc, s.places.as_slice(), Vec::new(alloc));
-    let (parts, made) = parts_at(alloc, r, &mut Known::new(alloc), &s.forest, made)?;
+    let (parts, made) = parts_at(alloc, r, &mut Known::new(alloc), None, &s.forest, made)?;
     let own = Fragment {
         parts,
         sites: made.sites,

@@ -35,7 +35,7 @@ pub(crate) fn name_of(alloc: Global, on: &Option<Attr>) -> Result<Txt, AllocErro
 }
 
 /// The value of the attribute that a directive stands on, as it stays.
-fn text_of(alloc: Global, on: &Option<Attr>) -> Result<Txt, AllocError>
+pub(crate) fn text_of(alloc: Global, on: &Option<Attr>) -> Result<Txt, AllocError>
     ensures { IfOk result (λ t. t ≡ text_on on.now) }
 {
     match on {
@@ -56,6 +56,7 @@ pub(crate) fn kind_for(setting: Setting) -> SiteKind
         Setting::Classes => SiteKind::Words,
         Setting::Shows => SiteKind::Reference,
         Setting::Hides => SiteKind::Reference,
+        Setting::Chooses => SiteKind::Deep,
     }
 }
 
@@ -86,6 +87,7 @@ fn read_parts(
         Setting::Classes => read_whole(alloc, known, text),
         Setting::Shows => read_whole(alloc, known, text),
         Setting::Hides => read_whole(alloc, known, text),
+        Setting::Chooses => read_whole(alloc, known, text),
     }
 }
 

@@ -22,7 +22,7 @@ use crate::known::Known;
 use crate::manners::{Manner, Setting, event_name, manner_for};
 use crate::pieces::{Attributes, Pieces};
 use crate::plain::plain_values;
-use crate::settings::{add_to_class, bound_after, set};
+use crate::settings::{add_to_class, bound_after, set, switch_after};
 use crate::site::Site;
 use crate::texts::{SITE_LIMIT, count_holes, first_of, place_parts, refusal, want, worn};
 use ng_collect::{DomEvent, Pick, kept_attrs};
@@ -32,12 +32,14 @@ use ng_parse::Program;
 use std::alloc::{AllocError, Global};
 
 /// An element that is being made: its attributes in the order in which they are set, what its class is made of, the site whose text
-/// stands in place of its children, the numbers of its own sites, what it does, and all sites so far.
+/// stands in place of its children, the site that chooses among the cases in it, the numbers of its own sites, what it does, and all sites so
+/// far.
 #[derive(Drop)]
 pub(crate) struct Element {
     pub(crate) attributes: Attributes,
     pub(crate) class: ClassValue,
     pub(crate) bound: Option<u32>,
+    pub(crate) switch: Option<u32>,
     pub(crate) own: Vec<u32>,
     pub(crate) acts: Acts,
     pub(crate) sites: Vec<Site>,
@@ -96,6 +98,7 @@ fn with_parts(
         mut attributes,
         mut class,
         bound,
+        switch,
         mut own,
         acts,
         sites,
@@ -113,6 +116,7 @@ fn with_parts(
         attributes,
         class,
         bound: bound_after(setting, first, bound),
+        switch: switch_after(setting, first, switch),
         own,
         acts,
         sites,
@@ -199,6 +203,7 @@ fn bare(alloc: Global, attrs: &Attrs, sites: Vec<Site>) -> Result<Element, TplFa
             attributes: plain_values(alloc, &kept)?,
             class: class_in(alloc, &kept)?,
             bound: None,
+            switch: None,
             own: Vec::new(alloc),
             acts: Acts::new(alloc),
             sites,

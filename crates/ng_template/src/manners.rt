@@ -1,5 +1,5 @@
 //! What each directive does with its text, and which attribute it sets beside its own (API: ngHref, ngSrc, ngChecked, ngDisabled,
-//! ngOpen, ngReadonly, ngSelected, ngBind, ngClass, ngShow, ngHide, ngInit, ngClick, ngNonBindable, ngIf; guide: Interpolation, "How text and attribute
+//! ngOpen, ngReadonly, ngSelected, ngBind, ngClass, ngShow, ngHide, ngInit, ngClick, ngNonBindable, ngIf, ngSwitch; guide: Interpolation, "How text and attribute
 //! bindings work").
 ghost use Rattle.std.specs.Prelude.{◌≡◌, IfOk};
 ghost use Rattle.ng_template.specs.Manners.{core_manner as core_manner_of, manner_of, are_built as are_built_all, core_makes_plain as core_makes_plain_of, makes_plain as makes_plain_of, any_makes_plain as any_makes_plain_of, core_target as core_target_of, target_of, event_name as event_name_of};
@@ -10,7 +10,8 @@ use std::alloc::{AllocError, Global};
 
 /// What the values of a directive's text set. It interpolates them into its own attribute; or it links another attribute to it, too,
 /// which is not there while the text is empty; or it switches another attribute on while its value is true; or it binds the contents of
-/// the element to it; or it gives the element classes; or it shows the element, or hides it, while its value is true.
+/// the element to it; or it gives the element classes; or it shows the element, or hides it, while its value is true; or it chooses among the
+/// cases in the element.
 #[derive(Clone, Copy, Debug, PartialEq, Eq, Drop)]
 pub enum Setting {
     Interpolates,
@@ -20,6 +21,7 @@ pub enum Setting {
     Classes,
     Shows,
     Hides,
+    Chooses,
 }
 
 /// What a directive does with its text. It watches it and sets something, or is a block, whose body stands by its value; or it runs it as
@@ -37,6 +39,8 @@ fn core_manner(d: CoreDirective) -> Option<Manner>
     ensures { result ≡ core_manner_of d }
 {
     match d {
+        CoreDirective::SwitchWhen => Some(Manner::Fills),
+        CoreDirective::SwitchDefault => Some(Manner::Fills),
         CoreDirective::If => Some(Manner::Fills),
         CoreDirective::Init => Some(Manner::Starts),
         CoreDirective::Checked => Some(Manner::Sets(Setting::Switches)),
@@ -50,6 +54,7 @@ fn core_manner(d: CoreDirective) -> Option<Manner>
         CoreDirective::Show => Some(Manner::Sets(Setting::Shows)),
         CoreDirective::Hide => Some(Manner::Sets(Setting::Hides)),
         CoreDirective::Class => Some(Manner::Sets(Setting::Classes)),
+        CoreDirective::Switch => Some(Manner::Sets(Setting::Chooses)),
         CoreDirective::Event(event) => Some(Manner::Handles(event)),
         _ => None,
     }

@@ -1,14 +1,43 @@
-//! Outlets, the places that the bodies of blocks fill (API: ngIf).
+//! Outlets, the places that the bodies of blocks fill (API: ngIf, ngSwitch).
+ghost use Rattle.std.specs.Prelude.{◌≡◌, IfOk};
+ghost use Rattle.ng_template.specs.FragmentOf.{filling_of};
 
-/// How an outlet is filled: the body of this number stands while the value of the site is true.
-#[derive(Clone, Copy, Debug, PartialEq, Eq, Drop)]
+use ng_base::txt::Txt;
+use std::alloc::AllocError;
+
+/// How an outlet is filled: the body of this number stands while the value of the site is true; or it is a case of a switch, with its text, or
+/// a default.
+#[derive(Drop)]
 pub enum Filling {
     BodyIf(u32),
+    OnCase(Option<Txt>, u32),
 }
 
 /// An outlet is filled by the value of a site.
-#[derive(Clone, Copy, Debug, PartialEq, Eq, Drop)]
+#[derive(Drop)]
 pub struct Outlet {
     pub site: u32,
     pub filling: Filling,
+}
+
+/// The text of a case again, which is shared.
+fn copied_case(text: &Option<Txt>) -> Result<Option<Txt>, AllocError>
+    ensures { IfOk result (λ t. t ≡ text.now) }
+{
+    match text {
+        None => Ok(None),
+        Some(text) => Ok(Some(text.copied()?)),
+    }
+}
+
+impl Filling {
+    /// The same again. Its text is shared.
+    pub fn copied(&self) -> Result<Filling, AllocError>
+        ensures { IfOk result (λ f. filling_of f ≡ filling_of self.now) }
+    {
+        match self {
+            Filling::BodyIf(body) => Ok(Filling::BodyIf(*body)),
+            Filling::OnCase(text, body) => Ok(Filling::OnCase(copied_case(text)?, *body)),
+        }
+    }
 }

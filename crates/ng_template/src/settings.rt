@@ -1,9 +1,9 @@
-//! What the values of a directive set: attributes, what the class is made of, and the contents (API: ngHref, ngClass, ngShow, ngBind).
+//! What the values of a directive set: attributes, what the class is made of, and the contents (API: ngHref, ngClass, ngShow, ngBind, ngSwitch).
 ghost use Rattle.std.specs.Prelude.{◌≡◌, ◌++◌, IfOk, OnOk};
 ghost use Rattle.ng_template.specs.AttributeOf.{class_of};
 ghost use Rattle.ng_template.specs.Manners.{target_of};
 ghost use Rattle.ng_template.specs.declared.manners.Setting.TheVariants.{Interpolates};
-ghost use Rattle.ng_template.specs.Directives.{name_on, set_by, class_by, bound_by, class_setting, is_classed as is_classed_by};
+ghost use Rattle.ng_template.specs.Directives.{name_on, set_by, class_by, bound_by, switch_by, class_setting, is_classed as is_classed_by};
 
 use crate::classes::{ClassValue, Hiding};
 use crate::directives::name_of;
@@ -42,6 +42,7 @@ pub(crate) fn set(
         Setting::Classes => Ok(()),
         Setting::Shows => Ok(()),
         Setting::Hides => Ok(()),
+        Setting::Chooses => Ok(()),
     }
 }
 
@@ -81,6 +82,7 @@ pub(crate) fn add_to_class(
         Setting::Classes => Ok(class.words.push(n)?),
         Setting::Shows => Ok(class.hidings.push(Hiding::WhileFalse(n))?),
         Setting::Hides => Ok(class.hidings.push(Hiding::WhileTrue(n))?),
+        Setting::Chooses => Ok(()),
     }
 }
 
@@ -96,6 +98,23 @@ pub(crate) fn bound_after(setting: Setting, n: u32, bound: Option<u32>) -> Optio
         Setting::Classes => bound,
         Setting::Shows => bound,
         Setting::Hides => bound,
+        Setting::Chooses => bound,
+    }
+}
+
+/// The site that chooses among the cases in the element, after one directive more.
+pub(crate) fn switch_after(setting: Setting, n: u32, switch: Option<u32>) -> Option<u32>
+    ensures { result ≡ switch_by setting n switch }
+{
+    match setting {
+        Setting::Interpolates => switch,
+        Setting::Links => switch,
+        Setting::Switches => switch,
+        Setting::Binds => switch,
+        Setting::Classes => switch,
+        Setting::Shows => switch,
+        Setting::Hides => switch,
+        Setting::Chooses => Some(n),
     }
 }
 

@@ -1,15 +1,17 @@
-//! An element in its blocks: bodies are fragments, and anchors stand in place of blocks (guide: HTML Compiler; API: ngIf).
-ghost use Rattle.std.specs.Prelude.{List, ◌≡◌, ◌∷◌, ◌+◌, ◌≤◌, [], length, IfOk, OnOk};
+//! An element in its blocks: bodies are fragments, and anchors stand in place of blocks (guide: HTML Compiler; API: ngIf, ngSwitch).
+ghost use Rattle.std.specs.Prelude.{List, ◌≡◌, ◌+◌, ◌≤◌, [], true, length, IfOk, OnOk};
 ghost use Rattle.ng_base.specs.Meets.{Gives};
 ghost use Rattle.ng_drawing.specs.Template.{Fragment as TemplateFragment, no_parts, part_then, anchor_part};
-ghost use Rattle.ng_template.specs.Compiles.{outlet_for as outlet_for_last, block_alone as block_alone_of, nested, has_room as has_room_for, wrapped};
+ghost use Rattle.ng_template.specs.AroundOf.{block_of, blocks_of, case_of, outermost_of, numbers_of};
+ghost use Rattle.ng_template.specs.Compiles.{site_in, filling_in, block_alone as block_alone_of, nested, has_room as has_room_for, bodies_with, with_block as with_block_of, with_case as with_case_of, wrapped};
 ghost use Rattle.ng_template.specs.Free.{is_tpl_want};
 ghost use Rattle.ng_template.specs.Limits.{site_limit};
 ghost use Rattle.ng_template.specs.Seen.{part_of, parts_of};
 ghost use Rattle.ng_template.specs.SiteOf.{site_of};
-ghost use Rattle.ng_template.specs.FragmentOf.{sites_of, outlet_of, outlets_of, fragment_of, fragments_of};
+ghost use Rattle.ng_template.specs.FragmentOf.{sites_of, filling_of, outlets_of, fragment_of, fragments_of};
 ghost use Rattle.ng_template.specs.TemplateOf.{made_of};
 
+use crate::around::{Block, Case};
 use crate::fault::TplFault;
 use crate::fragment::Fragment;
 use crate::outlets::{Filling, Outlet};
@@ -28,34 +30,37 @@ fn lone(alloc: Global, part: Part) -> Result<Parts, AllocError>
     Ok(parts)
 }
 
-/// An anchor with its outlet and the number of its site.
-fn lone_anchor(alloc: Global, outlet: u32, site: u32) -> Result<Part, AllocError>
-    ensures { IfOk result (λ p. part_of p ≡ anchor_part outlet (site ∷ []) []) }
+/// An anchor with its outlet and the number of its site, if it has one.
+fn anchor_with(alloc: Global, outlet: u32, site: Option<u32>) -> Result<Part, AllocError>
+    ensures { IfOk result (λ p. part_of p ≡ anchor_part outlet (numbers_of site) []) }
 {
     let mut own = Vec::new(alloc);
-    own.push(site)?;
+    if let Some(site) = site {
+        own.push(site)?;
+    }
     Ok(anchor(alloc, outlet, own))
 }
 
-/// The outlet that a body fills while the value of a site is true.
-fn outlet_for(site: u32, body: u32) -> Outlet
-    ensures { (bodies : List TemplateFragment) → body ≡ length bodies → outlet_of result ≡ outlet_for_last site bodies }
+/// The site of a block, and how the body of a number fills its outlet.
+fn split_block(block: Block, body: u32) -> (Site, Filling)
+    ensures site { site_of result.0 ≡ site_in (block_of block) }
+    ensures filling { filling_of result.1 ≡ filling_in (block_of block) body }
 {
-    Outlet {
-        site,
-        filling: Filling::BodyIf(body),
+    match block {
+        Block::If(site) => (site, Filling::BodyIf(body)),
     }
 }
 
 /// A block alone, whose body is the one of this number.
-fn block_alone(alloc: Global, head: Site, body: u32) -> Result<Fragment, AllocError>
-    ensures { IfOk result (λ f. (bodies : List TemplateFragment) → body ≡ length bodies → fragment_of f ≡ block_alone_of (site_of head) bodies) }
+fn block_alone(alloc: Global, block: Block, body: u32) -> Result<Fragment, AllocError>
+    ensures { IfOk result (λ f. (bodies : List TemplateFragment) → body ≡ length bodies → fragment_of f ≡ block_alone_of (block_of block) bodies) }
 {
-    let parts = lone(alloc, lone_anchor(alloc, 0, 0)?)?;
+    let (head, filling) = split_block(block, body);
+    let parts = lone(alloc, anchor_with(alloc, 0, Some(0))?)?;
     let mut sites = Vec::new(alloc);
     sites.push(head)?;
     let mut outlets = Vec::new(alloc);
-    outlets.push(outlet_for(0, body))?;
+    outlets.push(Outlet { site: 0, filling })?;
     Ok(Fragment {
         parts,
         sites,
@@ -64,9 +69,9 @@ fn block_alone(alloc: Global, head: Site, body: u32) -> Result<Fragment, AllocEr
 }
 
 /// The bodies of blocks that stand in one another are added, the innermost first.
-fn nest(alloc: Global, heads: Vec<Site>, bodies: &mut Vec<Fragment>) -> Result<(), AllocError>
+fn nest(alloc: Global, heads: Vec<Block>, bodies: &mut Vec<Fragment>) -> Result<(), AllocError>
     requires { length bodies.old.items + length heads.items ≤ site_limit }
-    ensures { OnOk result (fragments_of bodies.new.items ≡ nested (sites_of heads.items) (fragments_of bodies.old.items)) }
+    ensures { OnOk result (fragments_of bodies.new.items ≡ nested (blocks_of heads.items) (fragments_of bodies.old.items)) }
 {
     let mut left = heads;
     while let Some(head) = left.pop() {
@@ -83,40 +88,49 @@ fn has_room(sites: &[Site], outlets: &[Outlet], bodies: usize) -> bool
     sites.len() < SITE_LIMIT && outlets.len() <= SITE_LIMIT && bodies <= SITE_LIMIT
 }
 
-/// An element in its blocks, of which the first is outermost, after the sites and outlets that stand before it.
-pub(crate) fn wrap<'a>(
+/// The bodies where an element came to a part by itself, with those of the blocks round it but for the outermost.
+fn with_bodies<'a>(
     alloc: Global,
-    head: Site,
-    heads: Vec<Site>,
-    mut sites: Vec<Site>,
-    mut outlets: Vec<Outlet>,
+    heads: Vec<Block>,
     part: Part,
     made: Making<'a>,
-) -> Result<(Part, Making<'a>), TplFault>
-    ensures { Gives is_tpl_want (λ q. (part_of q.0, made_of q.1)) (wrapped (site_of head ∷ sites_of heads.items) (sites_of sites.items) (outlets_of outlets.items) (part_of part, made_of made.entry)) result }
+) -> Result<(&'a [u64], Vec<Fragment>), AllocError>
+    requires { length made.bodies.items + 1 + length heads.items ≤ site_limit }
+    ensures { IfOk result (λ r. (r.0.now ≡ (made_of made.entry).places) × (fragments_of r.1.items ≡ bodies_with (blocks_of heads.items) (part_of part, made_of made.entry))) }
 {
     let Making {
         places,
-        sites: inner_sites,
-        outlets: inner_outlets,
+        sites,
+        outlets,
         mut bodies,
     } = made;
-    if !has_room(
-        sites.as_slice(),
-        outlets.as_slice(),
-        bodies.len() + 1 + heads.len(),
-    ) {
-        return Err(worn());
-    }
     bodies.push(Fragment {
         parts: lone(alloc, part)?,
-        sites: inner_sites,
-        outlets: inner_outlets,
+        sites,
+        outlets,
     })?;
     nest(alloc, heads, &mut bodies)?;
+    Ok((places, bodies))
+}
+
+/// The outermost block in place of its element, after these sites and outlets.
+fn with_block<'a>(
+    alloc: Global,
+    block: Block,
+    sites: Vec<Site>,
+    outlets: Vec<Outlet>,
+    places: &'a [u64],
+    bodies: Vec<Fragment>,
+) -> Result<(Part, Making<'a>), AllocError>
+    requires { has_room_for (sites_of sites.items) (outlets_of outlets.items) (fragments_of bodies.items) ≡ true }
+    ensures { IfOk result (λ q. (part_of q.0, made_of q.1) ≡ with_block_of (block_of block) (sites_of sites.items) (outlets_of outlets.items) places.now (fragments_of bodies.items)) }
+{
+    let mut sites = sites;
+    let mut outlets = outlets;
     let site = sites.len() as u32;
-    let place = lone_anchor(alloc, outlets.len() as u32, site)?;
-    outlets.push(outlet_for(site, bodies.len() as u32))?;
+    let place = anchor_with(alloc, outlets.len() as u32, Some(site))?;
+    let (head, filling) = split_block(block, bodies.len() as u32);
+    outlets.push(Outlet { site, filling })?;
     sites.push(head)?;
     Ok((
         place,
@@ -127,4 +141,70 @@ pub(crate) fn wrap<'a>(
             bodies,
         },
     ))
+}
+
+/// A case in place of its element, after these sites and outlets.
+fn with_case<'a>(
+    alloc: Global,
+    switch: u32,
+    case: Case,
+    sites: Vec<Site>,
+    outlets: Vec<Outlet>,
+    places: &'a [u64],
+    bodies: Vec<Fragment>,
+) -> Result<(Part, Making<'a>), AllocError>
+    requires { has_room_for (sites_of sites.items) (outlets_of outlets.items) (fragments_of bodies.items) ≡ true }
+    ensures { IfOk result (λ q. (part_of q.0, made_of q.1) ≡ with_case_of switch (case_of case) (sites_of sites.items) (outlets_of outlets.items) places.now (fragments_of bodies.items)) }
+{
+    let mut outlets = outlets;
+    let place = anchor_with(alloc, outlets.len() as u32, None)?;
+    outlets.push(Outlet {
+        site: switch,
+        filling: Filling::OnCase(case.text, bodies.len() as u32),
+    })?;
+    Ok((
+        place,
+        Making {
+            places,
+            sites,
+            outlets,
+            bodies,
+        },
+    ))
+}
+
+/// What is outermost round an element: a case of the switch of this site, or a block.
+#[derive(Drop)]
+pub(crate) enum Outermost {
+    Case(u32, Case),
+    Block(Block),
+}
+
+/// An element in what is outermost round it and in its blocks, of which the first is the next, after the sites and outlets that stand
+/// before it.
+pub(crate) fn wrap<'a>(
+    alloc: Global,
+    outermost: Outermost,
+    heads: Vec<Block>,
+    sites: Vec<Site>,
+    outlets: Vec<Outlet>,
+    part: Part,
+    made: Making<'a>,
+) -> Result<(Part, Making<'a>), TplFault>
+    ensures { Gives is_tpl_want (λ q. (part_of q.0, made_of q.1)) (wrapped (outermost_of outermost) (blocks_of heads.items) (sites_of sites.items) (outlets_of outlets.items) (part_of part, made_of made.entry)) result }
+{
+    if !has_room(
+        sites.as_slice(),
+        outlets.as_slice(),
+        made.bodies.len() + 1 + heads.len(),
+    ) {
+        return Err(worn());
+    }
+    let (places, bodies) = with_bodies(alloc, heads, part, made)?;
+    match outermost {
+        Outermost::Block(block) => Ok(with_block(alloc, block, sites, outlets, places, bodies)?),
+        Outermost::Case(switch, case) => Ok(with_case(
+            alloc, switch, case, sites, outlets, places, bodies,
+        )?),
+    }
 }

@@ -13,12 +13,6 @@ ghost use Rattle.ng_view.specs.Evaluation.{evaluated, receiver, evaluated_all, e
 ghost use Rattle.ng_members.specs.Leaves.{LocalsStand, Field, FieldsAllStand};
 
 use crate::applied::apply;
-use ng_members::calls::{called_on, find_callee, is_nothing};
-use ng_members::fields::{put_field, record_of, record_view};
-use ng_members::lists::list_view;
-use ng_members::literals::{bare_name, constant, label_name, number, text};
-use ng_members::members::{item, member, undefined};
-use ng_members::operators::{operator_value, sign_value};
 use indexmap::IndexMap;
 use ng_base::fault::Fault;
 use ng_base::locals::Locals;
@@ -27,6 +21,12 @@ use ng_base::txt::Txt;
 use ng_base::value::Value;
 use ng_base::view::{View, Views};
 use ng_language::syntax::{Binary, Unary};
+use ng_members::calls::{called_on, find_callee, is_nothing};
+use ng_members::fields::{put_field, record_of, record_view};
+use ng_members::lists::list_view;
+use ng_members::literals::{bare_name, constant, label_name, number, text};
+use ng_members::members::{item, member, undefined};
+use ng_members::operators::{operator_value, sign_value};
 use ng_parse::{Expr, Pair};
 use ng_store::Store;
 use ng_value::operators::truthy;

@@ -12,11 +12,11 @@ ghost use Rattle.ng_view.specs.Evaluation.{evaluated_program};
 ghost use Rattle.ng_members.specs.Leaves.{LocalsStand};
 
 use crate::evaluation::evaluated;
-use ng_members::members::undefined;
 use ng_base::fault::Fault;
 use ng_base::locals::Locals;
 use ng_base::name::Oid;
 use ng_base::view::View;
+use ng_members::members::undefined;
 use ng_parse::{Expr, Program};
 use ng_store::Store;
 use std::alloc::Global;

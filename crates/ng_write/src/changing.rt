@@ -15,9 +15,9 @@ use ng_base::name::Oid;
 use ng_base::txt::Txt;
 use ng_base::value::Value;
 use ng_base::view::View;
+use ng_members::lists::from_end;
 use ng_store::Store;
 use ng_value::numbers::view_num;
-use ng_members::lists::from_end;
 
 /// A method of arrays that changes them.
 #[derive(Clone, Copy, Debug, PartialEq, Eq)]

@@ -15,9 +15,9 @@ use ng_base::name::Oid;
 use ng_base::txt::Txt;
 use ng_base::value::Value;
 use ng_base::view::View;
-use ng_store::Store;
 use ng_members::literals::named;
 use ng_members::members::member;
+use ng_store::Store;
 use std::alloc::Global;
 
 fn value_in(view: View) -> Value

@@ -1,6 +1,5 @@
 use Rattle.std.proofs.Common.{◌≡◌, ◌≤◌, ◌∙◌, length, ap, sym, subst}
 use Rattle.ng_act.specs.Frames as cores
-use Rattle.ng_act.specs.Frames.{Acts}
 use Rattle.ng_act.specs.Running.{same}
 use Rattle.ng_act.specs.State.{Run}
 use Rattle.ng_base.specs.declared.value.Value.{Value}

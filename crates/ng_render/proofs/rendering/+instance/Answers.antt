@@ -1,6 +1,7 @@
 use Rattle.std.proofs.Common.{◌≡◌, ◌+◌, ◌++◌, ◌∷◌, [], arith, rules, ap, sym, subst, ◌∙◌, map, drop, option_map, Ok, None}
 use Rattle.std.proofs.lemmas.List.{map-append}
 use Rattle.std.specs.Prelude.{unwrap_or, slice_get}
+use Rattle.ng_drawing.specs.Cases.{cases_of}
 use Rattle.ng_drawing.specs.Drawing.{followed_by, shown_as}
 use Rattle.ng_drawing.specs.Instance.{instances_from, outlets_from, instance_now, outlet_at, rendering, rendering_all, rendering_in}
 use Rattle.ng_drawing.specs.InstanceOf.{state_of, instance_of, instances_of}
@@ -88,7 +89,7 @@ rendered_instance-returns t c =
     let os = outlets_of c.outlets.result.now in
     let groups = ap (map group_of) c.as_slice-3.ensures.value
     ∙ (c.in_ok-groups.ensures.groups
-    ∙ ap (λ xs. rendering_in ground.store.now ground.scopes.now (instance_now ground.store.now ground.scopes.now sites states) states os (outlets_from (map (instances_of all) xs))) c.as_slice-2.ensures.value) in
+    ∙ ap (λ xs. rendering_in ground.store.now ground.scopes.now (instance_now ground.store.now ground.scopes.now sites states) states (cases_of os) os (outlets_from (map (instances_of all) xs))) c.as_slice-2.ensures.value) in
     let is = instance_is ground.store.now ground.scopes.now all c.args.i.now (fragment_of c.in-Some.fragment.now) sites states os (map group_of c.as_slice-3.result.now) (parts_of c.parts.result.now)
     (ap (λ o. unwrap_or o no_fragment) (sym c.in-Some.ensures)) c.sites.ensures (ap (map state_of) c.as_slice.ensures.value) c.outlets.ensures groups c.parts.ensures in
     rw is c.rendered.ensures
@@ -107,9 +108,9 @@ rendered_outlets-loop-k-preserved t c =
     let states = map state_of c.args.over.now.states.now in
     let os = outlets_of c.args.outlets.now in
     let x = c.index-bodies-k.result in
-    let rest = filled_by ground.store.now ground.scopes.now now states (drop (c.loop-k.k + 1) os) (map (instances_of all) (drop (c.loop-k.k + 1) c.args.bodies.now)) in
+    let rest = filled_by ground.store.now ground.scopes.now now states (cases_of os) (drop (c.loop-k.k + 1) os) (map (instances_of all) (drop (c.loop-k.k + 1) c.args.bodies.now)) in
     let shows = c.in_ok-filled_at.ensures all
-    ∙ ap (outlet_at now states (slice_get os c.loop-k.k) (instances_of all x)) (c.in_ok-group.ensures (rendering_all ground.store.now ground.scopes.now (instances_of all x)) c.rendered_all.ensures) in
+    ∙ ap (outlet_at now states (cases_of os) (slice_get os c.loop-k.k) (instances_of all x)) (c.in_ok-group.ensures (rendering_all ground.store.now ground.scopes.now (instances_of all x)) c.rendered_all.ensures) in
     ap (λ gs. gs ++ rest) (ap (map group_of) c.in_ok-push.ensures.items ∙ map-append group_of c.loop-k.groups.items (c.in_ok-filled_at.field-0 ∷ []))
-    ∙ (filled_turn ground.store.now ground.scopes.now now states (instances_of all) os c.args.bodies.now c.loop-k.k x (map group_of c.loop-k.groups.items) (group_of c.in_ok-filled_at.field-0) c.loop-k-test.true c.index-bodies-k.is shows
+    ∙ (filled_turn ground.store.now ground.scopes.now now states (cases_of os) (instances_of all) os c.args.bodies.now c.loop-k.k x (map group_of c.loop-k.groups.items) (group_of c.in_ok-filled_at.field-0) c.loop-k-test.true c.index-bodies-k.is shows
     ∙ c.loop-k.invariant)

@@ -1,4 +1,5 @@
 use Rattle.std.proofs.Common.{◌≡◌, ◌+◌, ◌*◌, ◌++◌, map, drop}
+use Rattle.ng_drawing.specs.Cases.{cases_of}
 use Rattle.ng_drawing.specs.Drawing.{followed_by}
 use Rattle.ng_drawing.specs.Instance.{rendering_in, outlets_from}
 use Rattle.ng_drawing.specs.InstanceOf.{state_of, instance_of, instances_of}
@@ -27,6 +28,6 @@ invariant-rendered_all-loop-body l =
 abbrev pub invariant-rendered_outlets-loop-k : goal.invariant-rendered_outlets-loop-k
 invariant-rendered_outlets-loop-k l =
     map group_of l.groups.items
-    ++ rendering_in l.ground.store.now l.ground.scopes.now (now_over l.over) (map state_of l.over.states.now) (drop l.k (outlets_of l.outlets))
+    ++ rendering_in l.ground.store.now l.ground.scopes.now (now_over l.over) (map state_of l.over.states.now) (cases_of (outlets_of l.outlets)) (drop l.k (outlets_of l.outlets))
     (outlets_from (map (instances_of (fragments_in (templates_of l.ground.all.now))) (drop l.k l.bodies)))
-    ≡ rendering_in l.ground.store.now l.ground.scopes.now (now_over l.over) (map state_of l.over.states.now) (outlets_of l.outlets) (outlets_from (map (instances_of (fragments_in (templates_of l.ground.all.now))) l.bodies))
+    ≡ rendering_in l.ground.store.now l.ground.scopes.now (now_over l.over) (map state_of l.over.states.now) (cases_of (outlets_of l.outlets)) (outlets_of l.outlets) (outlets_from (map (instances_of (fragments_in (templates_of l.ground.all.now))) l.bodies))

@@ -1,35 +1,46 @@
-use Rattle.std.proofs.Common.{◌≡◌, ◌-◌, ◌∙◌, true, false, not, ap, sym, arith}
+use Rattle.std.proofs.Common.{◌≡◌, ◌-◌, ◌∙◌, true, false, not, Err, ap, sym, arith}
 use Rattle.ng_html.specs.Seen.{node_of}
-use Rattle.ng_template.specs.Around.{at_place, block_priority, heads_after, around_node}
-use Rattle.ng_template.specs.AroundOf.{around_of}
-use Rattle.ng_template.specs.FragmentOf.{sites_of}
+use Rattle.ng_template.specs.Around.{at_place, block_priority, found_after, around_node}
+use Rattle.ng_template.specs.AroundOf.{found_of, around_of}
 use Rattle.ng_template.specs.Manners.{are_built, any_makes_plain}
-use Rattle.ng_template.proofs.Blocks.{gives_err, picks-refused, heads-stage, block-stage}
+use Rattle.ng_template.proofs.Blocks.{gives_err, picks-refused, later-stage, heads-stage, block-stage}
 use Rattle.ng_template.proofs.around.find_blocks.Goals as goal
 
 pub returns-in_err-picked : goal.returns-in_err-picked
 returns-in_err-picked c =
-    gives_err around_of (at_place c.args.place (around_node c.args.r.now (node_of c.args.e.now))) c.from_residual.result c.in_err-picked.field-0.0 c.from_residual.ensures.1
-    (λ m. sym c.loop-room.invariant ∙ picks-refused c.args.place c.args.r.now (node_of c.args.e.now) (sites_of c.loop-room.heads.items) c.loop-room.room (c.loop-room.room - 1) c.loop-room.limit (omega arith) c.in_err-picked.field-0.0 (c.in_err-picked.ensures m))
+    gives_err around_of (at_place c.args.place (around_node c.args.r.now c.args.in_switch (node_of c.args.e.now))) c.from_residual.result c.in_err-picked.field-0.0 c.from_residual.ensures.1
+    (λ m. sym c.loop-room.invariant
+    ∙ picks-refused c.args.place c.args.r.now (node_of c.args.e.now) (found_of c.loop-room.found) c.loop-room.has_switch c.loop-room.room (c.loop-room.room - 1) c.loop-room.limit (omega arith) c.in_err-picked.field-0.0 (c.in_err-picked.ensures m))
 
-pub returns-in_err-push_heads : goal.returns-in_err-push_heads
-returns-in_err-push_heads c =
-    let ps = c.in_ok-picked.picked in
-    let before = sites_of c.loop-room.heads.items in
-    let plain : any_makes_plain ps ≡ false = ap any_makes_plain (sym c.as_slice.ensures) ∙ sym c.if-any_makes_plain.ensures in
-    let built : are_built ps ≡ true = ap are_built (sym c.as_slice-in-loop-room.ensures) ∙ sym c.if-not-are_built.ensures in
-    let block = c.block_priority-below.ensures ∙ ap block_priority c.as_slice-in-loop-room-2.ensures in
-    gives_err around_of (at_place c.args.place (around_node c.args.r.now (node_of c.args.e.now))) c.from_residual-in_err-push_heads.result c.in_err-push_heads.field-0.0 c.from_residual-in_err-push_heads.ensures.1
-    (λ m. sym c.loop-room.invariant ∙ heads-stage c.args.place c.args.r.now (node_of c.args.e.now) before c.loop-room.room (c.loop-room.room - 1) c.loop-room.limit (omega arith) ps c.in_ok-picked.ensures plain built
-    c.block_priority-below.result block (ap not c.if-is_none.ensures) c.in_err-push_heads.field-0.0 (ap (λ qs. at_place c.args.place (heads_after before qs)) (sym c.as_slice-in-loop-room-3.ensures) ∙ c.in_err-push_heads.ensures m))
+pub returns-then-not-are_built : goal.returns-then-not-are_built
+returns-then-not-are_built c free =
+    let ps = c.in_ok-picked.picked.items in
+    let plain : any_makes_plain ps ≡ false = ap any_makes_plain (sym c.as_slice.ensures.value) ∙ sym c.if-any_makes_plain.ensures in
+    let built : are_built ps ≡ false = ap are_built (sym c.as_slice-in-loop-room.ensures.value) ∙ sym c.if-not-are_built.ensures in
+    sym c.loop-room.invariant
+    ∙ (later-stage c.args.place c.args.r.now (node_of c.args.e.now) (found_of c.loop-room.found) c.loop-room.has_switch c.loop-room.room (c.loop-room.room - 1) c.loop-room.limit (omega arith) ps c.in_ok-picked.ensures plain built
+    ∙ ap Err (sym c.refusal.ensures))
+
+pub returns-in_err-find_more : goal.returns-in_err-find_more
+returns-in_err-find_more c =
+    let ps = c.in_ok-picked.picked.items in
+    let before = found_of c.loop-room.found in
+    let plain : any_makes_plain ps ≡ false = ap any_makes_plain (sym c.as_slice.ensures.value) ∙ sym c.if-any_makes_plain.ensures in
+    let built : are_built ps ≡ true = ap are_built (sym c.as_slice-in-loop-room.ensures.value) ∙ sym c.if-not-are_built.ensures in
+    let block = c.block_priority-below.ensures ∙ ap block_priority c.as_slice-in-loop-room-2.ensures.value in
+    gives_err around_of (at_place c.args.place (around_node c.args.r.now c.args.in_switch (node_of c.args.e.now))) c.from_residual-in_err-find_more.result c.in_err-find_more.field-0.0 c.from_residual-in_err-find_more.ensures.1
+    (λ m. sym c.loop-room.invariant ∙ heads-stage c.args.place c.args.r.now (node_of c.args.e.now) before c.loop-room.has_switch c.loop-room.room (c.loop-room.room - 1) c.loop-room.limit (omega arith) ps c.in_ok-picked.ensures plain built
+    c.block_priority-below.result block (ap not c.if-is_none.ensures) c.in_err-find_more.field-0.0
+    (ap (λ qs. at_place c.args.place (found_after before c.loop-room.has_switch qs)) (sym c.as_slice-in-loop-room-3.ensures.value) ∙ c.in_err-find_more.ensures m))
 
 pub loop-room-preserved : goal.loop-room-preserved
 loop-room-preserved c =
-    let ps = c.in_ok-picked.picked in
-    let before = sites_of c.loop-room.heads.items in
-    let plain : any_makes_plain ps ≡ false = ap any_makes_plain (sym c.as_slice.ensures) ∙ sym c.if-any_makes_plain.ensures in
-    let built : are_built ps ≡ true = ap are_built (sym c.as_slice-in-loop-room.ensures) ∙ sym c.if-not-are_built.ensures in
-    let block = c.block_priority-below.ensures ∙ ap block_priority c.as_slice-in-loop-room-2.ensures in
-    block-stage c.args.place c.args.r.now (node_of c.args.e.now) before c.loop-room.room (c.loop-room.room - 1) c.loop-room.limit (omega arith) ps c.in_ok-picked.ensures plain built
-    c.block_priority-below.result block (ap not c.if-is_none.ensures) (sites_of c.push_heads.new.heads.items) (ap (λ qs. at_place c.args.place (heads_after before qs)) (sym c.as_slice-in-loop-room-3.ensures) ∙ c.in_ok-push_heads.ensures)
+    let ps = c.in_ok-picked.picked.items in
+    let before = found_of c.loop-room.found in
+    let plain : any_makes_plain ps ≡ false = ap any_makes_plain (sym c.as_slice.ensures.value) ∙ sym c.if-any_makes_plain.ensures in
+    let built : are_built ps ≡ true = ap are_built (sym c.as_slice-in-loop-room.ensures.value) ∙ sym c.if-not-are_built.ensures in
+    let block = c.block_priority-below.ensures ∙ ap block_priority c.as_slice-in-loop-room-2.ensures.value in
+    block-stage c.args.place c.args.r.now (node_of c.args.e.now) before c.loop-room.has_switch c.loop-room.room (c.loop-room.room - 1) c.loop-room.limit (omega arith) ps c.in_ok-picked.ensures plain built
+    c.block_priority-below.result block (ap not c.if-is_none.ensures) (found_of c.find_more.new.found)
+    (ap (λ qs. at_place c.args.place (found_after before c.loop-room.has_switch qs)) (sym c.as_slice-in-loop-room-3.ensures.value) ∙ c.in_ok-find_more.ensures)
     ∙ c.loop-room.invariant

@@ -7,4 +7,4 @@ use Rattle.ng_template.proofs.compiling.+build.Given as goal
 
 abbrev pub invariant-parts_at-loop-node : goal.invariant-parts_at-loop-node
 invariant-parts_at-loop-node l =
-    onto (parts_of l.parts) (compiled_list l.r (map node_of (drop l.node-index l.node-items)) (made_of l.now)) ≡ compiled_list l.r (map node_of l.node-items) (made_of l.initial.now)
+    onto (parts_of l.parts) (compiled_list l.r l.near (map node_of (drop l.node-index l.node-items)) (made_of l.now)) ≡ compiled_list l.r l.near (map node_of l.node-items) (made_of l.initial.now)

@@ -32,11 +32,12 @@ returns c =
     let named = c.in_ok-pieces.ensures.pieces ∙ ap (λ n. numbered n (map piece_of c.args.parts.items)) raw in
     let kind = ap (λ k. map site_of c.args.element.sites.items ++ sites_in k (map piece_of c.args.parts.items)) c.kind_for.ensures in
     parts_placed c.args.pick.now c.args.setting (map piece_of c.args.parts.items) (head_of c.args.element) c.len-first.result c.in_ok-pieces.pieces
-    c.set.new.attributes (class_of c.add_to_class.new.class) c.bound_after.result c.add_numbers.new.own.items (map site_of c.in_ok-pieces.sites.items) first
+    c.set.new.attributes (class_of c.add_to_class.new.class) c.bound_after.result c.switch_after.result c.add_numbers.new.own.items (map site_of c.in_ok-pieces.sites.items) first
     named
     c.in_ok-set.ensures
     c.in_ok-add_to_class.ensures
     c.bound_after.ensures
+    c.switch_after.ensures
     (c.in_ok-add_numbers.ensures (sites_in (kind_for c.args.setting) (map piece_of c.args.parts.items)) (sym count))
     (c.in_ok-pieces.ensures.sites ∙ kind)
     fits

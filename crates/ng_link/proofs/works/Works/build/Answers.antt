@@ -1,10 +1,7 @@
-use Rattle.std.proofs.Common.{◌≡◌, ◌+◌, ◌≤◌, ℕ, List, [], ap, sym, subst, ◌∙◌, true, Some, length, map}
-use Rattle.std.specs.BTreeMap.{is_at}
-use Rattle.std.specs.List.{AllByRecursion, list_all}
-use Rattle.std.specs.Ordering.{nat_cmp}
+use Rattle.std.proofs.Common.{◌≡◌, ◌+◌, ◌≤◌, ℕ, List, [], ap, sym, subst, ◌∙◌, true, Some, length}
 use Rattle.std.specs.declared.alloc.Global.{Global}
 use Rattle.std.specs.declared.vec.Vec.{Vec}
-use Rattle.std.specs.Map.{lookup, keys_of as map_keys}
+use Rattle.std.specs.Map.{keys_of as map_keys}
 use Rattle.std.specs.Prelude.{option_map}
 use Rattle.ng_behaviour.specs.Scopes.{object_at}
 use Rattle.ng_dom.specs.Document.{next_name, live_count}
@@ -20,16 +17,15 @@ use Rattle.ng_watch.specs.Table.{Table, watchers_of}
 use Rattle.ng_link.specs.Building.{parent_name, IsStood}
 use Rattle.ng_link.specs.Calls.{linked_on}
 use Rattle.ng_link.specs.Handlers.{handled}
-use Rattle.ng_link.specs.Instances.{OutletState, Linked}
-use Rattle.ng_link.specs.Placing.{is_anchored, IsPrepared}
+use Rattle.ng_link.specs.Placing.{IsPrepared}
 use Rattle.ng_link.specs.Rows.{with_sites, spots_by}
-use Rattle.ng_link.specs.Shape.{keys_in, shape, unfilled, holes}
-use Rattle.ng_link.specs.State.{handled_of, linked_of, outlet_of, state_of, templates_of}
+use Rattle.ng_link.specs.Shape.{keys_in, shape, unfilled, holes, anchors}
+use Rattle.ng_link.specs.State.{handled_of, linked_of, state_of, templates_of}
 use Rattle.ng_link.specs.declared.works.Linked as code
-use Rattle.ng_link.proofs.Anchored.{all_anchored}
+use Rattle.ng_link.proofs.Undrawn.{outlets_undrawn}
 use Rattle.ng_link.proofs.Counted.{parts_count}
 use Rattle.ng_link.proofs.Fragments.{whole_at, fragment_known, fragment_or}
-use Rattle.ng_link.proofs.Links.{linked_made}
+use Rattle.ng_link.proofs.Links.{many_holes, linked_made}
 use Rattle.ng_link.proofs.Numbers.{whole_count, whole_outlets}
 use Rattle.ng_link.proofs.Serials.{paired_keys, spots_are}
 use Rattle.ng_link.proofs.works.Works.build.Goals as goal
@@ -77,10 +73,8 @@ returns-clause-built c = λ g asked.
     let made : linked_of all path one ≡ linked_on (c.args.t.0, c.args.n) c.args.scope.0 path f serials m =
     linked_made all path serials f one (fragment_or all c.args.t.0 c.args.n f known) keys entered c.in_ok-outlets.ensures
     ∙ ap (linked_on (c.args.t.0, c.args.n) c.args.scope.0 path f serials) node in
-    let whole_spots : list_all (is_anchored c.in_ok-spots.spots.entries) (map outlet_of c.in_ok-outlets.outlets.items) ≡ true =
-    ap (λ os. list_all (is_anchored c.in_ok-spots.spots.entries) (map outlet_of os)) (sym c.as_slice-3.ensures.value) ∙ (sym c.are_anchored.ensures ∙ c.if-not-are_anchored.false) in
-    let anchored = subst (λ (x : Linked). AllByRecursion (λ (o : OutletState). lookup (is_at (nat_cmp o.serial)) c.in_ok-spots.spots.entries ≡ Some o.anchor) x.page.outlets) made
-    (all_anchored c.in_ok-spots.spots.entries (map outlet_of c.in_ok-outlets.outlets.items) whole_spots) in
+    let many : length serials ≡ length f.sites = as_many ∙ many_holes f m numbered in
+    let undrawn = outlets_undrawn c.args.t.0 serials f many (length x.bodies) whole (anchors m f.parts) in
     let table : Table = watchers_of old.watchers in
     let object = c.object-object.result.0 in
     let rows : watchers_of c.watch_all.new.watchers ≡ with_sites path (object_at (state_of old).core.scopes c.args.scope.0) serials f.sites table =
@@ -95,7 +89,7 @@ returns-clause-built c = λ g asked.
       outlined = whole_outlets (length x.bodies) f whole;
       made = made;
       spots = spots;
-      anchored = anchored;
+      undrawn = undrawn;
       rows = rows;
       stood = subst S parts c.in_ok-nodes.ensures.stood;
     })

@@ -14,7 +14,7 @@ returns-clause-state c =
     c.in_ok-rest_all.ensures.rested (templates_of c.args.self.now) ∙ ap (λ (t : Table). rested s.instances t s.resting) c.in_ok-rows.ensures.taken in
     ap (λ (t : Table). record s { watchers = t; resting = resting_of c.rest_all.new.resting.entries; declared = declared_of c.leave_listeners.new.declared.entries }) c.in_ok-rows.ensures.removed
     ∙ (ap (λ (r : Resting). record s { watchers = without_under p s.watchers; resting = r; declared = declared_of c.leave_listeners.new.declared.entries }) resting
-    ∙ ap (λ (d : Declared). record s { watchers = without_under p s.watchers; resting = rested s.instances (under p s.watchers) s.resting; declared = d }) c.leave_listeners.ensures)
+    ∙ ap (λ (d : Declared). record s { watchers = without_under p s.watchers; resting = rested s.instances (under p s.watchers) s.resting; declared = d }) c.in_ok-leave_listeners.ensures)
 
 pub returns-clause-stands : goal.returns-clause-stands
 returns-clause-stands c =

@@ -100,5 +100,5 @@ returns-clause-stands c =
     subst (λ (x : Option ℕ × ℕ). IsStood x.0 x.1 (new_stands (linked_on which scope path f serials m)) (nodes f.parts) w.dom built.dom) (c.in_ok-spot.ensures all) p.stood in
     subst IsStanding (sym left)
     (placed_stands w built.watchers built.dom is os one which scope (object_at (state_of w).core.scopes scope) m path f serials spotted (free_path place path (state_of w) is_free) p.numbered p.outlined
-    (c.requires.objects.below scope c.requires.scope) c.requires.rising c.requires.below count (p.spots ∙ spots_are serials _ c.requires.rising) p.anchored p.rows place is_free
+    (c.requires.objects.below scope c.requires.scope) c.requires.rising c.requires.below count (p.spots ∙ spots_are serials _ c.requires.rising) p.undrawn p.rows place is_free
     (taken_up all place path one _ w.instances.entries is.entries noted p.made) refl stood c.requires.stands.0 c.requires.stands.1)

@@ -7,9 +7,6 @@ use Rattle.ng_page.specs.PageOf.{state_of, fragments_of}
 use Rattle.ng_page.proofs.Rendered.{none_rendered}
 use Rattle.ng_page.proofs.page.Page.rendered.Goals as goal
 
-pub instance-requires : goal.instance-requires
-instance-requires c = (c.requires.page c.requires.unspent).works.whole.standing
-
 pub returns-in-None : goal.returns-in-None
 returns-in-None c =
     let p = c.args.self.now in

@@ -1,0 +1,18 @@
+use Rattle.std.proofs.Common.{◌≡◌, ◌∙◌, List, ap, map, subst, sym}
+use Rattle.ng_fire.proofs.Served.{all_are_due}
+use Rattle.ng_fire.specs.Serving.{AreDue}
+use Rattle.ng_link.specs.Due.{Due, all_due, due_of}
+use Rattle.ng_link.specs.Instances.{Instances, linked_at}
+use Rattle.ng_link.specs.State.{State, state_of, templates_of}
+use Rattle.ng_fire.proofs.firing.fire_filling.Goals as goal
+
+pub fire_outlets-requires-clause-due : goal.fire_outlets-requires-clause-due
+fire_outlets-requires-clause-due c =
+    let old = c.args.works.now in
+    let w = c.keep_site.new.works in
+    let k = c.args.key.now in
+    let same : (state_of w).instances ≡ (state_of old).instances = ap (λ (s : State). s.instances) c.in_ok-keep_site.ensures.state in
+    let due : map due_of c.args.all.now ≡ all_due k.serial.0 (linked_at k.path (state_of w).instances) =
+    c.requires.due ∙ ap (λ (is : Instances). all_due k.serial.0 (linked_at k.path is)) (sym same) in
+    subst (λ (ds : List Due). AreDue (templates_of w) k.path (state_of w).instances ds) (sym due)
+    (all_are_due (templates_of w) k.path (state_of w).instances k.serial.0 c.in_ok-keep_site.ensures.whole.bodies)
