@@ -23,3 +23,9 @@ buried_objects sc s = hushes_same (λ (x : State). x.objects) (λ c x. refl) (ma
 
 pub buried_changes : (sc : ℕ) (s : State) → (buried sc s).changes ≡ s.changes ++ leaves sc ∷ []
 buried_changes sc s = hushes_same (λ (x : State). x.changes) (λ c x. refl) (many s) sc sc (hushed sc (with_change (leaves sc) s))
+
+pub buried_serial : (sc : ℕ) (s : State) → (buried sc s).serial ≡ s.serial
+buried_serial sc s = hushes_same (λ (x : State). x.serial) (λ c x. refl) (many s) sc sc (hushed sc (with_change (leaves sc) s))
+
+pub buried_handed : (sc : ℕ) (s : State) → (buried sc s).handed ≡ s.handed
+buried_handed sc s = hushes_same (λ (x : State). x.handed) (λ c x. refl) (many s) sc sc (hushed sc (with_change (leaves sc) s))

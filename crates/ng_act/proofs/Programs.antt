@@ -1,6 +1,6 @@
 -- What each step keeps, every program keeps, whatever it opens.
 use Rattle.std.proofs.Common.{◌≡◌, ◌<◌, ◌≤◌, ◌+◌, ℕ, zero, suc, Bool, true, false, if◌then◌else◌, List, [], ◌∷◌, ◌++◌, length, map, drop, Option, Some, None, Result, Ok, Err, refl, arith}
-use Rattle.std.specs.Prelude.{slice_get, nat_lt, codes}
+use Rattle.std.specs.Prelude.{slice_get, nat_lt, codes, is_some}
 use Rattle.std.specs.Str.{bytes_eq}
 use Rattle.indexmap.specs.IndexMap.{insert_entry}
 use Rattle.ng_base.specs.Views.{ViewTree, prim, list, rec, no_fields, views_from, fields_from}
@@ -29,7 +29,7 @@ use Rattle.ng_write.specs.Written.{Written}
 use Rattle.ng_write.specs.declared.events.EventCall.{EventCall}
 use Rattle.ng_write.specs.declared.events.EventCall.TheVariants as event_calls
 use Rattle.ng_act.specs.Calling.{called_on, value_called, is_nothing, outlives, program_given, watch_given, watch_kind, Found, no_function, takes, unwatches, opens, found_in}
-use Rattle.ng_act.specs.State.{written, State, Run, ◌>>=◌, given, with_objects, with_locals, with_body, with_task, with_heard, with_fault, handed, is_stopped}
+use Rattle.ng_act.specs.State.{written, State, Run, ◌>>=◌, given, with_objects, with_locals, with_body, with_task, with_heard, with_fault, handed, first_or, is_stopped}
 use Rattle.ng_act.specs.declared.called.Called.{Called}
 use Rattle.ng_act.specs.declared.called.Called.TheVariants as calls
 use Rattle.ng_act.specs.declared.called.ScopeMethod.{ScopeMethod}
@@ -42,7 +42,7 @@ pub record Steps (R : State → State → Type 0) : Type 0 where
   pub same : (s : State) → R s s
   pub on : (s t u : State) → R s t → R t u → R s u
   pub count : (s t : State) → R s t → length t.scopes ≡ length s.scopes
-  pub others : (s t : State) → length s.objects ≤ length t.objects → t.scopes ≡ s.scopes → t.heard ≡ s.heard → R s t
+  pub others : (s t : State) → length s.objects ≤ length t.objects → s.serial ≤ t.serial → (is_some s.handed.first ≡ true → is_some t.handed.first ≡ true) → t.scopes ≡ s.scopes → t.heard ≡ s.heard → R s t
   pub off : (s : State) (id : ℕ) → R s (with_heard (without_listener s.heard id) s)
   pub listened : (scope : ℕ) (name : List ℕ) (p : Trees) (s : State) → live_at s.scopes scope ≡ true → R s (listens scope name p s).0
   pub buried : (scope : ℕ) (s : State) → scope < length s.scopes → R s (buried scope s)
@@ -56,7 +56,7 @@ live-within [] s h = absurd (cc)
 live-within (x ∷ t) zero h = omega arith
 live-within (x ∷ t) (suc s) h = let z : s < length t = live-within t s h in omega arith
 
-bind-kept : (R : State → State → Type 0) → Steps R → {A B : Type 0} (s t : State) (o : Result A Fault) (f : A → State → Run B) → R s t → ((v : A) (a : State) → R a (f v a).0) → R s ((t, o) >>= f).0
+pub bind-kept : (R : State → State → Type 0) → Steps R → {A B : Type 0} (s t : State) (o : Result A Fault) (f : A → State → Run B) → R s t → ((v : A) (a : State) → R a (f v a).0) → R s ((t, o) >>= f).0
 bind-kept R st s t (Ok v) f h k = st.on s t (f v t).0 h (k v t)
 bind-kept R st s t (Err e) f h k = h
 
@@ -66,14 +66,19 @@ run-kept R st false s r q h k = k
 
 -- objects are written, and none is taken away
 wrote-kept : (R : State → State → Type 0) → Steps R → (s : State) (o : List Object) → length s.objects ≤ length o → R s (with_objects o s)
-wrote-kept R st s o h = st.others s (with_objects o s) h refl refl
+wrote-kept R st s o h = st.others s (with_objects o s) h (omega arith) (λ h. h) refl refl
 
 shown-kept : (R : State → State → Type 0) → Steps R → (e : Event) (v : Value) (s : State) → R s (shows_current e v s)
 shown-kept R st e v s = wrote-kept R st s (set_name s.objects e.object (codes "currentScope") v) (named-grows s.objects e.object (codes "currentScope") v)
 
+-- a fault that was handed over stays the first
+pub some_first : (o : Option Fault) (f : Fault) → is_some (first_or o f) ≡ true
+some_first None f = refl
+some_first (Some e) f = refl
+
 noted-on : (R : State → State → Type 0) → Steps R → {A : Type 0} (s t : State) (o : Result A Fault) → R s t → R s (handed (t, o))
 noted-on R st s t (Ok v) k = k
-noted-on R st s t (Err e) k = st.on s t (with_fault e t) k (st.others t (with_fault e t) (omega arith) refl refl)
+noted-on R st s t (Err e) k = st.on s t (with_fault e t) k (st.others t (with_fault e t) (omega arith) (omega arith) (λ h. some_first t.handed.first e) refl refl)
 
 noted-kept : (R : State → State → Type 0) → Steps R → {A : Type 0} (s : State) (r : Run A) → R s r.0 → R s (handed r)
 noted-kept R st s r h = noted-on R st s r.0 r.1 h
@@ -143,7 +148,7 @@ destroys-kept R st go th sc s =
 as_view-kept : (R : State → State → Type 0) → Steps R → (s : State) (w : Written Value) → length s.objects ≤ length w.0 → R s (as_view_run (written w s)).0
 as_view-kept R st s w h = bind-kept R st s (with_objects w.0 s) w.1 (λ v a. (a, Ok (prim v))) (wrote-kept R st s w.0 h) (λ v a. st.same a)
 
-stores-kept : (R : State → State → Type 0) → Steps R → (t : ViewTree) (s : State) → R s (stores t s).0
+pub stores-kept : (R : State → State → Type 0) → Steps R → (t : ViewTree) (s : State) → R s (stores t s).0
 stores-kept R st t s = as_view-kept R st s (stored s.objects t) (stored-grows s.objects t)
 
 result-kept : (R : State → State → Type 0) → Steps R → (s : State) (o : Result ViewTree Fault) → R s (stores_result o s).0
@@ -152,7 +157,7 @@ result-kept R st s (Err e) = st.same s
 
 assigns-kept : (R : State → State → Type 0) → Steps R → (scope : ℕ) (p : Place) (t : ViewTree) (s : State) → R s (assigns scope p t s).0
 assigns-kept R st scope (bare name) t s =
-    st.others s (assigns scope (bare name) t s).0 (assigned_name-grows s.objects (object_at s.scopes scope) s.locals name (value_in t)) refl refl
+    st.others s (assigns scope (bare name) t s).0 (assigned_name-grows s.objects (object_at s.scopes scope) s.locals name (value_in t)) (omega arith) (λ h. h) refl refl
 assigns-kept R st scope (within o name) t s = wrote-kept R st s (member_assigned s.objects (value_in o) name (value_in t)).0 (assigned-grows s.objects (value_in o) name (value_in t))
 
 makes_name-kept : (R : State → State → Type 0) → Steps R → (scope : ℕ) (name : List ℕ) (s : State) → R s (makes_name scope name s).0
@@ -168,7 +173,7 @@ makes_member-kept R st o name s = as_view-kept R st s (made_member s.objects (va
 found-kept : (R : State → State → Type 0) → Steps R → (go : Doing) → IsKept R go → (f : ℕ) (o : Found) (s : State) → R s (found_run go f o s).0
 found-kept R st go th f no_function s = st.same s
 found-kept R st go th f takes s = st.off s f
-found-kept R st go th f (unwatches scope serial) s = st.others s (found_run go f (unwatches scope serial) s).0 (omega arith) refl refl
+found-kept R st go th f (unwatches scope serial) s = st.others s (found_run go f (unwatches scope serial) s).0 (omega arith) (omega arith) (λ h. h) refl refl
 found-kept R st go th f (opens scope ls p) s = th (a_body scope ls p) s
 
 given-kept : (R : State → State → Type 0) → Steps R → {A B : Type 0} (s : State) (o : Result A Fault) (f : A → State → Run B) → ((v : A) → R s (f v s).0) → R s (given s o >>= f).0
@@ -183,10 +188,10 @@ ons-kept R st scope args s live =
 declares-kept : (R : State → State → Type 0) → Steps R → (scope : ℕ) (kind : SnapKind) (args : List ViewTree) (s : State) → R s (declares scope kind args s).0
 declares-kept R st scope kind args s =
     bind-kept R st s s (watch_given (argument args 0)) (λ e t. given t (program_given (argument args 1)) >>= λ p u. watches scope kind e p u) (st.same s)
-    (λ e t. bind-kept R st t t (program_given (argument args 1)) (λ p u. watches scope kind e p u) (st.same t) (λ p u. st.others u (watches scope kind e p u).0 (omega arith) refl refl))
+    (λ e t. bind-kept R st t t (program_given (argument args 1)) (λ p u. watches scope kind e p u) (st.same t) (λ p u. st.others u (watches scope kind e p u).0 (omega arith) (omega arith) (λ h. h) refl refl))
 
 defers-kept : (R : State → State → Type 0) → Steps R → (scope : ℕ) (args : List ViewTree) (s : State) → R s (defers scope args s).0
-defers-kept R st scope args s = bind-kept R st s s (program_given (argument args 0)) (λ p t. (with_task (record { scope = scope; body = p }) t, Ok nothing)) (st.same s) (λ p t. st.others t (with_task (record { scope = scope; body = p }) t) (omega arith) refl refl)
+defers-kept R st scope args s = bind-kept R st s s (program_given (argument args 0)) (λ p t. (with_task (record { scope = scope; body = p }) t, Ok nothing)) (st.same s) (λ p t. st.others t (with_task (record { scope = scope; body = p }) t) (omega arith) (omega arith) (λ h. h) refl refl)
 
 method-kept : (R : State → State → Type 0) → Steps R → (go : Doing) → IsKept R go → (scope : ℕ) (m : ScopeMethod) (args : List ViewTree) (s : State) → (outlives m ≡ false → live_at s.scopes scope ≡ true) → R s (method_run go scope m args s).0
 method-kept R st go th scope methods.On args s live = ons-kept R st scope args s (live refl)
@@ -216,7 +221,7 @@ scope-kept R st go th scope m args s = by (outlives m) (live_at s.scopes scope) 
     by false false h = st.same s
 
 event-kept : (R : State → State → Type 0) → Steps R → (e : ℕ) (m : EventCall) (s : State) → R s (event_run e m s)
-event-kept R st e event_calls.StopPropagation s = st.others s (event_run e event_calls.StopPropagation s) (called-grows s.objects e event_calls.StopPropagation) refl refl
+event-kept R st e event_calls.StopPropagation s = st.others s (event_run e event_calls.StopPropagation s) (called-grows s.objects e event_calls.StopPropagation) (omega arith) (λ h. h) refl refl
 event-kept R st e event_calls.PreventDefault s = wrote-kept R st s (event_called s.objects e event_calls.PreventDefault) (called-grows s.objects e event_calls.PreventDefault)
 
 runs-kept : (R : State → State → Type 0) → Steps R → (go : Doing) → IsKept R go → (c : Called) (t : ViewTree) (args : List ViewTree) (s : State) → R s (runs go c t args s).0
@@ -325,7 +330,7 @@ mutual
   pairs-kept R st go th scope done no_pairs s = st.same s
   pairs-kept R st go th scope done (pair_then p ps) s = bind-kept R st s (acted_pair go scope p s).0 (acted_pair go scope p s).1 (λ f a. acted_pairs go scope (insert_entry bytes_eq done f.0 f.1) ps a) (pair-kept R st go th scope p s) (λ f a. pairs-kept R st go th scope (insert_entry bytes_eq done f.0 f.1) ps a)
 
-statements-kept : (R : State → State → Type 0) → Steps R → (go : Doing) → IsKept R go → (scope : ℕ) (v : ViewTree) (ts : Trees) (s : State) → R s (statements go scope v ts s).0
+pub statements-kept : (R : State → State → Type 0) → Steps R → (go : Doing) → IsKept R go → (scope : ℕ) (v : ViewTree) (ts : Trees) (s : State) → R s (statements go scope v ts s).0
 statements-kept R st go th scope v no_trees s = st.same s
 statements-kept R st go th scope v (tree_then t ts) s = bind-kept R st s (acted go scope t s).0 (acted go scope t s).1 (λ w a. statements go scope w ts a) (acted-kept R st go th scope t s) (λ w a. statements-kept R st go th scope w ts a)
 
@@ -345,8 +350,8 @@ body-kept R st go th scope ls p s = entered (nat_lt s.entered 100000)
     entered true =
         let t : State = (programmed go scope p inner).0 in
         st.on s t (with_locals s.locals t)
-        (st.on s inner t (st.others s inner (omega arith) refl refl) (statements-kept R st go th scope nothing p inner))
-        (st.others t (with_locals s.locals t) (omega arith) refl refl)
+        (st.on s inner t (st.others s inner (omega arith) (omega arith) (λ h. h) refl refl) (statements-kept R st go th scope nothing p inner))
+        (st.others t (with_locals s.locals t) (omega arith) (omega arith) (λ h. h) refl refl)
     entered false = st.same s
 
 announced-kept : (R : State → State → Type 0) → Steps R → (scope : ℕ) (name : List ℕ) (args : List ViewTree) (s : State) → R s (announced scope name args s).0
@@ -360,7 +365,7 @@ announced-kept R st scope name args s =
     (st.same s)
 
 finished-kept : (R : State → State → Type 0) → Steps R → (e : Event) (s : State) → R s (finished e s).0
-finished-kept R st e s = st.others s (ended e s) (named-grows s.objects e.object (codes "currentScope") value.Null) refl refl
+finished-kept R st e s = st.others s (ended e s) (named-grows s.objects e.object (codes "currentScope") value.Null) (omega arith) (λ h. h) refl refl
 
 pub does-kept : (R : State → State → Type 0) → Steps R → (room : ℕ) → IsKept R (does room)
 does-kept R st zero a s = st.same s

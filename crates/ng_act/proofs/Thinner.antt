@@ -33,7 +33,7 @@ thinner = record {
   same = λ s. record { count = refl; later = later-refl s.heard };
   on = λ s t u a b. record { count = b.count ∙ a.count; later = later-trans s.heard t.heard u.heard a.later b.later };
   count = λ s t a. a.count;
-  others = λ s t o es eh. record { count = ap (λ (x : List Scope). length x) es; later = rw eh (later-refl s.heard) };
+  others = λ s t o n f es eh. record { count = ap (λ (x : List Scope). length x) es; later = rw eh (later-refl s.heard) };
   off = λ s id. record { count = refl; later = later-off s.heard id };
   listened = λ scope name p s live. record { count = refl; later = later-on_at (place_of s.heard scope name) s.heard scope name (record { id = length s.funs; body = p }) };
   buried = λ sc s l. record { count = ap (λ (x : List Scope). length x) (buried_scopes sc s) ∙ dead-length (path_at s.scopes sc) s.scopes; later = buried-later sc s };

@@ -114,7 +114,7 @@ stays = record {
   same = λ s. record { count = refl; whole = λ w. w };
   on = λ s t u a b. record { count = b.count ∙ a.count; whole = λ w. b.whole (a.whole w) };
   count = λ s t a. a.count;
-  others = λ s t o es eh. record {
+  others = λ s t o n f es eh. record {
     count = ap (λ (x : List Scope). length x) es;
     whole = λ w. record { tree = rw es w.tree; enough = (let m : length s.scopes ≤ length s.objects = w.enough in rw es (omega arith)); silent = rw (es, eh) w.silent };
   };

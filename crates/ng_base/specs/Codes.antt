@@ -1,11 +1,17 @@
 -- The codes of characters that definitions name.
 use Rattle.std.specs.Prelude.{ℕ}
 
+abbrev pub backspace : ℕ
+backspace = 8
+
 abbrev pub tab : ℕ
 tab = 9
 
 abbrev pub line_feed : ℕ
 line_feed = 10
+
+abbrev pub vertical_tab : ℕ
+vertical_tab = 11
 
 abbrev pub form_feed : ℕ
 form_feed = 12
@@ -88,6 +94,9 @@ question_mark = 63
 abbrev pub capital_a : ℕ
 capital_a = 65
 
+abbrev pub capital_e : ℕ
+capital_e = 69
+
 abbrev pub capital_f : ℕ
 capital_f = 70
 
@@ -109,11 +118,17 @@ close_bracket = 93
 abbrev pub underscore : ℕ
 underscore = 95
 
+abbrev pub backquote : ℕ
+backquote = 96
+
 abbrev pub letter_a : ℕ
 letter_a = 97
 
 abbrev pub letter_b : ℕ
 letter_b = 98
+
+abbrev pub letter_e : ℕ
+letter_e = 101
 
 abbrev pub letter_f : ℕ
 letter_f = 102

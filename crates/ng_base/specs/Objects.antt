@@ -1,10 +1,11 @@
 -- The objects of a page: a list, in which each object has its kind, its prototype, and items or named values.
-use Rattle.std.specs.Prelude.{ℕ, ◌<◌, ◌+◌, ◌-◌, ◌*◌, ◌&&◌, ◌==◌, Bool, true, false, List, [], ◌∷◌, ◌++◌, length, map, Option, None, Some, is_some, slice_get, slice_index_or, option_and_then, nat_le, nat_lt, if◌then◌else◌, bytes_eq, decimal}
+use Rattle.std.specs.Prelude.{ℕ, ◌<◌, ◌+◌, ◌-◌, ◌*◌, ◌&&◌, ◌==◌, Bool, true, false, List, [], ◌∷◌, ◌++◌, length, map, Option, None, Some, is_some, slice_get, slice_index_or, option_and_then, nat_lt, if◌then◌else◌, bytes_eq, decimal}
+use Rattle.std.specs.Char.{is_ascii_digit}
 use Rattle.std.specs.List.{range_with_len}
 use Rattle.std.specs.Map.{lookup}
 use Rattle.std.specs.BTreeSet.{insert_key}
 use Rattle.std.specs.Ordering.{nat_cmp}
-use Rattle.ng_base.specs.Codes.{digit_zero, digit_nine}
+use Rattle.ng_base.specs.Codes.{digit_zero}
 use Rattle.ng_base.specs.declared.value.Value.{Value}
 use Rattle.ng_base.specs.declared.value.Value.TheVariants as value
 use Rattle.ng_base.specs.declared.heap.ObjKind.{ObjKind}
@@ -35,13 +36,10 @@ abbrev pub StandsAmong : ℕ → Value → Type 0
 StandsAmong count (value.Obj o) = o.0 < count
 StandsAmong count v = Unit {0}
 
-abbrev pub is_digit : ℕ → Bool
-is_digit c = nat_le digit_zero c && nat_le c digit_nine
-
 -- the number that digits spell behind those that were read, below 2^32 - 1
 abbrev pub spelled : ℕ → List ℕ → Option ℕ
 spelled n [] = Some n
-spelled n (c ∷ cs) = if is_digit c && nat_lt (10 * n + (c - digit_zero)) 4294967295 then spelled (10 * n + (c - digit_zero)) cs else None
+spelled n (c ∷ cs) = if is_ascii_digit c && nat_lt (10 * n + (c - digit_zero)) 4294967295 then spelled (10 * n + (c - digit_zero)) cs else None
 
 abbrev pub only_zero : List ℕ → Option ℕ
 only_zero [] = Some 0

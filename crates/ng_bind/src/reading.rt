@@ -2,40 +2,14 @@
 ghost use Rattle.std.specs.Prelude.{◌≡◌, ◌∷◌, [], Some, None, IsTrue, MatchOption, IfOk};
 ghost use Rattle.ng_base.specs.Meets.{Meets};
 ghost use Rattle.ng_bind.specs.Reading.{is_free, mode_at, mark_in, name_in, name_run, attr_of, spec_after, spec_in};
-ghost use Rattle.ng_language.specs.Letters as letters;
 ghost use Rattle.ng_language.specs.OneTime.{without_front};
 
 use crate::spec::{BindFault, BindMode, Spec};
 use ng_base::reader::Plain;
+use ng_base::trimming::past;
 use ng_base::txt::Txt;
+use ng_lex::letters::{WhiteSpace, in_name};
 use std::alloc::{AllocError, Global};
-
-/// Space, CR, tab, LF, VT, and the space that does not break.
-fn is_space(c: char) -> bool
-    ensures { result ≡ letters.is_space c }
-{
-    matches!(c, ' ' | '\r' | '\t' | '\n' | '\u{b}' | '\u{a0}')
-}
-
-/// An ASCII letter, a digit, `_` or `$`.
-fn is_in_name(c: char) -> bool
-    ensures { result ≡ letters.is_in_name c }
-{
-    matches!(c, 'a'..='z' | 'A'..='Z' | '_' | '$' | '0'..='9')
-}
-
-/// What stands after the white space in front.
-fn past_spaces(mut reader: Plain<'_>) -> Plain<'_>
-    ensures { result ≡ without_front reader.entry }
-{
-    while let Some((c, rest)) = reader.first() {
-        if !is_space(c) {
-            return reader;
-        }
-        reader = rest;
-    }
-    reader
-}
 
 /// The mode of its mark.
 fn mode_at(c: char) -> Option<BindMode>
@@ -55,7 +29,7 @@ fn read_mark(reader: Plain<'_>) -> (bool, Plain<'_>)
     ensures { result ≡ mark_in reader.entry }
 {
     match reader.first() {
-        Some((c, rest)) if c == '?' => (true, past_spaces(rest)),
+        Some((c, rest)) if c == '?' => (true, past::<WhiteSpace>(rest)),
         _ => (false, reader),
     }
 }
@@ -66,7 +40,7 @@ fn read_name(alloc: Global, mut reader: Plain<'_>) -> Result<(Txt, Plain<'_>), A
 {
     let mut name = Txt::new(alloc);
     while let Some((c, rest)) = reader.first() {
-        if !is_in_name(c) {
+        if !in_name(c) {
             return Ok((name, reader));
         }
         name.push(c)?;
@@ -86,9 +60,9 @@ fn attr_of(name: Txt) -> Option<Txt>
 fn read_after(alloc: Global, mode: BindMode, reader: Plain<'_>) -> Result<Spec, BindFault>
     ensures { Meets is_free (spec_after mode reader.entry) result }
 {
-    let (optional, rest) = read_mark(past_spaces(reader));
+    let (optional, rest) = read_mark(past::<WhiteSpace>(reader));
     let (name, rest) = read_name(alloc, rest)?;
-    match past_spaces(rest).first() {
+    match past::<WhiteSpace>(rest).first() {
         Some(_) => Err(BindFault::BadBinding),
         None => Ok(Spec {
             mode,
@@ -102,7 +76,7 @@ fn read_after(alloc: Global, mode: BindMode, reader: Plain<'_>) -> Result<Spec, 
 pub(crate) fn spec_in(alloc: Global, reader: Plain<'_>) -> Result<Spec, BindFault>
     ensures { Meets is_free (spec_in reader.entry) result }
 {
-    let Some((c, rest)) = past_spaces(reader).first() else {
+    let Some((c, rest)) = past::<WhiteSpace>(reader).first() else {
         return Err(BindFault::BadBinding);
     };
     match mode_at(c) {

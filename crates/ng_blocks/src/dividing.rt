@@ -3,12 +3,12 @@ ghost use Rattle.std.specs.Prelude.{◌≡◌, [], IfOk, None, Some, false};
 ghost use Rattle.std.specs.Str.{chars};
 ghost use Rattle.std.specs.List.{list_all};
 ghost use Rattle.ng_language.specs.Letters.{is_space};
-ghost use Rattle.ng_language.specs.OneTime.{without_front};
 ghost use Rattle.ng_blocks.specs.Dividing.{after_word, spaced_on, after_in, after_track_by, after_divider, cut_from};
 
 use ng_base::reader::Plain;
+use ng_base::trimming;
 use ng_base::txt::Txt;
-use ng_lex::letters::space;
+use ng_lex::letters::{WhiteSpace, space};
 use std::alloc::{AllocError, Global};
 
 /// What a repeat's text is cut at.
@@ -35,20 +35,6 @@ fn past_word<'a>(word: &str, text: &Plain<'a>) -> Option<Plain<'a>>
     Some(reader)
 }
 
-/// What stands after the white space in front.
-fn past_space<'a>(text: &Plain<'a>) -> Plain<'a>
-    ensures { result ≡ without_front text.now }
-{
-    let mut reader = Plain::new(text.rest());
-    while let Some((c, rest)) = reader.first() {
-        if !space(c) {
-            return reader;
-        }
-        reader = rest;
-    }
-    reader
-}
-
 /// The text, where it begins with white space.
 fn spaced(text: Plain<'_>) -> Option<Plain<'_>>
     ensures { result ≡ spaced_on text.entry }
@@ -69,7 +55,7 @@ fn past_track_by<'a>(text: &Plain<'a>) -> Option<Plain<'a>>
     ensures { result ≡ after_track_by text.now }
 {
     let between = spaced(past_word("track", text)?)?;
-    spaced(past_word("by", &past_space(&between))?)
+    spaced(past_word("by", &trimming::past::<WhiteSpace>(between))?)
 }
 
 /// What stands after a divider, where the text begins with it and goes on with white space.
@@ -108,12 +94,5 @@ pub fn cut<'a>(
 pub fn blank(text: &str) -> bool
     ensures { result ≡ list_all is_space (chars text.now) }
 {
-    let mut reader = Plain::new(text);
-    while let Some((c, rest)) = reader.first() {
-        if !space(c) {
-            return false;
-        }
-        reader = rest;
-    }
-    true
+    trimming::only::<WhiteSpace>(Plain::new(text))
 }

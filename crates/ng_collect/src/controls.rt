@@ -1,24 +1,11 @@
 //! The elements on which `ng-model` stands (API: input; API: textarea).
-ghost use Rattle.std.specs.Prelude.{◌≡◌, map, option_copied, IfOk};
-ghost use Rattle.std.specs.Char.{to_ascii_lowercase};
+ghost use Rattle.std.specs.Prelude.{◌≡◌, option_copied, IfOk};
 ghost use Rattle.ng_collect.specs.Controls.{type_of as type_in, is_input_type as is_listed, is_typed as is_typed_of, is_control as is_control_of};
 
-use ng_base::reader::Plain;
+use ng_base::casing::lower;
 use ng_base::txt::Txt;
 use ng_html::attrs::Attrs;
 use std::alloc::{AllocError, Global};
-
-/// A text in lower case.
-fn lower(alloc: Global, text: &Txt) -> Result<Txt, AllocError>
-    ensures { IfOk result (λ t. t ≡ map to_ascii_lowercase text.now) }
-{
-    let mut done = Txt::new(alloc);
-    let mut reader = Plain::new(text.as_str());
-    while let Some(c) = reader.next() {
-        done.push(c.to_ascii_lowercase())?;
-    }
-    Ok(done)
-}
 
 /// The value of the attribute `type`.
 fn type_of(attrs: &Attrs) -> Option<&Txt>

@@ -1,7 +1,9 @@
 -- What a control shows (API: ngModel, "CSS classes"; API: input).
 use Rattle.std.specs.Prelude.{ℕ, Bool, true, false, not, List, [], ◌∷◌, codes, Option, None, Some, Result, Ok, if◌then◌else◌}
+use Rattle.std.specs.Char.{is_ascii_whitespace}
 use Rattle.ng_base.specs.Meets.{◌>>=◌}
 use Rattle.ng_base.specs.Objects.{Object}
+use Rattle.ng_base.specs.Trimming.{trimmed}
 use Rattle.ng_base.specs.Views.{ViewTree, prim}
 use Rattle.ng_base.specs.declared.fault.Fault.{Fault}
 use Rattle.ng_base.specs.declared.value.Value.{Value}
@@ -11,7 +13,7 @@ use Rattle.ng_control.specs.declared.kind.ControlKind.{ControlKind}
 use Rattle.ng_control.specs.declared.kind.ControlKind.TheVariants.{Text, Number, Checkbox}
 use Rattle.ng_control.specs.declared.kind.Typed.{Typed}
 use Rattle.ng_control.specs.State.{ControlState, standing}
-use Rattle.ng_control.specs.Typed.{trimmed, if_trimmed}
+use Rattle.ng_control.specs.Typed.{if_trimmed}
 
 -- the text of a model: none for undefined, null and NaN
 abbrev pub model_text : List Object → ViewTree → Result (List ℕ) Fault
@@ -35,7 +37,7 @@ is_nil (c ∷ cs) = false
 -- a typed text is empty where nothing is left of it once it is trimmed, where the control trims; a number always does
 abbrev pub is_typed_empty : ControlKind → List ℕ → Bool
 is_typed_empty (Text trim) t = is_nil (if_trimmed trim t)
-is_typed_empty Number t = is_nil (trimmed t)
+is_typed_empty Number t = is_nil (trimmed is_ascii_whitespace t)
 is_typed_empty Checkbox t = is_nil t
 
 -- a checkbox is checked where its model is true, and by nothing else

@@ -1,21 +1,16 @@
 -- What a typed text is read as (API: input[text], input[number]).
-use Rattle.std.specs.Prelude.{ℕ, ℤ, Bool, List, [], ◌∷◌, reverse, Option, None, Some, if◌then◌else◌}
+use Rattle.std.specs.Prelude.{ℕ, ℤ, Bool, List, [], ◌∷◌, Option, None, Some, if◌then◌else◌}
+use Rattle.std.specs.Char.{is_ascii_whitespace}
 use Rattle.std.specs.List.{list_any}
+use Rattle.ng_base.specs.Trimming.{trimmed}
 use Rattle.ng_base.specs.declared.value.Value.{Value}
 use Rattle.ng_base.specs.declared.value.Value.TheVariants as value
-use Rattle.ng_language.specs.Operators.{is_space, past_spaces, number_in}
+use Rattle.ng_language.specs.Operators.{number_in}
 use Rattle.ng_control.specs.declared.kind.ControlKind.{ControlKind}
 use Rattle.ng_control.specs.declared.kind.ControlKind.TheVariants.{Text, Number, Checkbox}
 
-abbrev pub without_back : List ℕ → List ℕ
-without_back t = reverse (past_spaces (reverse t))
-
--- a text without the white space round it
-abbrev pub trimmed : List ℕ → List ℕ
-trimmed t = without_back (past_spaces t)
-
 abbrev pub if_trimmed : Bool → List ℕ → List ℕ
-if_trimmed trim t = if trim then trimmed t else t
+if_trimmed trim t = if trim then trimmed is_ascii_whitespace t else t
 
 abbrev pub number_or_undefined : Option ℤ → Value
 number_or_undefined None = value.Undefined
@@ -23,7 +18,7 @@ number_or_undefined (Some n) = value.Int n
 
 -- a number is what the language reads, where no white space stands in it
 abbrev pub number_typed : List ℕ → Value
-number_typed t = if list_any is_space t then value.Undefined else number_or_undefined (number_in t)
+number_typed t = if list_any is_ascii_whitespace t then value.Undefined else number_or_undefined (number_in t)
 
 -- the empty text is no number, and no wrong one
 abbrev pub number_of : List ℕ → Value

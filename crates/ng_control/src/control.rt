@@ -12,12 +12,12 @@ ghost use Rattle.ng_control.specs.Typed.{parsed as parsed_of, TakesText, IsCheck
 
 use crate::kind::{ControlKind, Typed};
 use crate::model::{is_checked, is_undefined, model_text, while_model};
-use crate::reading::parsed;
-use crate::trim::{nil, trim};
+use crate::reading::{nil, parsed};
 use crate::words::state_classes;
 use ng_base::fault::{Fault, Memory};
 use ng_base::heap::Heap;
 use ng_base::lists::Words;
+use ng_base::trimming::{AsciiSpace, trim};
 use ng_base::txt::Txt;
 use ng_base::value::Value;
 use ng_base::view::View;
@@ -47,9 +47,9 @@ fn is_typed_empty(kind: ControlKind, text: &Txt) -> bool
     ensures { result ≡ is_typed_empty_of kind text.now }
 {
     match kind {
-        ControlKind::Text { trim: true } => nil(trim(text.as_str())),
+        ControlKind::Text { trim: true } => nil(trim::<AsciiSpace>(text.as_str())),
         ControlKind::Text { trim: false } => nil(text.as_str()),
-        ControlKind::Number => nil(trim(text.as_str())),
+        ControlKind::Number => nil(trim::<AsciiSpace>(text.as_str())),
         ControlKind::Checkbox => nil(text.as_str()),
     }
 }

@@ -18,7 +18,6 @@ pub mod kind;
 pub mod laws;
 mod model;
 mod reading;
-mod trim;
 mod words;
 
 pub use control::Control;

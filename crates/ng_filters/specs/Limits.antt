@@ -1,10 +1,12 @@
 -- The filter `limitTo` (API: `limitTo`).
 use Rattle.std.specs.Prelude.{ℕ, suc, zero, ℤ, pos, negsuc, ◌+◌, ◌-◌, Bool, true, false, List, [], length, take, drop, Option, Some, None, if◌then◌else◌}
+use Rattle.std.specs.Char.{is_ascii_whitespace}
+use Rattle.std.specs.List.{list_all}
 use Rattle.ng_base.specs.Objects.{Object}
 use Rattle.ng_base.specs.Views.{ViewTree, prim, list, views_from}
 use Rattle.ng_base.specs.declared.value.Value.{Value}
 use Rattle.ng_base.specs.declared.value.Value.TheVariants as value
-use Rattle.ng_language.specs.Operators.{number_in, only_spaces}
+use Rattle.ng_language.specs.Operators.{number_in}
 use Rattle.ng_language.specs.Texts.{value_text}
 use Rattle.ng_filters.specs.declared.view_ref.Shape.{Shape}
 use Rattle.ng_filters.specs.declared.view_ref.Shape.TheVariants as shapes
@@ -13,7 +15,7 @@ use Rattle.ng_filters.specs.Parts.{shape_of, items}
 -- a limit or a begin as a whole number: a number, or a text of a sign and digits between white space
 abbrev pub whole : ViewTree → Option ℤ
 whole (prim (value.Int n)) = Some n
-whole (prim (value.Text t)) = if only_spaces t then None else number_in t
+whole (prim (value.Text t)) = if list_all is_ascii_whitespace t then None else number_in t
 whole t = None
 
 -- where the entries begin: below 0 from the end, and not before the first

@@ -1,6 +1,7 @@
 -- The filter `filter` (API: `filter`): which items match a pattern.
 use Rattle.std.specs.Prelude.{ℕ, zero, suc, Bool, true, false, not, List, [], ◌∷◌, ◌++◌, Option, Some, None, Result, Ok, Err, codes, ◌==◌, if◌then◌else◌}
 use Rattle.std.specs.Str.{bytes_eq}
+use Rattle.ng_base.specs.Codes.{exclamation_mark}
 use Rattle.ng_base.specs.Meets.{◌>>=◌}
 use Rattle.ng_base.specs.Objects.{Object}
 use Rattle.ng_base.specs.Views.{ViewTree, prim, list, rec, views_from}
@@ -118,7 +119,7 @@ shape_matches shapes.Primitive objects ask t p any left = Ok (alone_matches t p,
 -- the rest of a pattern that begins with `!`
 abbrev pub negated_text : List ℕ → Option (List ℕ)
 negated_text [] = None
-negated_text (c ∷ cs) = if c == 33 then Some cs else None
+negated_text (c ∷ cs) = if c == exclamation_mark then Some cs else None
 
 abbrev pub negated : ViewTree → Option (List ℕ)
 negated (prim (value.Text t)) = negated_text t

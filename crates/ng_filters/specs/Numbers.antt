@@ -1,5 +1,6 @@
 -- The filters `number` and `json` (API: `number`, `json`).
 use Rattle.std.specs.Prelude.{ℕ, zero, suc, ℤ, pos, negsuc, ◌%◌, min, Bool, true, false, not, List, [], ◌∷◌, ◌++◌, length, Option, Some, None, Result, Ok, decimal, nat_le, ◌==◌, ◌&&◌, if◌then◌else◌}
+use Rattle.ng_base.specs.Codes.{comma, hyphen, full_stop, digit_zero}
 use Rattle.ng_base.specs.Meets.{◌>>=◌}
 use Rattle.ng_base.specs.Objects.{Object}
 use Rattle.ng_base.specs.Views.{ViewTree, prim}
@@ -12,7 +13,7 @@ use Rattle.ng_filters.specs.Parts.{undefined}
 
 -- a comma stands where three, six, nine .. digits follow
 abbrev pub with_comma : ℕ → List ℕ → List ℕ
-with_comma left cs = if left == 0 then cs else (if left % 3 == 0 then 44 ∷ cs else cs)
+with_comma left cs = if left == 0 then cs else (if left % 3 == 0 then comma ∷ cs else cs)
 
 abbrev pub grouped : List ℕ → List ℕ
 grouped [] = []
@@ -21,15 +22,15 @@ grouped (d ∷ ds) = d ∷ with_comma (length ds) (grouped ds)
 -- a number with its digits in groups of three
 abbrev pub grouped_number : ℤ → List ℕ
 grouped_number (pos n) = grouped (decimal n)
-grouped_number (negsuc n) = 45 ∷ grouped (decimal (suc n))
+grouped_number (negsuc n) = hyphen ∷ grouped (decimal (suc n))
 
 abbrev pub zeros : ℕ → List ℕ
 zeros zero = []
-zeros (suc n) = 48 ∷ zeros n
+zeros (suc n) = digit_zero ∷ zeros n
 
 -- the places behind the point: as many zeros as a whole number from 1 to 20 says, and else not even a point
 abbrev pub fraction : ViewTree → List ℕ
-fraction (prim (value.Int (pos n))) = if nat_le 1 n && nat_le n 20 then 46 ∷ zeros n else []
+fraction (prim (value.Int (pos n))) = if nat_le 1 n && nat_le n 20 then full_stop ∷ zeros n else []
 fraction t = []
 
 -- NaN is the empty text

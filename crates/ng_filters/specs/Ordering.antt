@@ -5,6 +5,7 @@ use Rattle.std.specs.Ordering.{nat_cmp, int_cmp, on, then_cmp, flip_args, is_lt,
 use Rattle.std.specs.Cmp.Lexicographic.{slice_cmp}
 use Rattle.std.specs.declared.cmp.Ordering.{Ordering}
 use Rattle.std.specs.declared.cmp.Ordering.TheVariants.{Less, Equal, Greater}
+use Rattle.ng_base.specs.Codes.{plus_sign, hyphen, full_stop}
 use Rattle.ng_base.specs.Meets.{◌>>=◌}
 use Rattle.ng_base.specs.Objects.{Object}
 use Rattle.ng_base.specs.Views.{ViewTree, prim, list, rec, views_from}
@@ -28,7 +29,7 @@ is_name (c ∷ cs) = begins_name c && list_all is_in_name cs
 -- the parts of a path between its points, behind the characters of one that was begun
 abbrev pub parts_in : List ℕ → List ℕ → List (List ℕ)
 parts_in part [] = part ∷ []
-parts_in part (c ∷ cs) = if c == 46 then part ∷ parts_in [] cs else parts_in (part ++ c ∷ []) cs
+parts_in part (c ∷ cs) = if c == full_stop then part ∷ parts_in [] cs else parts_in (part ++ c ∷ []) cs
 
 abbrev pub if_names : List (List ℕ) → Result (List (List ℕ)) Fault
 if_names parts = if list_all is_name parts then Ok parts else Err Syntax
@@ -44,7 +45,7 @@ with_path falling t = path_in t >>= λ path. Ok (record { falling = falling; pat
 -- a sign, of which `-` is for falling, and a path
 abbrev pub predicate_in : List ℕ → Result Predicate Fault
 predicate_in [] = with_path false []
-predicate_in (c ∷ cs) = if c == 43 then with_path false cs else (if c == 45 then with_path true cs else with_path false (c ∷ cs))
+predicate_in (c ∷ cs) = if c == plus_sign then with_path false cs else (if c == hyphen then with_path true cs else with_path false (c ∷ cs))
 
 -- what is no text stands for the item itself
 abbrev pub predicate_of : ViewTree → Result Predicate Fault

@@ -2,41 +2,14 @@
 ghost use Rattle.std.specs.Prelude.{◌≡◌, IfOk, IfErr};
 ghost use Rattle.ng_base.specs.ViewOf.{view_of};
 ghost use Rattle.ng_base.specs.declared.fault.Memory.TheVariants.{Refused};
-ghost use Rattle.ng_filters.specs.Casing.{upper, lower, uppercase, lowercase};
+ghost use Rattle.ng_filters.specs.Casing.{uppercase, lowercase};
 
+use ng_base::casing::{lower, upper};
 use ng_base::fault::Memory;
-use ng_base::reader::Plain;
-use ng_base::txt::Txt;
 use ng_base::value::Value;
 use ng_base::view::View;
 use ng_value::copies::copied;
 use std::alloc::Global;
-
-/// A text with its ASCII letters in upper case.
-fn upper(alloc: Global, t: &Txt) -> Result<Txt, Memory>
-    ensures text { IfOk result (λ u. u ≡ upper t.now) }
-    ensures refused { IfErr result (λ e. e ≡ Refused) }
-{
-    let mut out = Txt::new(alloc);
-    let mut reader = Plain::new(t.as_str());
-    while let Some(c) = reader.next() {
-        out.push(c.to_ascii_uppercase())?;
-    }
-    Ok(out)
-}
-
-/// A text with its ASCII letters in lower case.
-pub(crate) fn lower(alloc: Global, t: &Txt) -> Result<Txt, Memory>
-    ensures text { IfOk result (λ u. u ≡ lower t.now) }
-    ensures refused { IfErr result (λ e. e ≡ Refused) }
-{
-    let mut out = Txt::new(alloc);
-    let mut reader = Plain::new(t.as_str());
-    while let Some(c) = reader.next() {
-        out.push(c.to_ascii_lowercase())?;
-    }
-    Ok(out)
-}
 
 /// A text in upper case, and all else itself.
 pub(crate) fn uppercase(alloc: Global, v: &View) -> Result<View, Memory>

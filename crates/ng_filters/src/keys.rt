@@ -6,8 +6,8 @@ ghost use Rattle.ng_base.specs.declared.fault.Memory.TheVariants.{Refused};
 ghost use Rattle.ng_filters.specs.Ordering.{key_of, key_cmp};
 ghost use Rattle.ng_filters.specs.Seen.{seen};
 
-use crate::casing::lower;
 use crate::view_ref::ViewRef;
+use ng_base::casing::lower;
 use ng_base::fault::Memory;
 use ng_base::reader::Plain;
 use ng_base::txt::Txt;

@@ -4,7 +4,6 @@ ghost use Rattle.ng_base.specs.Views.{prim, views_list};
 ghost use Rattle.ng_base.specs.declared.value.Value.TheVariants.{Text as TextOf};
 ghost use Rattle.ng_base.specs.ViewOf.{view_of, views_of};
 ghost use Rattle.ng_base.specs.declared.fault.Memory.TheVariants.{Refused};
-ghost use Rattle.ng_language.specs.Operators.{is_space, only_spaces};
 ghost use Rattle.ng_language.specs.Views.{ViewStands};
 ghost use Rattle.ng_filters.specs.Parts.{items};
 ghost use Rattle.ng_filters.specs.Limits.{whole, begin_at, window, part, part_of_primitive, limited};
@@ -14,6 +13,7 @@ use crate::parts::{copied_item, count};
 use crate::view_ref::{Shape, ViewRef, of_view, shape_of};
 use ng_base::fault::Memory;
 use ng_base::reader::Plain;
+use ng_base::trimming::{AsciiSpace, only};
 use ng_base::txt::Txt;
 use ng_base::value::Value;
 use ng_base::view::{View, Views};
@@ -22,33 +22,19 @@ use ng_value::copies::copied;
 use ng_value::numbers::view_num;
 use std::alloc::Global;
 
-/// Space, tab, LF, FF, CR.
-fn is_space(c: char) -> bool
-    ensures { result ≡ is_space c }
-{
-    c == ' ' || c == '\t' || c == '\n' || c == '\u{c}' || c == '\r'
-}
-
-/// Whether a text is white space alone.
-fn only_spaces(t: &Txt) -> bool
-    ensures { result ≡ only_spaces t.now }
-{
-    let mut reader = Plain::new(t.as_str());
-    while let Some(c) = reader.next() {
-        if !is_space(c) {
-            return false;
-        }
-    }
-    true
-}
-
 /// A limit or a begin as a whole number.
 fn whole(v: &View) -> Option<i64>
     ensures { result ≡ whole (view_of v.now) }
 {
     match v {
         View::Prim(Value::Int(n)) => Some(*n),
-        View::Prim(Value::Text(t)) => { if only_spaces(t) { None } else { view_num(v) } }
+        View::Prim(Value::Text(t)) => {
+            if only::<AsciiSpace>(Plain::new(t.as_str())) {
+                None
+            } else {
+                view_num(v)
+            }
+        }
         _ => None,
     }
 }

@@ -7,8 +7,8 @@ use Rattle.ng_act.specs.State.{State, Run, handed, with_locals}
 use Rattle.ng_base.specs.Views.{ViewTree}
 use Rattle.ng_base.specs.declared.fault.Fault.{Fault}
 use Rattle.ng_language.specs.Trees.{Trees}
-use Rattle.ng_fire.proofs.Rising.{mark, Rises, destroys-rises}
-use Rattle.ng_fire.proofs.RisingPrograms.{does-rises, statements-rises}
+use Rattle.ng_fire.proofs.Rising.{mark, Rises}
+use Rattle.ng_fire.proofs.RisingPrograms.{does-rises, statements-rises, destroys-rises}
 use Rattle.ng_fire.specs.Runs.{asked_first, program_run, destroyed}
 
 value_state : (s : State) (o : Result ViewTree Fault) → (as_value_run (s, o)).0 ≡ s
@@ -48,12 +48,12 @@ unfolding program_run
 program_rises scope p c =
     let d : State = with_locals [] c in
     let r : Run ViewTree = programmed (does 64) scope p d in
-    subst (λ (s : State). Rises (mark c) (mark s)) (sym (value_run_state r)) (statements-rises (does 64) (does-rises 64) scope nothing p d)
+    subst (λ (s : State). Rises (mark c) (mark s)) (sym (value_run_state r)) (statements-rises 64 scope nothing p d)
 
 -- nor does the death of a scope
 pub destroyed_rises : (scope : ℕ) (c : State) → Rises (mark c) (mark (destroyed scope c))
 unfolding destroyed
-destroyed_rises scope c = destroys-rises (does 64) (does-rises 64) scope c
+destroyed_rises scope c = destroys-rises 64 scope c
 
 pub destroyed_is : (scope : ℕ) (c : State) (n : ℕ) → n ≡ 0 → destroys (does (64 - n)) scope c ≡ destroyed scope c
 unfolding destroyed

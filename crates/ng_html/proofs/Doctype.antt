@@ -7,7 +7,8 @@ use Rattle.ng_base.specs.Cells.{Cell}
 use Rattle.ng_base.proofs.Binds.{if_true, if_false, if_held}
 use Rattle.ng_markup.specs.Tables.{is_void}
 use Rattle.ng_markup.specs.Forest.{Forest, Attributes, element, text, comment, no_nodes, node, text_char, print_attribute, print_start, print_end, print_node, print}
-use Rattle.ng_tags.specs.Letters.{is_letter, is_space, lower}
+use Rattle.std.specs.Char.{is_ascii_alphabetic}
+use Rattle.ng_tags.specs.Letters.{is_space, lower}
 use Rattle.ng_tags.specs.Skips.{past_spaces, past_word}
 use Rattle.ng_tags.specs.Lexing.{doctype_at, doctype_behind, after_doctype}
 use Rattle.ng_tags.specs.Spelling.{chars_of}
@@ -85,7 +86,7 @@ other_none c ys h s = subst NoDoctype (sym (if_false (is_space c) (unspaced ys) 
     by (d ∷ []) = inl h
     by (d ∷ e ∷ ys) = inl h
 
-letter_none : (c : ℕ) → is_letter c ≡ true → (lower c == 33) ≡ false
+letter_none : (c : ℕ) → is_ascii_alphabetic c ≡ true → (lower c == 33) ≡ false
 letter_none c h = grind (arith, nat_tests, h)
 
 start_none : (n : List ℕ) (a : Attributes) (ys : List ℕ) → IsReadName n → IsBehindNone (print_start n a ++ ys)

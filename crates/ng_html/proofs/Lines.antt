@@ -7,7 +7,8 @@ use Rattle.ng_base.specs.Cells.{Cell}
 use Rattle.ng_base.proofs.Binds.{if_held}
 use Rattle.ng_markup.specs.Tables.{is_void}
 use Rattle.ng_markup.specs.Forest.{Node, Forest, Attributes, element, text, comment, no_nodes, node, text_char, value_char, print_attribute, print_start, print_end, print_node, print}
-use Rattle.ng_tags.specs.Letters.{is_letter, is_in_name}
+use Rattle.std.specs.Char.{is_ascii_alphabetic}
+use Rattle.ng_tags.specs.Letters.{is_in_name}
 use Rattle.ng_tags.specs.Spelling.{chars_of, IsName}
 use Rattle.ng_html.specs.Building.{content}
 use Rattle.ng_html.proofs.ReadTexts.{both, both_true, is_value_char}
@@ -59,7 +60,7 @@ value_line : (t : List ℕ) → list_all is_value_char t ≡ true → AreLine (f
 value_line [] h = refl
 value_line (c ∷ t) h = let b = both_true (is_value_char c) (list_all is_value_char t) h in all_append (value_char c) (flat_map value_char t) (value_char_line c b.0) (value_line t b.1)
 
-letter_line : (c : ℕ) → is_letter c ≡ true → is_line_char c ≡ true
+letter_line : (c : ℕ) → is_ascii_alphabetic c ≡ true → is_line_char c ≡ true
 letter_line c h = grind (arith, nat_tests, h)
 
 in_name_line : (c : ℕ) → is_in_name c ≡ true → is_line_char c ≡ true

@@ -6,7 +6,8 @@ use Rattle.std.specs.List.{list_all, flat_map}
 use Rattle.ng_base.specs.Cells.{Cell}
 use Rattle.ng_markup.specs.Tables.{is_raw}
 use Rattle.ng_markup.specs.Forest.{Attributes, comment, text_char, value_char, print_attribute, print_start, print_end, print_node}
-use Rattle.ng_tags.specs.Letters.{is_letter, is_in_attribute, begins_tag, lower}
+use Rattle.std.specs.Char.{is_ascii_alphabetic}
+use Rattle.ng_tags.specs.Letters.{is_in_attribute, begins_tag, lower}
 use Rattle.ng_tags.specs.Texts.{ends, past_end_tag}
 use Rattle.ng_tags.specs.Attributes.{with_attribute}
 use Rattle.ng_tags.specs.Lexing.{as_space}
@@ -54,7 +55,7 @@ end_begins n = (47, n ++ codes ">", refl, refl)
 pub comment_begins : (t : List ℕ) → BeginsTag (print_node (comment t))
 comment_begins t = (33, 45 ∷ 45 ∷ (t ++ codes "-->"), refl, refl)
 
-letter_begins : (c : ℕ) → is_letter c ≡ true → begins_tag c ≡ true
+letter_begins : (c : ℕ) → is_ascii_alphabetic c ≡ true → begins_tag c ≡ true
 letter_begins c h = grind (arith, nat_tests, h)
 
 pub start_begins : (n : List ℕ) (a : Attributes) → IsReadName n → BeginsTag (print_start n a)

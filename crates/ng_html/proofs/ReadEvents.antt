@@ -12,7 +12,8 @@ use Rattle.ng_base.specs.Order.{txt_cmp}
 use Rattle.ng_base.proofs.Binds.{if_held}
 use Rattle.ng_markup.specs.Tables.{is_left_out}
 use Rattle.ng_markup.specs.Forest.{Attributes}
-use Rattle.ng_tags.specs.Letters.{is_letter, is_in_name, is_in_attribute, lower}
+use Rattle.std.specs.Char.{is_ascii_alphabetic}
+use Rattle.ng_tags.specs.Letters.{is_in_name, is_in_attribute, lower}
 use Rattle.ng_tags.specs.Attributes.{has_attribute, with_attribute}
 use Rattle.ng_tags.specs.Lexing.{as_space}
 use Rattle.ng_tags.specs.Spelling.{chars_of, Reads, itself, no_more, by_reference, ampersand, IsName, Valued, no_value, bare, quoted, IsAttribute, AreAttributes, ends_open, ends_closed, space_then, attribute_then, IsStartTag, IsRaw, IsComment, Lexeme}
@@ -56,7 +57,7 @@ IsRead (event.Text t p) = (t ≢ []) × (list_all is_value_char t ≡ true)
 IsRead (event.Comment t p) = (list_all is_line_char t ≡ true) × NeverEnds t
 
 -- names in small letters
-lower_letter : (c : ℕ) → is_letter c ≡ true → is_letter (lower c) ≡ true
+lower_letter : (c : ℕ) → is_ascii_alphabetic c ≡ true → is_ascii_alphabetic (lower c) ≡ true
 lower_letter c h = grind (arith, nat_tests)
 
 lower_name : (c : ℕ) → is_in_name c ≡ true → is_in_name (lower c) ≡ true

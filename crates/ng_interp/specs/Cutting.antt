@@ -1,5 +1,6 @@
 -- A text is cut at its holes: `{{` up to the next `}}`. Without a later `}}` a `{{` is plain.
 use Rattle.std.specs.Prelude.{ℕ, ◌==◌, ◌&&◌, Bool, List, [], ◌∷◌, ◌++◌, length, Option, None, Some, is_some, encode_utf8_all, if◌then◌else◌}
+use Rattle.ng_base.specs.Codes.{open_brace, close_brace}
 use Rattle.ng_base.specs.Cells.{place}
 use Rattle.ng_interp.specs.declared.cutting.Cut.{Cut}
 use Rattle.ng_interp.specs.declared.cutting.Cut.TheVariants.{Words, Hole}
@@ -7,12 +8,12 @@ use Rattle.ng_interp.specs.declared.cutting.Opened.{Opened}
 
 -- a pair of marks: `{{` outside of a hole, `}}` inside of one
 abbrev pub is_pair : Bool → ℕ → ℕ → Bool
-is_pair inside c d = (c == (if inside then 125 else 123)) && (d == c)
+is_pair inside c d = (c == (if inside then close_brace else open_brace)) && (d == c)
 
 -- the text ends: a hole that is open then was none
 abbrev pub last_cut : Option Opened → List ℕ → Cut
 last_cut None t = Words t
-last_cut (Some o) t = Words (o.before ++ 123 ∷ 123 ∷ t)
+last_cut (Some o) t = Words (o.before ++ open_brace ∷ open_brace ∷ t)
 
 -- behind a pair of marks
 abbrev pub cuts_behind : List Cut → Option Opened → List ℕ → List Cut
@@ -38,4 +39,4 @@ cuts_of t = cut_from (length (encode_utf8_all t)) [] None [] t
 -- the text of a cut as it was written
 abbrev pub written : Cut → List ℕ
 written (Words t) = t
-written (Hole p t) = 123 ∷ 123 ∷ (t ++ 125 ∷ 125 ∷ [])
+written (Hole p t) = open_brace ∷ open_brace ∷ (t ++ close_brace ∷ close_brace ∷ [])

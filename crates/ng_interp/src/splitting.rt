@@ -2,7 +2,7 @@
 ghost use Rattle.std.specs.Prelude.{◌≡◌, ◌∷◌, [], IfOk, MatchOption, Ok};
 ghost use Rattle.std.specs.Str.{chars};
 ghost use Rattle.ng_base.specs.Meets.{Gives};
-ghost use Rattle.ng_language.specs.OneTime.{without_front, one_time_of};
+ghost use Rattle.ng_language.specs.OneTime.{one_time_of};
 ghost use Rattle.ng_parse.specs.ProgramOf.{program};
 ghost use Rattle.ng_interp.specs.Parts.{piece_of, pieces_of, is_free, has_hole, is_hole, behind_first, expression_on, bytes_before, place_behind, lex_fault, parse_fault, expression_at, hole_at, piece_at, pieces_on, pieces_in, joined};
 ghost use Rattle.ng_interp.specs.PartSpelling.{AreParts};
@@ -13,10 +13,11 @@ use crate::pieces::{InterpFault, InterpKind, Part, Parts};
 use ng_base::fault::Memory;
 use ng_base::lists::Words;
 use ng_base::reader::Plain;
+use ng_base::trimming::past;
 use ng_base::txt::Txt;
 use ng_language::syntax::{LexFault, LexKind, ParseFault, ParseKind};
-use ng_lex::letters::space;
-use ng_lex::lex;
+use ng_lex::letters::WhiteSpace;
+use ng_lex::{Tokens, lex_into};
 use ng_parse::{Program, one_time, parse};
 use std::alloc::Global;
 
@@ -32,20 +33,6 @@ pub fn any_hole(cuts: &[Cut]) -> bool
     false
 }
 
-/// What stands after the white space in front.
-fn past_space<'a>(text: &Plain<'a>) -> Plain<'a>
-    ensures { result ≡ without_front text.now }
-{
-    let mut reader = Plain::new(text.rest());
-    while let Some((c, rest)) = reader.first() {
-        if !space(c) {
-            return reader;
-        }
-        reader = rest;
-    }
-    reader
-}
-
 /// What stands after the first character.
 fn past_first<'a>(text: Plain<'a>) -> Plain<'a>
     ensures { result ≡ behind_first text.entry }
@@ -57,12 +44,12 @@ fn past_first<'a>(text: Plain<'a>) -> Plain<'a>
 }
 
 /// A hole's text from its expression on.
-fn from_expression<'a>(once: bool, text: &Plain<'a>) -> Plain<'a>
-    ensures { result ≡ expression_on once text.now }
+fn from_expression(once: bool, text: Plain<'_>) -> Plain<'_>
+    ensures { result ≡ expression_on once text.entry }
 {
-    let inner = past_space(text);
+    let inner = past::<WhiteSpace>(text);
     if once {
-        past_space(&past_first(past_first(inner)))
+        past::<WhiteSpace>(past_first(past_first(inner)))
     } else {
         inner
     }
@@ -72,7 +59,7 @@ fn from_expression<'a>(once: bool, text: &Plain<'a>) -> Plain<'a>
 fn before_expression(once: bool, text: &Txt) -> usize
     ensures { result ≡ bytes_before once text.now }
 {
-    let expression = from_expression(once, &Plain::new(text.as_str()));
+    let expression = from_expression(once, Plain::new(text.as_str()));
     text.as_str().len().saturating_sub(expression.left())
 }
 
@@ -111,31 +98,46 @@ fn of_parser(place: u64, fault: ParseFault) -> InterpFault
 }
 
 /// The program of an expression that begins at a place of the text.
-fn read_expression(alloc: Global, place: u64, text: &str) -> Result<Program, InterpFault>
+fn read_expression(
+    alloc: Global,
+    tokens: &mut Tokens,
+    place: u64,
+    text: &str,
+) -> Result<Program, InterpFault>
     ensures { Gives is_free program (expression_at place (chars text.now)) result }
 {
-    match lex(alloc, text) {
+    match lex_into(alloc, tokens, text) {
         Err(fault) => Err(of_lexer(place, fault)),
-        Ok(tokens) => match parse(alloc, &tokens) {
+        Ok(()) => match parse(alloc, tokens) {
             Err(fault) => Err(of_parser(place, fault)),
             Ok(program) => Ok(program),
         },
     }
 }
 
-/// The hole with this text, which begins at a place.
-pub fn read_hole(alloc: Global, place: usize, text: &Txt) -> Result<Part, InterpFault>
+/// The hole with this text, which begins at a place. The list of its tokens is one that a hole before had.
+pub fn read_hole(
+    alloc: Global,
+    tokens: &mut Tokens,
+    place: usize,
+    text: &Txt,
+) -> Result<Part, InterpFault>
     ensures { Gives is_free piece_of (hole_at place text.now) result }
 {
     let (one_time, expression) = one_time(text.as_str());
     let before = before_expression(one_time, text) as u64;
     let place = (place as u64).saturating_add(before);
-    let program = read_expression(alloc, place, expression)?;
+    let program = read_expression(alloc, tokens, place, expression)?;
     Ok(Part::Hole { one_time, program })
 }
 
 /// The part of a cut of a text, in which escapes are read or not.
-pub fn read_part(alloc: Global, escapes: bool, cut: &Cut) -> Result<Part, InterpFault>
+pub fn read_part(
+    alloc: Global,
+    tokens: &mut Tokens,
+    escapes: bool,
+    cut: &Cut,
+) -> Result<Part, InterpFault>
     ensures { Gives is_free piece_of (piece_at escapes cut.now) result }
 {
     match cut {
@@ -146,7 +148,7 @@ pub fn read_part(alloc: Global, escapes: bool, cut: &Cut) -> Result<Part, Interp
                 Ok(Part::Words(text.copied()?))
             }
         }
-        Cut::Hole(place, text) => read_hole(alloc, *place, text),
+        Cut::Hole(place, text) => read_hole(alloc, tokens, *place, text),
     }
 }
 
@@ -155,8 +157,9 @@ fn read_parts(alloc: Global, escapes: bool, cuts: &[Cut]) -> Result<Parts, Inter
     ensures { Gives is_free pieces_of (pieces_on escapes [] cuts.now) result }
 {
     let mut parts = Parts::new(alloc);
+    let mut tokens = Tokens::new(alloc);
     for cut in cuts {
-        let part = read_part(alloc, escapes, cut)?;
+        let part = read_part(alloc, &mut tokens, escapes, cut)?;
         parts.push(part)?;
     }
     Ok(parts)

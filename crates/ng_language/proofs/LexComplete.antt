@@ -5,7 +5,8 @@ use Rattle.std.specs.Prelude.{Some, None, Result, Ok, Err, ◌⊎◌}
 use Rattle.std.specs.List.{list_all}
 use Rattle.ng_base.specs.Cells.{place}
 use Rattle.ng_base.proofs.Binds.{if_true, if_false}
-use Rattle.ng_language.specs.Letters.{is_space, is_digit, begins_name, is_in_name, is_quote, goes_on, is_hex, hex_value, is_surrogate, escaped}
+use Rattle.std.specs.Char.{is_ascii_digit}
+use Rattle.ng_language.specs.Letters.{is_space, begins_name, is_in_name, is_quote, goes_on, is_hex, hex_value, is_surrogate, escaped}
 use Rattle.ng_language.specs.Lexing.{refusal, name_run, with_digit, digit_run, ends_number, is_closed, hex_step, scalar, unicode, escape, character, text_run, text_at, next_is, digit_next, named, token_at, lexes, lexed}
 use Rattle.ng_language.specs.Spelling.{spelled, lengthens, Stops, MayFollow, value_on, four_hex, IsName, IsNumber, IsCharacter, IsText, Lexeme, Written}
 use Rattle.ng_language.specs.declared.syntax.Sign.{Sign}
@@ -41,12 +42,12 @@ name_run_on n (c ∷ w) cs h s =
 abbrev counts : ℕ → List ℕ → ℕ × List ℕ
 counts n cs = (n, cs)
 
-digit_run_on : (n : ℕ) (w cs : List ℕ) → list_all is_digit w ≡ true → Stops is_digit cs → digit_run n (w ++ cs) ≡ (capped_on n w, cs)
+digit_run_on : (n : ℕ) (w cs : List ℕ) → list_all is_ascii_digit w ≡ true → Stops is_ascii_digit cs → digit_run n (w ++ cs) ≡ (capped_on n w, cs)
 digit_run_on n [] [] h s = refl
-digit_run_on n [] (c ∷ cs) h s = if_false (is_digit c) (digit_run (with_digit n c) cs) (n, c ∷ cs) s
+digit_run_on n [] (c ∷ cs) h s = if_false (is_ascii_digit c) (digit_run (with_digit n c) cs) (n, c ∷ cs) s
 digit_run_on n (c ∷ w) cs h s =
-    let b = both_true (is_digit c) (list_all is_digit w) h in
-    if_true (is_digit c) (digit_run (with_digit n c) (w ++ cs)) (n, c ∷ (w ++ cs)) b.0 ∙ digit_run_on (with_digit n c) w cs b.1 s
+    let b = both_true (is_ascii_digit c) (list_all is_ascii_digit w) h in
+    if_true (is_ascii_digit c) (digit_run (with_digit n c) (w ++ cs)) (n, c ∷ (w ++ cs)) b.0 ∙ digit_run_on (with_digit n c) w cs b.1 s
 
 -- the first character of a token
 record Begins (total p : ℕ) (t : Token) (us vs : List ℕ) : Type 0 where
@@ -59,10 +60,10 @@ record Begins (total p : ℕ) (t : Token) (us vs : List ℕ) : Type 0 where
 name_dark : (c : ℕ) → begins_name c ≡ true → is_space c ≡ false
 name_dark c h = grind (arith, nat_tests)
 
-digit_dark : (c : ℕ) → is_digit c ≡ true → is_space c ≡ false
+digit_dark : (c : ℕ) → is_ascii_digit c ≡ true → is_space c ≡ false
 digit_dark c h = grind (arith, nat_tests)
 
-digit_no_name : (c : ℕ) → is_digit c ≡ true → begins_name c ≡ false
+digit_no_name : (c : ℕ) → is_ascii_digit c ≡ true → begins_name c ≡ false
 digit_no_name c h = grind (arith, nat_tests)
 
 name_begins : (total p : ℕ) (n us vs : List ℕ) → us ≡ n → IsName n → Stops is_in_name vs → Begins total p (token.Name n) us vs
@@ -75,15 +76,15 @@ name_begins total p (c ∷ w) us vs h i s = record {
   read = if_true (begins_name c) (named (name_run (c ∷ []) (w ++ vs))) _ i.0 ∙ ap named (name_run_on (c ∷ []) w vs i.1 s);
 }
 
-digit_stops : (cs : List ℕ) → Stops (λ c. is_digit c || goes_on c) cs → Stops is_digit cs
+digit_stops : (cs : List ℕ) → Stops (λ c. is_ascii_digit c || goes_on c) cs → Stops is_ascii_digit cs
 digit_stops [] s = tt
-digit_stops (c ∷ cs) s = (neither (is_digit c) (goes_on c) s).0
+digit_stops (c ∷ cs) s = (neither (is_ascii_digit c) (goes_on c) s).0
 
-number_ends : (cs : List ℕ) → Stops (λ c. is_digit c || goes_on c) cs → ends_number cs ≡ true
+number_ends : (cs : List ℕ) → Stops (λ c. is_ascii_digit c || goes_on c) cs → ends_number cs ≡ true
 number_ends [] s = refl
-number_ends (c ∷ cs) s = if_false (goes_on c) false true (neither (is_digit c) (goes_on c) s).1
+number_ends (c ∷ cs) s = if_false (goes_on c) false true (neither (is_ascii_digit c) (goes_on c) s).1
 
-number_begins : (total p n : ℕ) (us vs : List ℕ) → IsNumber n us → Stops (λ c. is_digit c || goes_on c) vs → Begins total p (token.Number n) us vs
+number_begins : (total p n : ℕ) (us vs : List ℕ) → IsNumber n us → Stops (λ c. is_ascii_digit c || goes_on c) vs → Begins total p (token.Number n) us vs
 number_begins total p n [] vs i s = absurd i
 number_begins total p n (c ∷ w) vs i s =
     let first : 10 * 0 + (c - 48) ≡ c - 48 = omega arith in
@@ -226,8 +227,8 @@ text_run_on total (suc k) q before (d ∷ t) us rest i s l =
 quote_no_name : (q : ℕ) → IsQuote q → begins_name q ≡ false
 quote_no_name q i = elim i [ inl e ↦ ap begins_name e | inr e ↦ ap begins_name e ]
 
-quote_no_digit : (q : ℕ) → IsQuote q → is_digit q ≡ false
-quote_no_digit q i = elim i [ inl e ↦ ap is_digit e | inr e ↦ ap is_digit e ]
+quote_no_digit : (q : ℕ) → IsQuote q → is_ascii_digit q ≡ false
+quote_no_digit q i = elim i [ inl e ↦ ap is_ascii_digit e | inr e ↦ ap is_ascii_digit e ]
 
 quote_dark : (q : ℕ) → IsQuote q → is_space q ≡ false
 quote_dark q i = elim i [ inl e ↦ ap is_space e | inr e ↦ ap is_space e ]
@@ -253,7 +254,7 @@ next_none : (c : ℕ) (cs : List ℕ) → Stops (λ d. nat_eq d c) cs → next_i
 next_none c [] h = refl
 next_none c (d ∷ cs) h = if_false (nat_eq d c) (Some cs) None h
 
-digit_not_next : (cs : List ℕ) → Stops is_digit cs → digit_next cs ≡ false
+digit_not_next : (cs : List ℕ) → Stops is_ascii_digit cs → digit_next cs ≡ false
 digit_not_next [] h = refl
 digit_not_next (c ∷ cs) h = h
 

@@ -6,7 +6,8 @@ use Rattle.std.specs.List.{list_all}
 use Rattle.ng_base.specs.Cells.{place}
 use Rattle.ng_base.specs.Meets.{◌>>=◌}
 use Rattle.ng_base.proofs.Binds.{bind_ok, chosen, guarded}
-use Rattle.ng_language.specs.Letters.{is_digit, begins_name, is_in_name, is_quote, goes_on, is_hex, hex_value, is_surrogate, escaped}
+use Rattle.std.specs.Char.{is_ascii_digit}
+use Rattle.ng_language.specs.Letters.{begins_name, is_in_name, is_quote, goes_on, is_hex, hex_value, is_surrogate, escaped}
 use Rattle.ng_language.specs.Lexing.{refusal, name_run, with_digit, digit_run, ends_number, number, is_closed, hex_step, scalar, unicode, escape, character, text_run, text_at, named}
 use Rattle.ng_language.specs.Spelling.{Stops, MayFollow, value_on, four_hex, IsCharacter, IsText, Lexeme}
 use Rattle.ng_language.specs.declared.syntax.Token.{Token}
@@ -55,14 +56,14 @@ capped_on n [] = n
 capped_on n (c ∷ cs) = capped_on (with_digit n c) cs
 
 abbrev DigitRun : ℕ → ℕ → List ℕ → List ℕ → Type 0
-DigitRun n m cs rest = (r : Run is_digit cs rest) × (m ≡ capped_on n r.w)
+DigitRun n m cs rest = (r : Run is_ascii_digit cs rest) × (m ≡ capped_on n r.w)
 
 digit_runs : (n m : ℕ) (cs rest : List ℕ) → digit_run n cs ≡ (m, rest) → DigitRun n m cs rest
-digit_runs n m [] rest h = let left : [] ≡ rest = ap (λ p. p.1) h in (no_run is_digit [] rest left (subst (Stops is_digit) left tt), sym (ap (λ p. p.0) h))
+digit_runs n m [] rest h = let left : [] ≡ rest = ap (λ p. p.1) h in (no_run is_ascii_digit [] rest left (subst (Stops is_ascii_digit) left tt), sym (ap (λ p. p.0) h))
 digit_runs n m (c ∷ cs) rest h =
-    elim (chosen (is_digit c) (digit_run (with_digit n c) cs) (n, c ∷ cs) (m, rest) h) [
-      | inl g ↦ let r = digit_runs (with_digit n c) m cs rest g.1 in (one_run is_digit c cs rest g.0 r.0, r.1)
-      | inr g ↦ let left : c ∷ cs ≡ rest = ap (λ p. p.1) g.1 in (no_run is_digit (c ∷ cs) rest left (subst (Stops is_digit) left g.0), sym (ap (λ p. p.0) g.1))
+    elim (chosen (is_ascii_digit c) (digit_run (with_digit n c) cs) (n, c ∷ cs) (m, rest) h) [
+      | inl g ↦ let r = digit_runs (with_digit n c) m cs rest g.1 in (one_run is_ascii_digit c cs rest g.0 r.0, r.1)
+      | inr g ↦ let left : c ∷ cs ≡ rest = ap (λ p. p.1) g.1 in (no_run is_ascii_digit (c ∷ cs) rest left (subst (Stops is_ascii_digit) left g.0), sym (ap (λ p. p.0) g.1))
     ]
 
 digit_more : (n c : ℕ) → n ≤ 9007199254740991 → with_digit n c ≡ 10 * n + (c - 48)
@@ -137,15 +138,15 @@ name_lexed c cs rest t b h =
       follows = subst (Stops is_in_name) left r.0.stops;
     })
 
-ends_stops : (cs : List ℕ) → ends_number cs ≡ true → Stops is_digit cs → Stops (λ c. is_digit c || goes_on c) cs
+ends_stops : (cs : List ℕ) → ends_number cs ≡ true → Stops is_ascii_digit cs → Stops (λ c. is_ascii_digit c || goes_on c) cs
 ends_stops [] h s = tt
-ends_stops (c ∷ cs) h s = either_not (is_digit c) (goes_on c) s (not_on (goes_on c) h)
+ends_stops (c ∷ cs) h s = either_not (is_ascii_digit c) (goes_on c) s (not_on (goes_on c) h)
   where
     not_on : (b : Bool) → (if b then false else true) ≡ true → b ≡ false
     not_on true e = absurd (cc)
     not_on false e = refl
 
-pub number_lexed : (p c : ℕ) (cs rest : List ℕ) (t : Token) → is_digit c ≡ true → number p (digit_run (c - 48) cs) ≡ Ok (t, rest) → Lexed t (c ∷ cs) rest
+pub number_lexed : (p c : ℕ) (cs rest : List ℕ) (t : Token) → is_ascii_digit c ≡ true → number p (digit_run (c - 48) cs) ≡ Ok (t, rest) → Lexed t (c ∷ cs) rest
 number_lexed p c cs rest t d h =
     let r = digit_run (c - 48) cs in
     let g = guarded (nat_le r.0 9007199254740991) (if ends_number r.1 then answer (token.Number r.0) r.1 else Err (refusal kinds.Fraction p)) (refusal kinds.BigNumber p) (t, rest) h in
@@ -161,7 +162,7 @@ number_lexed p c cs rest t d h =
       w = q.0.w;
       whole = ap (λ xs. c ∷ xs) (q.0.whole ∙ ap (λ xs. q.0.w ++ xs) left);
       lexeme = (d, q.0.all, value, low);
-      follows = subst (Stops (λ c. is_digit c || goes_on c)) left (ends_stops r.1 f.0 q.0.stops);
+      follows = subst (Stops (λ c. is_ascii_digit c || goes_on c)) left (ends_stops r.1 f.0 q.0.stops);
     })
 
 -- texts

@@ -6,7 +6,8 @@ use Rattle.ng_base.specs.Cells.{place}
 use Rattle.ng_base.specs.Meets.{◌>>=◌}
 use Rattle.ng_base.proofs.Binds.{bind_ok, chosen}
 use Rattle.ng_language.specs.Choice.{when_some}
-use Rattle.ng_language.specs.Letters.{is_space, is_digit, begins_name, is_quote}
+use Rattle.std.specs.Char.{is_ascii_digit}
+use Rattle.ng_language.specs.Letters.{is_space, begins_name, is_quote}
 use Rattle.ng_language.specs.Lexing.{refusal, name_run, digit_run, number, text_at, next_is, longer, equal_signs, not_signs, single_sign, sign_at, digit_next, signed_token, named, token_at, lexes, lexed}
 use Rattle.ng_language.specs.Spelling.{spelled, lengthens, Stops, Written}
 use Rattle.ng_language.specs.declared.syntax.Sign.{Sign}
@@ -82,7 +83,7 @@ some_sign s = Some s
 one_sign : (s g : Sign) (c : ℕ) (cs rest : List ℕ) → c ∷ [] ≡ spelled s → cs ≡ rest → Stops (lengthens s) rest → some_sign s ≡ some_sign g → Lexed (token.Sign g) (c ∷ cs) rest
 one_sign s g c cs rest h e f same = let is : s ≡ g = cc in subst (λ (x : Sign). Lexed (token.Sign x) (c ∷ cs) rest) is (sign_is s c [] cs rest h e f)
 
-no_digit : (cs : List ℕ) → digit_next cs ≡ false → Stops is_digit cs
+no_digit : (cs : List ℕ) → digit_next cs ≡ false → Stops is_ascii_digit cs
 no_digit [] h = tt
 no_digit (c ∷ cs) h = h
 
@@ -110,7 +111,7 @@ single_lexed c cs rest g d h e =
                     | inr g7 ↦ elim (chosen (nat_eq c 44) (some_sign sign.Comma) (if nat_eq c 46 then Some sign.Dot else (if nat_eq c 40 then Some sign.OpenRound else (if nat_eq c 41 then Some sign.CloseRound else (if nat_eq c 91 then Some sign.OpenSquare else (if nat_eq c 93 then Some sign.CloseSquare else (if nat_eq c 123 then Some sign.OpenCurly else (if nat_eq c 125 then Some sign.CloseCurly else None))))))) (Some g) g7.1) [
                       | inl g8 ↦ one_sign sign.Comma g c cs rest (ap (λ x. x ∷ []) (code_is c 44 g8.0)) e (none_stops rest) g8.1
                       | inr g8 ↦ elim (chosen (nat_eq c 46) (some_sign sign.Dot) (if nat_eq c 40 then Some sign.OpenRound else (if nat_eq c 41 then Some sign.CloseRound else (if nat_eq c 91 then Some sign.OpenSquare else (if nat_eq c 93 then Some sign.CloseSquare else (if nat_eq c 123 then Some sign.OpenCurly else (if nat_eq c 125 then Some sign.CloseCurly else None)))))) (Some g) g8.1) [
-                        | inl g9 ↦ one_sign sign.Dot g c cs rest (ap (λ x. x ∷ []) (code_is c 46 g9.0)) e (subst (Stops is_digit) e (no_digit cs (not_digit (digit_next cs) (subst (λ (b : Bool). (b && digit_next cs) ≡ false) g9.0 d)))) g9.1
+                        | inl g9 ↦ one_sign sign.Dot g c cs rest (ap (λ x. x ∷ []) (code_is c 46 g9.0)) e (subst (Stops is_ascii_digit) e (no_digit cs (not_digit (digit_next cs) (subst (λ (b : Bool). (b && digit_next cs) ≡ false) g9.0 d)))) g9.1
                         | inr g9 ↦ elim (chosen (nat_eq c 40) (some_sign sign.OpenRound) (if nat_eq c 41 then Some sign.CloseRound else (if nat_eq c 91 then Some sign.OpenSquare else (if nat_eq c 93 then Some sign.CloseSquare else (if nat_eq c 123 then Some sign.OpenCurly else (if nat_eq c 125 then Some sign.CloseCurly else None))))) (Some g) g9.1) [
                           | inl g10 ↦ one_sign sign.OpenRound g c cs rest (ap (λ x. x ∷ []) (code_is c 40 g10.0)) e (none_stops rest) g10.1
                           | inr g10 ↦ elim (chosen (nat_eq c 41) (some_sign sign.CloseRound) (if nat_eq c 91 then Some sign.OpenSquare else (if nat_eq c 93 then Some sign.CloseSquare else (if nat_eq c 123 then Some sign.OpenCurly else (if nat_eq c 125 then Some sign.CloseCurly else None)))) (Some g) g10.1) [
@@ -205,10 +206,10 @@ refused_at p = Err (refusal kinds.Fraction p)
 -- what is read as a token spells it
 token_lexed : (total p c : ℕ) (cs rest : List ℕ) (t : Token) → token_at total p c cs ≡ Ok (t, rest) → Lexed t (c ∷ cs) rest
 token_lexed total p c cs rest t h =
-    elim (chosen (begins_name c) (named (name_run (c ∷ []) cs)) (if is_digit c then number p (digit_run (c - 48) cs) else if is_quote c then text_at total p c cs else if nat_eq c 46 && digit_next cs then refused_at p else signed_token p (sign_at c cs)) (Ok (t, rest)) h) [
+    elim (chosen (begins_name c) (named (name_run (c ∷ []) cs)) (if is_ascii_digit c then number p (digit_run (c - 48) cs) else if is_quote c then text_at total p c cs else if nat_eq c 46 && digit_next cs then refused_at p else signed_token p (sign_at c cs)) (Ok (t, rest)) h) [
       | inl a ↦ name_lexed c cs rest t a.0 a.1
       | inr a ↦
-          elim (chosen (is_digit c) (number p (digit_run (c - 48) cs)) (if is_quote c then text_at total p c cs else if nat_eq c 46 && digit_next cs then refused_at p else signed_token p (sign_at c cs)) (Ok (t, rest)) a.1) [
+          elim (chosen (is_ascii_digit c) (number p (digit_run (c - 48) cs)) (if is_quote c then text_at total p c cs else if nat_eq c 46 && digit_next cs then refused_at p else signed_token p (sign_at c cs)) (Ok (t, rest)) a.1) [
             | inl b ↦ number_lexed p c cs rest t b.0 b.1
             | inr b ↦
                 elim (chosen (is_quote c) (text_at total p c cs) (if nat_eq c 46 && digit_next cs then refused_at p else signed_token p (sign_at c cs)) (Ok (t, rest)) b.1) [

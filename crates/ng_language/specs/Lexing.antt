@@ -1,9 +1,11 @@
 -- The tokens of a text, from the left, or the first refusal.
 use Rattle.std.specs.Prelude.{Bool, true, false, ℕ, zero, suc, ◌+◌, ◌-◌, ◌*◌, ◌&&◌, nat_le, nat_eq, List, [], ◌∷◌, ◌++◌, length, Option, Some, None, Result, Ok, Err, if◌then◌else◌}
+use Rattle.ng_base.specs.Codes.{exclamation_mark, percent_sign, ampersand, open_parenthesis, close_parenthesis, asterisk, plus_sign, comma, hyphen, full_stop, slash, digit_zero, colon, semicolon, less_than_sign, equals_sign, greater_than_sign, question_mark, open_bracket, backslash, close_bracket, letter_u, open_brace, vertical_bar, close_brace}
 use Rattle.ng_base.specs.Cells.{place}
 use Rattle.ng_base.specs.Meets.{◌>>=◌}
 use Rattle.ng_language.specs.Choice.{when_some}
-use Rattle.ng_language.specs.Letters.{is_space, is_digit, begins_name, is_in_name, is_quote, goes_on, is_hex, hex_value, is_surrogate, escaped}
+use Rattle.std.specs.Char.{is_ascii_digit}
+use Rattle.ng_language.specs.Letters.{is_space, begins_name, is_in_name, is_quote, goes_on, is_hex, hex_value, is_surrogate, escaped}
 use Rattle.ng_language.specs.declared.syntax.Sign.{Sign}
 use Rattle.ng_language.specs.declared.syntax.Sign.TheVariants as sign
 use Rattle.ng_language.specs.declared.syntax.Token.{Token}
@@ -29,11 +31,11 @@ name_run n (c ∷ cs) = if is_in_name c then name_run (n ++ c ∷ []) cs else (n
 
 -- one digit more; a number above 2^53 - 1 stays where it is
 abbrev pub with_digit : ℕ → ℕ → ℕ
-with_digit n c = if nat_le n 9007199254740991 then 10 * n + (c - 48) else n
+with_digit n c = if nat_le n 9007199254740991 then 10 * n + (c - digit_zero) else n
 
 abbrev pub digit_run : ℕ → List ℕ → ℕ × List ℕ
 digit_run n [] = (n, [])
-digit_run n (c ∷ cs) = if is_digit c then digit_run (with_digit n c) cs else (n, c ∷ cs)
+digit_run n (c ∷ cs) = if is_ascii_digit c then digit_run (with_digit n c) cs else (n, c ∷ cs)
 
 -- no point and no exponent stands right behind a number
 abbrev pub ends_number : List ℕ → Bool
@@ -50,7 +52,7 @@ number p r =
 abbrev pub is_closed : ℕ → Bool → List ℕ → Bool
 is_closed q b [] = false
 is_closed q true (c ∷ cs) = is_closed q false cs
-is_closed q false (c ∷ cs) = if nat_eq c q then true else is_closed q (nat_eq c 92) cs
+is_closed q false (c ∷ cs) = if nat_eq c q then true else is_closed q (nat_eq c backslash) cs
 
 -- one hexadecimal digit more
 abbrev pub hex_step : ℕ → ℕ → List ℕ → Result (ℕ × List ℕ) LexFault
@@ -66,11 +68,11 @@ unicode p cs = hex_step p 0 cs >>= λ a. hex_step p a.0 a.1 >>= λ b. hex_step p
 
 abbrev pub escape : ℕ → List ℕ → Result (ℕ × List ℕ) LexFault
 escape p [] = Err (refusal kinds.BadEscape p)
-escape p (c ∷ cs) = if nat_eq c 117 then unicode p cs else Ok (escaped c, cs)
+escape p (c ∷ cs) = if nat_eq c letter_u then unicode p cs else Ok (escaped c, cs)
 
 -- a character of a text, as it is written
 abbrev pub character : ℕ → ℕ → List ℕ → Result (ℕ × List ℕ) LexFault
-character p c cs = if nat_eq c 92 then escape p cs else Ok (c, cs)
+character p c cs = if nat_eq c backslash then escape p cs else Ok (c, cs)
 
 abbrev pub text_run : ℕ → ℕ → ℕ → List ℕ → List ℕ → Result (Token × List ℕ) LexFault
 text_run total zero q t cs = Err (refusal kinds.OpenText 0)
@@ -90,47 +92,47 @@ abbrev pub longer : ℕ → Sign → Sign → List ℕ → Sign × List ℕ
 longer c s t cs = when_some (next_is c cs) (λ ds. (s, ds)) (t, cs)
 
 abbrev pub equal_signs : List ℕ → Sign × List ℕ
-equal_signs cs = when_some (next_is 61 cs) (λ ds. longer 61 sign.Same sign.Equal ds) (sign.Assign, cs)
+equal_signs cs = when_some (next_is equals_sign cs) (λ ds. longer equals_sign sign.Same sign.Equal ds) (sign.Assign, cs)
 
 abbrev pub not_signs : List ℕ → Sign × List ℕ
-not_signs cs = when_some (next_is 61 cs) (λ ds. longer 61 sign.NotSame sign.NotEqual ds) (sign.Not, cs)
+not_signs cs = when_some (next_is equals_sign cs) (λ ds. longer equals_sign sign.NotSame sign.NotEqual ds) (sign.Not, cs)
 
 -- a sign of one character that begins no longer one
 abbrev pub single_sign : ℕ → Option Sign
 single_sign c =
-    if nat_eq c 43 then Some sign.Plus
-    else if nat_eq c 45 then Some sign.Minus
-    else if nat_eq c 42 then Some sign.Star
-    else if nat_eq c 47 then Some sign.Slash
-    else if nat_eq c 37 then Some sign.Percent
-    else if nat_eq c 63 then Some sign.Question
-    else if nat_eq c 58 then Some sign.Colon
-    else if nat_eq c 59 then Some sign.Semicolon
-    else if nat_eq c 44 then Some sign.Comma
-    else if nat_eq c 46 then Some sign.Dot
-    else if nat_eq c 40 then Some sign.OpenRound
-    else if nat_eq c 41 then Some sign.CloseRound
-    else if nat_eq c 91 then Some sign.OpenSquare
-    else if nat_eq c 93 then Some sign.CloseSquare
-    else if nat_eq c 123 then Some sign.OpenCurly
-    else if nat_eq c 125 then Some sign.CloseCurly
+    if nat_eq c plus_sign then Some sign.Plus
+    else if nat_eq c hyphen then Some sign.Minus
+    else if nat_eq c asterisk then Some sign.Star
+    else if nat_eq c slash then Some sign.Slash
+    else if nat_eq c percent_sign then Some sign.Percent
+    else if nat_eq c question_mark then Some sign.Question
+    else if nat_eq c colon then Some sign.Colon
+    else if nat_eq c semicolon then Some sign.Semicolon
+    else if nat_eq c comma then Some sign.Comma
+    else if nat_eq c full_stop then Some sign.Dot
+    else if nat_eq c open_parenthesis then Some sign.OpenRound
+    else if nat_eq c close_parenthesis then Some sign.CloseRound
+    else if nat_eq c open_bracket then Some sign.OpenSquare
+    else if nat_eq c close_bracket then Some sign.CloseSquare
+    else if nat_eq c open_brace then Some sign.OpenCurly
+    else if nat_eq c close_brace then Some sign.CloseCurly
     else None
 
 -- the longest sign that begins so
 abbrev pub sign_at : ℕ → List ℕ → Option (Sign × List ℕ)
 sign_at c cs =
-    if nat_eq c 61 then Some (equal_signs cs)
-    else if nat_eq c 33 then Some (not_signs cs)
-    else if nat_eq c 60 then Some (longer 61 sign.AtMost sign.Less cs)
-    else if nat_eq c 62 then Some (longer 61 sign.AtLeast sign.Greater cs)
-    else if nat_eq c 124 then Some (longer 124 sign.Or sign.Bar cs)
-    else if nat_eq c 38 then when_some (next_is 38 cs) (λ ds. Some (sign.And, ds)) None
+    if nat_eq c equals_sign then Some (equal_signs cs)
+    else if nat_eq c exclamation_mark then Some (not_signs cs)
+    else if nat_eq c less_than_sign then Some (longer equals_sign sign.AtMost sign.Less cs)
+    else if nat_eq c greater_than_sign then Some (longer equals_sign sign.AtLeast sign.Greater cs)
+    else if nat_eq c vertical_bar then Some (longer vertical_bar sign.Or sign.Bar cs)
+    else if nat_eq c ampersand then when_some (next_is ampersand cs) (λ ds. Some (sign.And, ds)) None
     else when_some (single_sign c) (λ s. Some (s, cs)) None
 
 -- a digit stands next
 abbrev pub digit_next : List ℕ → Bool
 digit_next [] = false
-digit_next (c ∷ cs) = is_digit c
+digit_next (c ∷ cs) = is_ascii_digit c
 
 abbrev pub signed_token : ℕ → Option (Sign × List ℕ) → Result (Token × List ℕ) LexFault
 signed_token p None = Err (refusal kinds.BadChar p)
@@ -143,9 +145,9 @@ named r = Ok (token.Name r.0, r.1)
 abbrev pub token_at : ℕ → ℕ → ℕ → List ℕ → Result (Token × List ℕ) LexFault
 token_at total p c cs =
     if begins_name c then named (name_run (c ∷ []) cs)
-    else if is_digit c then number p (digit_run (c - 48) cs)
+    else if is_ascii_digit c then number p (digit_run (c - digit_zero) cs)
     else if is_quote c then text_at total p c cs
-    else if nat_eq c 46 && digit_next cs then Err (refusal kinds.Fraction p)
+    else if nat_eq c full_stop && digit_next cs then Err (refusal kinds.Fraction p)
     else signed_token p (sign_at c cs)
 
 abbrev pub lexes : ℕ → ℕ → List Token → List ℕ → List ℕ → Result (List Token × List ℕ) LexFault

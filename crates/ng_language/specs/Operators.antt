@@ -1,8 +1,11 @@
 -- The coercions and operators of expressions (guide: Expressions).
 use Rattle.std.specs.Prelude.{ℕ, ℤ, pos, negsuc, zero, suc, ◌+◌, ◌-◌, ◌*◌, ◌+ℤ◌, ◌-ℤ◌, ◌*ℤ◌, neg_ℤ, int_div, int_rem, Bool, true, false, not, List, [], ◌∷◌, Option, Some, None, Result, Ok, Err, nat_eq, nat_lt, nat_le, ◌==◌, ◌&&◌, ◌||◌, if◌then◌else◌}
+use Rattle.std.specs.Char.{is_ascii_whitespace, is_ascii_digit}
+use Rattle.std.specs.List.{list_all}
 use Rattle.std.specs.Str.{bytes_eq}
 use Rattle.std.specs.Ordering.{int_eq}
-use Rattle.ng_base.specs.Objects.{is_digit}
+use Rattle.ng_base.specs.Codes.{plus_sign, hyphen, digit_zero}
+use Rattle.ng_base.specs.Trimming.{past}
 use Rattle.ng_base.specs.Views.{ViewTree, prim, list, rec}
 use Rattle.ng_base.specs.declared.value.Value.{Value}
 use Rattle.ng_base.specs.declared.value.Value.TheVariants as value
@@ -10,28 +13,16 @@ use Rattle.ng_base.specs.declared.fault.Fault.{Fault}
 use Rattle.ng_base.specs.declared.fault.Fault.TheVariants.{NotWhole, Range}
 use Rattle.ng_language.specs.Numbers.{is_in_range}
 
--- space, tab, LF, FF, CR
-abbrev pub is_space : ℕ → Bool
-is_space c = c == 32 || c == 9 || c == 10 || c == 12 || c == 13
-
-abbrev pub past_spaces : List ℕ → List ℕ
-past_spaces [] = []
-past_spaces (c ∷ cs) = if is_space c then past_spaces cs else c ∷ cs
-
-abbrev pub only_spaces : List ℕ → Bool
-only_spaces [] = true
-only_spaces (c ∷ cs) = if is_space c then only_spaces cs else false
-
 -- digits behind those that were read, and then white space, in range
 abbrev pub digits_behind : ℕ → List ℕ → Option ℕ
 digits_behind n [] = Some n
 digits_behind n (c ∷ cs) =
-    if is_digit c then (if nat_le (10 * n + (c - 48)) 9007199254740991 then digits_behind (10 * n + (c - 48)) cs else None)
-    else (if only_spaces (c ∷ cs) then Some n else None)
+    if is_ascii_digit c then (if nat_le (10 * n + (c - digit_zero)) 9007199254740991 then digits_behind (10 * n + (c - digit_zero)) cs else None)
+    else (if list_all is_ascii_whitespace (c ∷ cs) then Some n else None)
 
 abbrev pub digits : List ℕ → Option ℕ
 digits [] = None
-digits (c ∷ cs) = if is_digit c then digits_behind (c - 48) cs else None
+digits (c ∷ cs) = if is_ascii_digit c then digits_behind (c - digit_zero) cs else None
 
 abbrev pub positive : Option ℕ → Option ℤ
 positive None = None
@@ -44,11 +35,11 @@ negative (Some n) = Some (neg_ℤ (pos n))
 -- a sign and digits, or nothing
 abbrev pub signed : List ℕ → Option ℤ
 signed [] = Some (pos 0)
-signed (c ∷ cs) = if c == 43 then positive (digits cs) else (if c == 45 then negative (digits cs) else positive (digits (c ∷ cs)))
+signed (c ∷ cs) = if c == plus_sign then positive (digits cs) else (if c == hyphen then negative (digits cs) else positive (digits (c ∷ cs)))
 
 -- a text as a number
 abbrev pub number_in : List ℕ → Option ℤ
-number_in t = signed (past_spaces t)
+number_in t = signed (past is_ascii_whitespace t)
 
 -- a value as a number; none is NaN
 abbrev pub num : Value → Option ℤ

@@ -1,8 +1,10 @@
 -- Which characters spell which tokens.
 use Rattle.std.specs.Prelude.{◌≡◌, ◌≤◌, ◌⊎◌, Bool, true, false, ℕ, ◌+◌, ◌-◌, ◌*◌, ◌||◌, nat_eq, List, [], ◌∷◌, ◌++◌, codes}
 use Rattle.std.specs.List.{list_all}
+use Rattle.ng_base.specs.Codes.{digit_zero, equals_sign, backslash, letter_u, vertical_bar}
 use Rattle.ng_base.specs.Cells.{place}
-use Rattle.ng_language.specs.Letters.{is_space, is_digit, begins_name, is_in_name, is_quote, goes_on, is_hex, hex_value, is_surrogate, escaped}
+use Rattle.std.specs.Char.{is_ascii_digit}
+use Rattle.ng_language.specs.Letters.{is_space, begins_name, is_in_name, is_quote, goes_on, is_hex, hex_value, is_surrogate, escaped}
 use Rattle.ng_language.specs.declared.syntax.Sign.{Sign}
 use Rattle.ng_language.specs.declared.syntax.Sign.TheVariants as sign
 use Rattle.ng_language.specs.declared.syntax.Token.{Token}
@@ -41,14 +43,14 @@ spelled sign.CloseCurly = codes "}"
 
 -- the character would make a longer sign of it, or, behind a point, a fraction
 abbrev pub lengthens : Sign → ℕ → Bool
-lengthens sign.Assign c = nat_eq c 61
-lengthens sign.Equal c = nat_eq c 61
-lengthens sign.Not c = nat_eq c 61
-lengthens sign.NotEqual c = nat_eq c 61
-lengthens sign.Less c = nat_eq c 61
-lengthens sign.Greater c = nat_eq c 61
-lengthens sign.Bar c = nat_eq c 124
-lengthens sign.Dot c = is_digit c
+lengthens sign.Assign c = nat_eq c equals_sign
+lengthens sign.Equal c = nat_eq c equals_sign
+lengthens sign.Not c = nat_eq c equals_sign
+lengthens sign.NotEqual c = nat_eq c equals_sign
+lengthens sign.Less c = nat_eq c equals_sign
+lengthens sign.Greater c = nat_eq c equals_sign
+lengthens sign.Bar c = nat_eq c vertical_bar
+lengthens sign.Dot c = is_ascii_digit c
 lengthens s c = false
 
 -- the next character, if there is one, is none of these
@@ -60,14 +62,14 @@ Stops p (c ∷ cs) = p c ≡ false
 -- number is no part of the language
 abbrev pub MayFollow : Token → List ℕ → Type 0
 MayFollow (token.Name n) cs = Stops is_in_name cs
-MayFollow (token.Number n) cs = Stops (λ c. is_digit c || goes_on c) cs
+MayFollow (token.Number n) cs = Stops (λ c. is_ascii_digit c || goes_on c) cs
 MayFollow (token.Text t) cs = Unit {0}
 MayFollow (token.Sign s) cs = Stops (lengthens s) cs
 
 -- the value of digits, behind those that are read
 abbrev pub value_on : ℕ → List ℕ → ℕ
 value_on n [] = n
-value_on n (c ∷ cs) = value_on (10 * n + (c - 48)) cs
+value_on n (c ∷ cs) = value_on (10 * n + (c - digit_zero)) cs
 
 -- the value of four hexadecimal digits
 abbrev pub four_hex : ℕ → ℕ → ℕ → ℕ → ℕ
@@ -79,14 +81,14 @@ IsName (c ∷ cs) = (begins_name c ≡ true) × (list_all is_in_name cs ≡ true
 
 abbrev pub IsNumber : ℕ → List ℕ → Type 0
 IsNumber n [] = ⊥
-IsNumber n (c ∷ cs) = (is_digit c ≡ true) × (list_all is_digit cs ≡ true) × (n ≡ value_on 0 (c ∷ cs)) × (n ≤ 9007199254740991)
+IsNumber n (c ∷ cs) = (is_ascii_digit c ≡ true) × (list_all is_ascii_digit cs ≡ true) × (n ≡ value_on 0 (c ∷ cs)) × (n ≤ 9007199254740991)
 
 -- how a character is written in a text between such quotes: as itself, behind a `\`, or by its number
 abbrev pub IsCharacter : ℕ → ℕ → List ℕ → Type 0
 IsCharacter q d us =
-    ((us ≡ d ∷ []) × (nat_eq d q ≡ false) × (nat_eq d 92 ≡ false))
-    ⊎ (((c : ℕ) × (us ≡ 92 ∷ c ∷ []) × (nat_eq c 117 ≡ false) × (d ≡ escaped c))
-    ⊎ ((a : ℕ) × (b : ℕ) × (c : ℕ) × (e : ℕ) × (us ≡ 92 ∷ 117 ∷ a ∷ b ∷ c ∷ e ∷ []) × (is_hex a ≡ true) × (is_hex b ≡ true) × (is_hex c ≡ true) × (is_hex e ≡ true) × (d ≡ four_hex a b c e) × (is_surrogate d ≡ false)))
+    ((us ≡ d ∷ []) × (nat_eq d q ≡ false) × (nat_eq d backslash ≡ false))
+    ⊎ (((c : ℕ) × (us ≡ backslash ∷ c ∷ []) × (nat_eq c letter_u ≡ false) × (d ≡ escaped c))
+    ⊎ ((a : ℕ) × (b : ℕ) × (c : ℕ) × (e : ℕ) × (us ≡ backslash ∷ letter_u ∷ a ∷ b ∷ c ∷ e ∷ []) × (is_hex a ≡ true) × (is_hex b ≡ true) × (is_hex c ≡ true) × (is_hex e ≡ true) × (d ≡ four_hex a b c e) × (is_surrogate d ≡ false)))
 
 abbrev pub IsText : ℕ → List ℕ → List ℕ → Type 0
 IsText q [] us = us ≡ []

@@ -1,13 +1,15 @@
 -- Values as texts, as JSON, and as class words.
 use Rattle.std.specs.Prelude.{ℕ, suc, zero, ◌+◌, ◌*◌, ◌/◌, ◌%◌, Bool, true, false, List, [], ◌∷◌, ◌++◌, Result, Ok, Err, codes, nat_lt, ◌==◌, if◌then◌else◌}
+use Rattle.std.specs.Char.{is_ascii_whitespace}
 use Rattle.std.specs.Fmt.{signed_decimal}
+use Rattle.ng_base.specs.Codes as char
 use Rattle.ng_base.specs.Meets.{◌>>=◌}
 use Rattle.ng_base.specs.Objects.{Object}
 use Rattle.ng_base.specs.Views.{ViewTree, ViewTrees, ViewFields, prim, list, rec, no_views, view_then, no_fields, field_then}
 use Rattle.ng_base.specs.declared.value.Value.{Value}
 use Rattle.ng_base.specs.declared.value.Value.TheVariants as value
 use Rattle.ng_base.specs.declared.fault.Fault.{Fault}
-use Rattle.ng_language.specs.Operators.{is_space, truthy}
+use Rattle.ng_language.specs.Operators.{truthy}
 use Rattle.ng_language.specs.Unfolding.{unfolded}
 use Rattle.ng_language.specs.declared.unfolding.Mode.TheVariants as modes
 
@@ -44,28 +46,28 @@ abbrev mutual
 
   pub more_text : ViewTrees → List ℕ
   more_text no_views = []
-  more_text (view_then t ts) = 44 ∷ (item_text t (text_of t) ++ more_text ts)
+  more_text (view_then t ts) = char.comma ∷ (item_text t (text_of t) ++ more_text ts)
 
 abbrev pub to_text : List Object → ViewTree → Result (List ℕ) Fault
 to_text objects t = unfolded modes.Text objects t >>= λ u. Ok (text_of u)
 
 abbrev pub hex_digit : ℕ → ℕ
-hex_digit d = if nat_lt d 10 then 48 + d else 87 + d
+hex_digit d = if nat_lt d 10 then char.digit_zero + d else 87 + d
 
 -- a control character by its number, and any other as it is
 abbrev pub plain_char : ℕ → List ℕ
-plain_char c = if nat_lt c 32 then 92 ∷ 117 ∷ 48 ∷ 48 ∷ hex_digit (c / 16) ∷ hex_digit (c % 16) ∷ [] else c ∷ []
+plain_char c = if nat_lt c char.space then char.backslash ∷ char.letter_u ∷ char.digit_zero ∷ char.digit_zero ∷ hex_digit (c / 16) ∷ hex_digit (c % 16) ∷ [] else c ∷ []
 
 -- a character inside a JSON text
 abbrev pub escaped_char : ℕ → List ℕ
 escaped_char c =
-    if c == 34 then 92 ∷ 34 ∷ []
-    else (if c == 92 then 92 ∷ 92 ∷ []
-    else (if c == 8 then 92 ∷ 98 ∷ []
-    else (if c == 12 then 92 ∷ 102 ∷ []
-    else (if c == 10 then 92 ∷ 110 ∷ []
-    else (if c == 13 then 92 ∷ 114 ∷ []
-    else (if c == 9 then 92 ∷ 116 ∷ []
+    if c == char.quotation_mark then char.backslash ∷ char.quotation_mark ∷ []
+    else (if c == char.backslash then char.backslash ∷ char.backslash ∷ []
+    else (if c == char.backspace then char.backslash ∷ char.letter_b ∷ []
+    else (if c == char.form_feed then char.backslash ∷ char.letter_f ∷ []
+    else (if c == char.line_feed then char.backslash ∷ char.letter_n ∷ []
+    else (if c == char.carriage_return then char.backslash ∷ char.letter_r ∷ []
+    else (if c == char.tab then char.backslash ∷ char.letter_t ∷ []
     else plain_char c))))))
 
 abbrev pub escaped : List ℕ → List ℕ
@@ -73,7 +75,7 @@ escaped [] = []
 escaped (c ∷ cs) = escaped_char c ++ escaped cs
 
 abbrev pub quoted : List ℕ → List ℕ
-quoted t = 34 ∷ (escaped t ++ 34 ∷ [])
+quoted t = char.quotation_mark ∷ (escaped t ++ char.quotation_mark ∷ [])
 
 abbrev pub json_value : Value → List ℕ
 json_value value.Undefined = codes "null"
@@ -87,20 +89,20 @@ json_value (value.Fun f) = codes "null"
 
 abbrev pub spaces : ℕ → List ℕ
 spaces zero = []
-spaces (suc n) = 32 ∷ spaces n
+spaces (suc n) = char.space ∷ spaces n
 
 -- a new line with its margin, where there is an indent
 abbrev pub line : ℕ → List ℕ → List ℕ
 line zero margin = []
-line (suc n) margin = 10 ∷ margin
+line (suc n) margin = char.line_feed ∷ margin
 
 -- the margin one level down
 abbrev pub deeper : ℕ → List ℕ → List ℕ
 deeper indent margin = margin ++ spaces indent
 
 abbrev pub colon : ℕ → List ℕ
-colon zero = 58 ∷ []
-colon (suc n) = 58 ∷ 32 ∷ []
+colon zero = char.colon ∷ []
+colon (suc n) = char.colon ∷ char.space ∷ []
 
 abbrev mutual
   pub json_of : ℕ → List ℕ → ViewTree → List ℕ
@@ -110,21 +112,21 @@ abbrev mutual
 
   pub json_items : ℕ → List ℕ → ViewTrees → List ℕ
   json_items indent margin no_views = codes "[]"
-  json_items indent margin (view_then t ts) = 91 ∷ (line indent (deeper indent margin) ++ (json_of indent (deeper indent margin) t ++ json_more_items indent margin ts))
+  json_items indent margin (view_then t ts) = char.open_bracket ∷ (line indent (deeper indent margin) ++ (json_of indent (deeper indent margin) t ++ json_more_items indent margin ts))
 
   pub json_more_items : ℕ → List ℕ → ViewTrees → List ℕ
-  json_more_items indent margin no_views = line indent margin ++ 93 ∷ []
-  json_more_items indent margin (view_then t ts) = 44 ∷ (line indent (deeper indent margin) ++ (json_of indent (deeper indent margin) t ++ json_more_items indent margin ts))
+  json_more_items indent margin no_views = line indent margin ++ char.close_bracket ∷ []
+  json_more_items indent margin (view_then t ts) = char.comma ∷ (line indent (deeper indent margin) ++ (json_of indent (deeper indent margin) t ++ json_more_items indent margin ts))
 
   pub json_fields : ℕ → List ℕ → ViewFields → List ℕ
   json_fields indent margin no_fields = codes "{}"
   json_fields indent margin (field_then name t fs) =
-      123 ∷ (line indent (deeper indent margin) ++ (quoted name ++ (colon indent ++ (json_of indent (deeper indent margin) t ++ json_more_fields indent margin fs))))
+      char.open_brace ∷ (line indent (deeper indent margin) ++ (quoted name ++ (colon indent ++ (json_of indent (deeper indent margin) t ++ json_more_fields indent margin fs))))
 
   pub json_more_fields : ℕ → List ℕ → ViewFields → List ℕ
-  json_more_fields indent margin no_fields = line indent margin ++ 125 ∷ []
+  json_more_fields indent margin no_fields = line indent margin ++ char.close_brace ∷ []
   json_more_fields indent margin (field_then name t fs) =
-      44 ∷ (line indent (deeper indent margin) ++ (quoted name ++ (colon indent ++ (json_of indent (deeper indent margin) t ++ json_more_fields indent margin fs))))
+      char.comma ∷ (line indent (deeper indent margin) ++ (quoted name ++ (colon indent ++ (json_of indent (deeper indent margin) t ++ json_more_fields indent margin fs))))
 
 abbrev pub json_text : List Object → ℕ → ViewTree → Result (List ℕ) Fault
 json_text objects indent t = unfolded modes.Json objects t >>= λ u. Ok (json_of indent [] u)
@@ -146,7 +148,7 @@ with_word (c ∷ cs) words = (c ∷ cs) ∷ words
 
 abbrev pub words_in : List ℕ → List ℕ → List (List ℕ)
 words_in word [] = with_word word []
-words_in word (c ∷ cs) = if is_space c then with_word word (words_in [] cs) else words_in (word ++ c ∷ []) cs
+words_in word (c ∷ cs) = if is_ascii_whitespace c then with_word word (words_in [] cs) else words_in (word ++ c ∷ []) cs
 
 -- class words: of a text its words, of a list those of its parts, of a record its names with true values
 abbrev pub words_of_value : Value → List (List ℕ)

@@ -3,6 +3,7 @@ use Rattle.std.specs.Prelude.{ℕ, zero, suc, ◌≡◌, Bool, true, false, List
 use Rattle.std.specs.BTreeMap.{insert_entry}
 use Rattle.std.specs.Ordering.{nat_cmp}
 use Rattle.std.specs.Map.{values_of}
+use Rattle.ng_base.specs.Codes.{dollar_sign}
 use Rattle.ng_base.specs.Meets.{◌>>=◌}
 use Rattle.ng_base.specs.Objects.{Object, object_at, own_of, names_of, index_of}
 use Rattle.ng_base.specs.Order.{txt_cmp}
@@ -57,11 +58,11 @@ is_nothing t = false
 -- a name that begins with `$`, or with `$$`
 abbrev pub is_dollar : List ℕ → Bool
 is_dollar [] = false
-is_dollar (c ∷ cs) = c == 36
+is_dollar (c ∷ cs) = c == dollar_sign
 
 abbrev pub is_dollars : List ℕ → Bool
 is_dollars [] = false
-is_dollars (c ∷ cs) = if c == 36 then is_dollar cs else false
+is_dollars (c ∷ cs) = if c == dollar_sign then is_dollar cs else false
 
 -- a named value that is left out
 abbrev pub is_left_out : Mode → List ℕ → ViewTree → Bool

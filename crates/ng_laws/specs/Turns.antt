@@ -1,6 +1,7 @@
 -- A text as words and holes in turn.
 use Rattle.std.specs.Prelude.{ℕ, ◌≡◌, ◌⊎◌, ⊤, Bool, true, false, List, [], ◌∷◌, ◌++◌, map}
 use Rattle.std.specs.List.{AllByRecursion, flat_map}
+use Rattle.ng_base.specs.Codes.{open_brace, close_brace}
 use Rattle.ng_interp.specs.Cutting.{is_pair, cuts_of}
 use Rattle.ng_interp.specs.declared.cutting.Cut.{Cut}
 use Rattle.ng_interp.specs.declared.cutting.Cut.TheVariants.{Words, Hole}
@@ -16,14 +17,14 @@ abbrev pub Turn : Type 0
 Turn = List ℕ × List ℕ
 
 abbrev pub IsTurn : Turn → Type 0
-IsTurn p = HasNoPair false (p.0 ++ 123 ∷ []) × HasNoPair true (p.1 ++ 125 ∷ [])
+IsTurn p = HasNoPair false (p.0 ++ open_brace ∷ []) × HasNoPair true (p.1 ++ close_brace ∷ [])
 
 -- words at the end: no `{{` stands in them, or no `}}` behind the first one
 abbrev pub IsEnd : List ℕ → Type 0
-IsEnd t = HasNoPair false t ⊎ ((a : List ℕ) × (b : List ℕ) × (t ≡ a ++ 123 ∷ 123 ∷ b) × HasNoPair false (a ++ 123 ∷ []) × HasNoPair true b)
+IsEnd t = HasNoPair false t ⊎ ((a : List ℕ) × (b : List ℕ) × (t ≡ a ++ open_brace ∷ open_brace ∷ b) × HasNoPair false (a ++ open_brace ∷ []) × HasNoPair true b)
 
 abbrev pub turn_text : Turn → List ℕ
-turn_text p = p.0 ++ 123 ∷ 123 ∷ (p.1 ++ 125 ∷ 125 ∷ [])
+turn_text p = p.0 ++ open_brace ∷ open_brace ∷ (p.1 ++ close_brace ∷ close_brace ∷ [])
 
 -- whether a cut is a hole, and its text
 abbrev pub seen : Cut → Bool × List ℕ

@@ -2,55 +2,57 @@
 ghost use Rattle.ng_language.specs.Letters as letters;
 ghost use Rattle.std.specs.Prelude.{◌≡◌, ◌<◌, true};
 
+use ng_base::trimming::Class;
+
 /// Space, CR, tab, LF, VT, and the space that does not break.
 pub fn space(c: char) -> bool
     ensures { result ≡ letters.is_space c }
 {
-    let n = c as u32;
-    n == 32 || n == 13 || n == 9 || n == 10 || n == 11 || n == 160
+    matches!(c, ' ' | '\r' | '\t' | '\n' | '\u{b}' | '\u{a0}')
 }
 
-pub fn digit(c: char) -> bool
-    ensures { result ≡ letters.is_digit c }
-{
-    let n = c as u32;
-    48 <= n && n <= 57
+/// The white space of expressions.
+#[derive(Drop)]
+pub struct WhiteSpace;
+
+impl Class for WhiteSpace {
+    ghost holds = { letters.is_space };
+
+    fn has(c: char) -> bool {
+        space(c)
+    }
 }
 
 /// A letter, `_` or `$`.
 pub fn begins_name(c: char) -> bool
     ensures { result ≡ letters.begins_name c }
 {
-    let n = c as u32;
-    (97 <= n && n <= 122) || (65 <= n && n <= 90) || n == 95 || n == 36
+    c.is_ascii_alphabetic() || c == '_' || c == '$'
 }
 
 pub fn in_name(c: char) -> bool
     ensures { result ≡ letters.is_in_name c }
 {
-    begins_name(c) || digit(c)
+    begins_name(c) || c.is_ascii_digit()
 }
 
 pub fn quote(c: char) -> bool
     ensures { result ≡ letters.is_quote c }
 {
-    let n = c as u32;
-    n == 39 || n == 34
+    c == '\'' || c == '"'
 }
 
 /// A point, or the letter of an exponent.
 pub fn goes_on(c: char) -> bool
     ensures { result ≡ letters.goes_on c }
 {
-    let n = c as u32;
-    n == 46 || n == 101 || n == 69
+    c == '.' || c == 'e' || c == 'E'
 }
 
 pub fn hex(c: char) -> bool
     ensures { result ≡ letters.is_hex c }
 {
-    let n = c as u32;
-    digit(c) || (97 <= n && n <= 102) || (65 <= n && n <= 70)
+    c.is_ascii_digit() || ('a' <= c && c <= 'f') || ('A' <= c && c <= 'F')
 }
 
 /// The value of a hexadecimal digit.

@@ -5,16 +5,17 @@ ghost use Rattle.ng_language.specs.Lexing.{token_at, digit_next, signed_token, s
 ghost use Rattle.ng_language.specs.Spelling.{Written};
 ghost use Rattle.ng_language.specs.declared.syntax.Token.{Token as TokenSpec};
 ghost use Rattle.ng_lex.specs.TokensOf.{tokens_of};
-ghost use Rattle.std.specs.Prelude.{◌≡◌, ◌∷◌, ◌≤◌, [], length, IfOk, true, ℕ, List, Ok};
+ghost use Rattle.std.specs.Prelude.{◌≡◌, ◌∷◌, ◌≤◌, [], length, IfOk, OnOk, true, ℕ, List, Ok};
 ghost use Rattle.std.specs.Str.{chars};
 
-use crate::letters::{begins_name, digit, quote, space};
+use crate::letters::{begins_name, quote, space};
 use crate::number::{read_name, read_number};
 use crate::sign::read_sign;
 use crate::text::{place_of, read_text};
 use ng_base::reader::Plain;
 use ng_language::syntax::{LexFault, LexKind, Token};
 use std::alloc::Global;
+use std::mem::replace;
 
 /// The tokens of a text, the place of each, and the length of the text in bytes.
 #[derive(Drop)]
@@ -24,13 +25,24 @@ pub struct Tokens {
     pub end: u64,
 }
 
+impl Tokens {
+    /// No token.
+    pub fn new(alloc: Global) -> Tokens {
+        Tokens {
+            tokens: Vec::new(alloc),
+            places: Vec::new(alloc),
+            end: 0,
+        }
+    }
+}
+
 /// Whether a digit stands next.
 fn before_digit(reader: &Plain<'_>) -> bool
     ensures { result ≡ digit_next reader.now }
 {
     match reader.first() {
         None => false,
-        Some((c, _)) => digit(c),
+        Some((c, _)) => c.is_ascii_digit(),
     }
 }
 
@@ -61,7 +73,7 @@ fn read_token<'a>(
     if begins_name(c) {
         let (name, rest) = read_name(alloc, c, reader)?;
         Ok((Token::Name(name), rest))
-    } else if digit(c) {
+    } else if c.is_ascii_digit() {
         read_number(place, c, reader)
     } else if quote(c) {
         read_text(alloc, total, place, c, reader)
@@ -88,17 +100,35 @@ pub fn lex(alloc: Global, text: &str) -> Result<Tokens, LexFault>
 
     ensures end { IfOk result (λ t. t.end ≡ length text.now) }
 {
-    read_tokens(alloc, text)
+    read_tokens(alloc, Vec::new(alloc), Vec::new(alloc), text)
 }
 
-fn read_tokens(alloc: Global, text: &str) -> Result<Tokens, LexFault>
+/// The same into the list of another text, whose room is used again. After a refusal the list is empty.
+pub fn lex_into(alloc: Global, tokens: &mut Tokens, text: &str) -> Result<(), LexFault>
+    ensures exact { Gives is_free (λ u. tokens_of tokens.new) (lexed (length text.now) (chars text.now)) result }
+    ensures end { OnOk result (tokens.new.end ≡ length text.now) }
+{
+    let mut used = replace(tokens, Tokens::new(alloc));
+    used.tokens.clear();
+    used.places.clear();
+    *tokens = read_tokens(alloc, used.tokens, used.places, text)?;
+    Ok(())
+}
+
+/// The tokens of a text, in lists that are empty.
+fn read_tokens(
+    alloc: Global,
+    mut tokens: Vec<Token>,
+    mut places: Vec<u64>,
+    text: &str,
+) -> Result<Tokens, LexFault>
+    requires tokens { tokens.items ≡ [] }
+    requires places { places.items ≡ [] }
     ensures exact { Gives is_free tokens_of (lexed (length text.now) (chars text.now)) result }
     ensures end { IfOk result (λ t. t.end ≡ length text.now) }
 {
     let total = text.len();
     let mut reader = Plain::new(text);
-    let mut tokens = Vec::new(alloc);
-    let mut places = Vec::new(alloc);
     while let Some((c, rest)) = reader.first() {
         if space(c) {
             reader = rest;

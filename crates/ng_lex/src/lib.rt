@@ -21,5 +21,5 @@ mod number;
 mod sign;
 mod text;
 
-pub use lexing::{Tokens, lex};
+pub use lexing::{Tokens, lex, lex_into};
 pub use ng_language::syntax::{LexFault, LexKind, Sign, Token};

@@ -1,10 +1,10 @@
 //! Names and numbers.
 ghost use Rattle.ng_base.specs.Meets.{Gives};
-ghost use Rattle.ng_language.specs.Letters.{is_digit};
+ghost use Rattle.std.specs.Char.{is_ascii_digit};
 ghost use Rattle.ng_language.specs.Lexing.{name_run, digit_run, with_digit, ends_number, number, is_free};
 ghost use Rattle.std.specs.Prelude.{◌≡◌, ◌∷◌, ◌≤◌, ◌-◌, [], length, IfOk, true};
 
-use crate::letters::{digit, goes_on, in_name};
+use crate::letters::{goes_on, in_name};
 use ng_base::reader::Plain;
 use ng_base::txt::Txt;
 use ng_language::syntax::{LexFault, LexKind, Token};
@@ -37,7 +37,7 @@ pub fn read_name<'a>(
 /// One digit more; a number that is too large stays where it is.
 fn longer(n: u64, c: char) -> u64
     requires low { n ≤ 90071992547409919 }
-    requires digit { is_digit c ≡ true }
+    requires digit { is_ascii_digit c ≡ true }
     ensures value { result ≡ with_digit n c }
     ensures low { result ≤ 90071992547409919 }
 {
@@ -50,13 +50,13 @@ fn longer(n: u64, c: char) -> u64
 
 /// The digits behind one that is read.
 fn read_digits<'a>(first: char, mut reader: Plain<'a>) -> (u64, Plain<'a>)
-    requires { is_digit first ≡ true }
+    requires { is_ascii_digit first ≡ true }
     ensures read { result ≡ digit_run (first - 48) reader.entry }
     ensures less { length result.1 ≤ length reader.entry }
 {
     let mut n = first as u64 - 48;
     while let Some((c, rest)) = reader.first() {
-        if !digit(c) {
+        if !c.is_ascii_digit() {
             return (n, reader);
         }
         n = longer(n, c);
@@ -81,7 +81,7 @@ pub fn read_number<'a>(
     first: char,
     reader: Plain<'a>,
 ) -> Result<(Token, Plain<'a>), LexFault>
-    requires { is_digit first ≡ true }
+    requires { is_ascii_digit first ≡ true }
     ensures read { Gives is_free (λ r. r) (number place (digit_run (first - 48) reader.entry)) result }
     ensures less { IfOk result (λ r. length r.1 ≤ length reader.entry) }
 {

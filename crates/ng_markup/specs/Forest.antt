@@ -1,6 +1,7 @@
 -- A document: a list of nodes, each an element, a text or a comment, and its text.
 use Rattle.std.specs.Prelude.{ℕ, ◌==◌, List, [], ◌∷◌, ◌++◌, codes, if◌then◌else◌}
 use Rattle.std.specs.List.{flat_map}
+use Rattle.ng_base.specs.Codes.{line_feed, carriage_return, quotation_mark, ampersand, less_than_sign, greater_than_sign}
 use Rattle.ng_markup.specs.Tables.{is_void}
 
 -- names and values, in order of the names
@@ -30,20 +31,20 @@ forest_from (n ∷ ns) = node n (forest_from ns)
 -- a character of a text, as it is printed
 abbrev pub text_char : ℕ → List ℕ
 text_char c =
-    if c == 38 then codes "&amp;"
-    else if c == 60 then codes "&lt;"
-    else if c == 62 then codes "&gt;"
-    else if c == 10 then codes "&#10;"
-    else if c == 13 then codes "&#13;"
+    if c == ampersand then codes "&amp;"
+    else if c == less_than_sign then codes "&lt;"
+    else if c == greater_than_sign then codes "&gt;"
+    else if c == line_feed then codes "&#10;"
+    else if c == carriage_return then codes "&#13;"
     else c ∷ []
 
 -- a character of an attribute's value, as it is printed
 abbrev pub value_char : ℕ → List ℕ
 value_char c =
-    if c == 38 then codes "&amp;"
-    else if c == 34 then codes "&quot;"
-    else if c == 10 then codes "&#10;"
-    else if c == 13 then codes "&#13;"
+    if c == ampersand then codes "&amp;"
+    else if c == quotation_mark then codes "&quot;"
+    else if c == line_feed then codes "&#10;"
+    else if c == carriage_return then codes "&#13;"
     else c ∷ []
 
 abbrev pub print_attribute : List ℕ × List ℕ → List ℕ

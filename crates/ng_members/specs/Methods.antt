@@ -1,13 +1,15 @@
 -- The methods of arrays, fresh lists and texts that change nothing.
 use Rattle.std.specs.Prelude.{ℕ, ℤ, suc, pos, negsuc, ◌-◌, min, Bool, true, false, List, [], ◌∷◌, ◌++◌, length, map, take, drop, Option, Some, None, Result, Ok, Err, slice_get, nat_eq, if◌then◌else◌}
-use Rattle.std.specs.Char.{to_ascii_uppercase, to_ascii_lowercase}
+use Rattle.std.specs.Char.{is_ascii_whitespace, to_ascii_uppercase, to_ascii_lowercase}
+use Rattle.ng_base.specs.Codes.{comma}
 use Rattle.ng_base.specs.Meets.{◌>>=◌}
 use Rattle.ng_base.specs.Objects.{Object, object_at, is_array}
+use Rattle.ng_base.specs.Trimming.{trimmed}
 use Rattle.ng_base.specs.Views.{ViewTree, prim, list, rec, views_from, views_list}
 use Rattle.ng_base.specs.declared.value.Value.TheVariants as value
 use Rattle.ng_base.specs.declared.fault.Fault.{Fault}
 use Rattle.ng_language.specs.Objects.{items_at}
-use Rattle.ng_language.specs.Operators.{is_space, strict_eq, view_num}
+use Rattle.ng_language.specs.Operators.{strict_eq, view_num}
 use Rattle.ng_language.specs.Texts.{to_text}
 use Rattle.ng_language.specs.Unfolding.{prims}
 use Rattle.ng_members.specs.Members.{view_or_undefined}
@@ -75,7 +77,7 @@ concatenated objects items (t ∷ ts) = concatenated objects (items ++ parts_of 
 
 -- what stands between two items: a comma where the argument is missing or undefined
 abbrev pub separator : List Object → ViewTree → Result (List ℕ) Fault
-separator objects (prim value.Undefined) = Ok (44 ∷ [])
+separator objects (prim value.Undefined) = Ok (comma ∷ [])
 separator objects t = to_text objects t
 
 -- an item's text: null and undefined are empty
@@ -108,16 +110,6 @@ abbrev pub found_from : List ℕ → ℕ → List ℕ → Option ℕ
 found_from s n [] = if begins_with s [] then Some n else None
 found_from s n (c ∷ cs) = if begins_with s (c ∷ cs) then Some n else found_from s (suc n) cs
 
--- a text without the white space behind it, and behind white space that may still be inside
-abbrev pub without_end : List ℕ → List ℕ → List ℕ → List ℕ
-without_end done gap [] = done
-without_end done gap (c ∷ cs) = if is_space c then without_end done (gap ++ c ∷ []) cs else without_end ((done ++ gap) ++ c ∷ []) [] cs
-
--- a text without outer white space
-abbrev pub trimmed : List ℕ → List ℕ
-trimmed [] = []
-trimmed (c ∷ cs) = if is_space c then trimmed cs else without_end [] [] (c ∷ cs)
-
 abbrev pub as_text : Result (List ℕ) Fault → Result ViewTree Fault
 as_text (Ok t) = Ok (prim (value.Text t))
 as_text (Err e) = Err e
@@ -129,6 +121,6 @@ method_value objects methods.Slice t args = Ok (list (views_from (sliced args (i
 method_value objects methods.Concat t args = Ok (list (views_from (concatenated objects (items_of objects t) args)))
 method_value objects methods.Join t args = as_text (joined objects (argument args 0) (items_of objects t))
 method_value objects methods.Find t args = to_text objects (argument args 0) >>= λ s. Ok (place_or_none (found_from s 0 (text_in t)))
-method_value objects methods.Trim t args = Ok (prim (value.Text (trimmed (text_in t))))
+method_value objects methods.Trim t args = Ok (prim (value.Text (trimmed is_ascii_whitespace (text_in t))))
 method_value objects methods.Upper t args = Ok (prim (value.Text (map to_ascii_uppercase (text_in t))))
 method_value objects methods.Lower t args = Ok (prim (value.Text (map to_ascii_lowercase (text_in t))))

@@ -1,12 +1,13 @@
 //! The methods of texts.
-ghost use Rattle.std.specs.Prelude.{◌≡◌, [], map, IfOk};
-ghost use Rattle.std.specs.Char.{to_ascii_uppercase, to_ascii_lowercase};
+ghost use Rattle.std.specs.Prelude.{◌≡◌, [], IfOk};
+ghost use Rattle.std.specs.Char.{is_ascii_whitespace};
+ghost use Rattle.ng_base.specs.Trimming.{trimmed};
 ghost use Rattle.ng_base.specs.ViewOf.{view_of};
-ghost use Rattle.ng_language.specs.Operators.{is_space};
-ghost use Rattle.ng_members.specs.Methods.{text_in, begins_with, found_from, without_end, trimmed};
+ghost use Rattle.ng_members.specs.Methods.{text_in, begins_with, found_from};
 
 use ng_base::fault::Memory;
 use ng_base::reader::Plain;
+use ng_base::trimming::{AsciiSpace, trim as without_spaces};
 use ng_base::txt::Txt;
 use ng_base::value::Value;
 use ng_base::view::View;
@@ -21,13 +22,6 @@ pub fn text_in<'a>(v: &'a View, empty: &'a Txt) -> &'a Txt
         View::Prim(Value::Text(t)) => t,
         _ => empty,
     }
-}
-
-/// Space, tab, LF, FF, CR.
-fn is_space(c: char) -> bool
-    ensures { result ≡ is_space c }
-{
-    c == ' ' || c == '\t' || c == '\n' || c == '\u{c}' || c == '\r'
 }
 
 /// Whether a text begins with another.
@@ -72,58 +66,9 @@ pub fn find(text: &Txt, wanted: &Txt) -> Result<Option<usize>, Memory>
     }
 }
 
-/// Characters without the white space behind them.
-fn without_end(alloc: Global, mut text: Plain<'_>) -> Result<Txt, Memory>
-    ensures { IfOk result (λ t. t ≡ without_end [] [] text.entry) }
-{
-    let mut done = Txt::new(alloc);
-    let mut gap = Txt::new(alloc);
-    while let Some(c) = text.next() {
-        if is_space(c) {
-            gap.push(c)?;
-        } else {
-            done.push_txt(&gap)?;
-            done.push(c)?;
-            gap = Txt::new(alloc);
-        }
-    }
-    Ok(done)
-}
-
 /// A text without outer white space.
 pub fn trim(alloc: Global, text: &Txt) -> Result<Txt, Memory>
-    ensures { IfOk result (λ t. t ≡ trimmed text.now) }
+    ensures { IfOk result (λ t. t ≡ trimmed is_ascii_whitespace text.now) }
 {
-    let mut rest = Plain::new(text.as_str());
-    while let Some((c, behind)) = rest.first() {
-        if !is_space(c) {
-            return without_end(alloc, rest);
-        }
-        rest = behind;
-    }
-    Ok(Txt::new(alloc))
-}
-
-/// A text with its ASCII letters in upper case.
-pub fn upper(alloc: Global, text: &Txt) -> Result<Txt, Memory>
-    ensures { IfOk result (λ t. t ≡ map to_ascii_uppercase text.now) }
-{
-    let mut rest = Plain::new(text.as_str());
-    let mut done = Txt::new(alloc);
-    while let Some(c) = rest.next() {
-        done.push(c.to_ascii_uppercase())?;
-    }
-    Ok(done)
-}
-
-/// A text with its ASCII letters in lower case.
-pub fn lower(alloc: Global, text: &Txt) -> Result<Txt, Memory>
-    ensures { IfOk result (λ t. t ≡ map to_ascii_lowercase text.now) }
-{
-    let mut rest = Plain::new(text.as_str());
-    let mut done = Txt::new(alloc);
-    while let Some(c) = rest.next() {
-        done.push(c.to_ascii_lowercase())?;
-    }
-    Ok(done)
+    Ok(Txt::from_str(alloc, without_spaces::<AsciiSpace>(text.as_str()))?)
 }

@@ -19,7 +19,8 @@ use Rattle.ng_watch.specs.Table.{with_kept}
 use Rattle.ng_page.specs.PageLaws.{by_test, unset_core}
 use Rattle.ng_page.specs.PageMachine.{State, is_told, told_at, handed_on_at, with_faulted, fired_to, fired_by, fired, settled, failed, page_machine, readied}
 use Rattle.ng_page.specs.Settled.{IsWatched, Fits}
-use Rattle.ng_page.proofs.EventsStay.{part, Stays, stays_refl, stays_trans, fault_stays, some_first}
+use Rattle.ng_act.proofs.Programs.{some_first}
+use Rattle.ng_page.proofs.EventsStay.{part, Stays, stays_refl, stays_trans, fault_stays}
 use Rattle.ng_page.proofs.FiresFit.{fires_fit}
 use Rattle.ng_page.proofs.FiresTold.{FireTold, fires_told}
 use Rattle.ng_page.proofs.Fitting.{fits_stays, fits_fewer, fits_unset_all}

@@ -31,7 +31,8 @@ use Rattle.ng_link.specs.Linking.{LinkStep, makes, starts, registers, steps, ste
 use Rattle.ng_link.specs.Shape.{linked}
 use Rattle.ng_link.specs.State.{State, live_nodes}
 use Rattle.ng_template.specs.Kept.{fragments_in}
-use Rattle.ng_page.proofs.EventsStay.{part, Stays, stays_refl, stays_trans, fault_stays, number_stays, objects_stay, scopes_stay, buried_stay, some_first}
+use Rattle.ng_act.proofs.Programs.{some_first}
+use Rattle.ng_page.proofs.EventsStay.{part, Stays, stays_refl, stays_trans, fault_stays, number_stays, objects_stay, scopes_stay, buried_stay}
 use Rattle.ng_page.proofs.ScopesStay.{scopes_grow}
 use Rattle.ng_page.proofs.Sites.{SitesStay, sites_refl, sites_trans, sites_cond, core_sites, left_sites}
 use Rattle.ng_page.proofs.StepsStay.{changed_sites, followed_sites, program_stays, destroyed_stays, run_sites, fired_some}

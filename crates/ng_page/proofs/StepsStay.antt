@@ -25,8 +25,9 @@ use Rattle.ng_watch.specs.Table.{kept_at}
 use Rattle.ng_write.specs.Making.{value_in}
 use Rattle.ng_page.specs.Commands as commands
 use Rattle.ng_page.specs.Commands.{json_read, json_run, items_in, emit_run, broadcast_run, asked_run, applies, queues, probes, digests, destroys_scope, emits, broadcasts}
-use Rattle.ng_page.proofs.EventsStay.{part, Stays, stays_refl, stays_trans, objects_stay, fault_stays, destroys_stay, some_first}
-use Rattle.ng_page.proofs.ProgramsStay.{bind_stay, stores_stay, statements_stay, does_stay}
+use Rattle.ng_page.proofs.EventsStay.{part, Stays, stays_refl, stays_trans, objects_stay, fault_stays}
+use Rattle.ng_act.proofs.Programs.{some_first}
+use Rattle.ng_page.proofs.ProgramsStay.{bind_stay, stores_stay, statements_stay, does_stay, destroys_stay}
 use Rattle.ng_page.proofs.Sites.{SitesStay, sites_refl, sites_trans, core_sites, declared_sites, undeclared_sites, left_sites, ended_sites}
 
 -- a run, whatever it gives
@@ -119,11 +120,11 @@ pub program_stays : (scope : ℕ) (p : Trees) (c : act.State) → Stays (part c)
 unfolding program_run
 program_stays scope p c =
     let d : act.State = with_locals [] c in
-    value_run c (programmed (does 64) scope p d) (statements_stay (does 64) (does_stay 64) scope nothing p d)
+    value_run c (programmed (does 64) scope p d) (statements_stay 64 scope nothing p d)
 
 pub destroyed_stays : (scope : ℕ) (c : act.State) → Stays (part c) (part (destroyed scope c))
 unfolding destroyed
-destroyed_stays scope c = destroys_stay (does 64) (does_stay 64) scope c
+destroyed_stays scope c = destroys_stay 64 scope c
 
 -- JSON is read behind the objects that stand
 pub json_grows : (objects : List Object) (d : Data) → length objects ≤ length (with_json objects d)

@@ -46,7 +46,7 @@ use Rattle.ng_page.specs.declared.dispatching.Event.TheVariants as events
 use Rattle.ng_page.specs.declared.outcome.Outcome.{Outcome}
 use Rattle.ng_page.proofs.DigestsStay.{digest_stays}
 use Rattle.ng_page.proofs.EventsStay.{part, Stays, stays_refl, objects_stay}
-use Rattle.ng_page.proofs.ProgramsStay.{bind_stay, statements_stay, does_stay}
+use Rattle.ng_page.proofs.ProgramsStay.{bind_stay, statements_stay}
 use Rattle.ng_page.proofs.Rendered.{node_scope}
 use Rattle.ng_page.proofs.Sites.{SitesStay}
 use Rattle.ng_page.proofs.StepsStay.{json_grows, value_run, changed_sites, followed_sites}
@@ -88,7 +88,7 @@ handler_stays : (scope o : ℕ) (p : Trees) (c : act.State) → Stays (part c) (
 unfolding handler_run
 handler_stays scope o p c =
     let d : act.State = with_locals ((codes "$event", object_value o) ∷ []) c in
-    value_run c (programmed (does 64) scope p d) (statements_stay (does 64) (does_stay 64) scope nothing p d)
+    value_run c (programmed (does 64) scope p d) (statements_stay 64 scope nothing p d)
 
 pub handling_stays : (x : Happening) (e : Event) (scope : ℕ) (p : Trees) (c : act.State) → Stays (part c) (part (handling_run x e scope p c).0)
 handling_stays x e scope p c = bind_stay (part c) (event_of x e c).0 (event_of x e c).1 (λ o d. handler_run scope o p d) (event_stays x e c) (λ o d. handler_stays scope o p d)

@@ -4,7 +4,8 @@ use Rattle.std.specs.Prelude.{option_and_then}
 use Rattle.std.specs.List.{range_with_len}
 use Rattle.std.proofs.lemmas.Bool.Decides.{nat_tests}
 use Rattle.std.proofs.lemmas.Fmt.{decimal_by_steps, decimal_digit}
-use Rattle.ng_base.specs.Objects.{Object, own_of, index_of, is_digit, only_zero, spelled}
+use Rattle.std.specs.Char.{is_ascii_digit}
+use Rattle.ng_base.specs.Objects.{Object, own_of, index_of, only_zero, spelled}
 use Rattle.ng_base.specs.Views.{ViewTree, ViewTrees, views_list}
 use Rattle.ng_base.specs.declared.value.Value.{Value}
 use Rattle.ng_filters.specs.Parts.{indexed}
@@ -23,12 +24,12 @@ record Spells (n : ℕ) (ds : List ℕ) : Type 0 where
   reads : (cs : List ℕ) → spelled 0 (ds ++ cs) ≡ spelled n cs
 
 -- one digit more
-digit_read : (n m c : ℕ) (cs : List ℕ) → is_digit c ≡ true → 10 * n + (c - 48) ≡ m → m < 4294967295 → spelled n (c ∷ cs) ≡ spelled m cs
+digit_read : (n m c : ℕ) (cs : List ℕ) → is_ascii_digit c ≡ true → 10 * n + (c - 48) ≡ m → m < 4294967295 → spelled n (c ∷ cs) ≡ spelled m cs
 digit_read n m c cs d e l =
     let k : nat_lt (10 * n + (c - 48)) 4294967295 ≡ true = grind (arith, nat_tests, e, l) in
     rw (d, k, e) refl
 
-a_digit : (c : ℕ) → 48 ≤ c → c ≤ 57 → is_digit c ≡ true
+a_digit : (c : ℕ) → 48 ≤ c → c ≤ 57 → is_ascii_digit c ≡ true
 a_digit c low high = grind (arith, nat_tests, low, high)
 
 no_zero : (c : ℕ) → 48 < c → (c == 48) ≡ false

@@ -1,7 +1,7 @@
 -- The methods that change nothing, over values and over the views that these show.
 use Rattle.std.proofs.Common.{◌≡◌, ◌∙◌, ◌≤◌, ◌-◌, ℕ, suc, Bool, true, false, List, [], ◌∷◌, ◌++◌, length, map, take, drop, refl, sym, ap, subst, arith, Option, Some, None, slice_get, if◌then◌else◌}
 use Rattle.std.specs.Prelude.{Result, Ok, Err}
-use Rattle.std.specs.Char.{to_ascii_uppercase, to_ascii_lowercase}
+use Rattle.std.specs.Char.{is_ascii_whitespace, to_ascii_uppercase, to_ascii_lowercase}
 use Rattle.ng_base.specs.Meets.{◌>>=◌}
 use Rattle.ng_base.specs.Objects.{Object, is_array, StandsAmong}
 use Rattle.ng_base.specs.Views.{ViewTree, prim, list, rec, views_list, views_from, fields_list}
@@ -16,7 +16,8 @@ use Rattle.ng_language.specs.Unfolding.{prims}
 use Rattle.ng_store.proofs.ObjectReads.{object_is}
 use Rattle.ng_members.specs.Callees.{method_of}
 use Rattle.ng_members.specs.Members.{view_or_undefined}
-use Rattle.ng_members.specs.Methods.{is_list, items_of, text_in, place_or_none, place_of, argument, place_at, sliced, parts_of, concatenated, separator, part_text, joined_behind, joined_items, joined, found_from, trimmed, as_text, method_value}
+use Rattle.ng_base.specs.Trimming.{trimmed}
+use Rattle.ng_members.specs.Methods.{is_list, items_of, text_in, place_or_none, place_of, argument, place_at, sliced, parts_of, concatenated, separator, part_text, joined_behind, joined_items, joined, found_from, as_text, method_value}
 use Rattle.ng_members.specs.Names.{list_method}
 use Rattle.ng_members.specs.declared.methods.Method.{Method}
 use Rattle.ng_members.specs.declared.methods.Method.TheVariants as methods
@@ -259,6 +260,6 @@ method_given from to before mid now g k a b c m u t vs ws s r = by m
         given_then n from now (to_text now (argument vs 0)) (to_text before (argument ws 0)) (λ x. Ok (place_or_none (found_from x 0 (text_in u)))) (λ x. Ok (place_or_none (found_from x 0 (text_in t))))
         (text_same from before now g (argument vs 0) (argument ws 0) first)
         (λ x. place_given n from now (found_from x 0 (text_in u)) (found_from x 0 (text_in t)) (ap (found_from x 0) (text_in_same n from mid u t s)))
-    by methods.Trim = text_given n from now (trimmed (text_in u)) (trimmed (text_in t)) (ap trimmed (text_in_same n from mid u t s))
+    by methods.Trim = text_given n from now (trimmed is_ascii_whitespace (text_in u)) (trimmed is_ascii_whitespace (text_in t)) (ap (trimmed is_ascii_whitespace) (text_in_same n from mid u t s))
     by methods.Upper = text_given n from now (map to_ascii_uppercase (text_in u)) (map to_ascii_uppercase (text_in t)) (ap (map to_ascii_uppercase) (text_in_same n from mid u t s))
     by methods.Lower = text_given n from now (map to_ascii_lowercase (text_in u)) (map to_ascii_lowercase (text_in t)) (ap (map to_ascii_lowercase) (text_in_same n from mid u t s))

@@ -6,7 +6,8 @@ use Rattle.std.specs.Map.{lookup}
 use Rattle.std.specs.Ordering.{on, is_lt, ordering_then}
 use Rattle.std.proofs.lemmas.Bool.Decides.{nat_tests}
 use Rattle.ng_base.specs.Meets.{◌>>=◌}
-use Rattle.ng_base.specs.Objects.{Object, object_at, is_array, own_of, index_of, is_digit, spelled, only_zero, StandsAmong}
+use Rattle.std.specs.Char.{is_ascii_digit}
+use Rattle.ng_base.specs.Objects.{Object, object_at, is_array, own_of, index_of, spelled, only_zero, StandsAmong}
 use Rattle.ng_base.specs.Views.{ViewTree, ViewFields, prim, list, rec, no_fields, field_then, views_list, views_from, fields_list}
 use Rattle.ng_base.specs.declared.value.Value.{Value}
 use Rattle.ng_base.specs.declared.value.Value.TheVariants as value
@@ -121,10 +122,10 @@ key_same : (n from : ℕ) (now : List Object) (u t : ViewTree) → Seen n from n
 key_same n from now u t s = seen_same n from now key_of (λ o ts. refl) (λ o fs. refl) u t s
 
 -- names begin with no digit
-no_digit : (c : ℕ) → begins_name c ≡ true → is_digit c ≡ false
-no_digit c h = by (is_digit c) refl
+no_digit : (c : ℕ) → begins_name c ≡ true → is_ascii_digit c ≡ false
+no_digit c h = by (is_ascii_digit c) refl
   where
-    by : (b : Bool) → is_digit c ≡ b → is_digit c ≡ false
+    by : (b : Bool) → is_ascii_digit c ≡ b → is_ascii_digit c ≡ false
     by false e = e
     by true e = absurd (grind (arith, nat_tests, h, e))
 
@@ -135,10 +136,10 @@ first_of false b h = h
 name_is_none : (name : List ℕ) → is_name name ≡ true → index_of name ≡ None
 name_is_none [] h = absurd (true≢false (sym h))
 name_is_none (c ∷ cs) h =
-    let apart : is_digit c ≡ false = no_digit c (first_of (begins_name c) _ h) in
+    let apart : is_ascii_digit c ≡ false = no_digit c (first_of (begins_name c) _ h) in
     by (c == 48) refl apart
   where
-    by : (b : Bool) → (c == 48) ≡ b → is_digit c ≡ false → (if b then only_zero cs else spelled 0 (c ∷ cs)) ≡ None
+    by : (b : Bool) → (c == 48) ≡ b → is_ascii_digit c ≡ false → (if b then only_zero cs else spelled 0 (c ∷ cs)) ≡ None
     by true e d = absurd (grind (arith, nat_tests, e, d))
     by false e d = rw d refl
 

@@ -13,7 +13,7 @@ use Rattle.ng_base.specs.declared.path.Target.{Target}
 use Rattle.ng_base.specs.declared.path.Target.TheVariants as target
 use Rattle.ng_base.proofs.Binds.{bind_ok, if_true, if_false}
 use Rattle.ng_language.specs.Choice.{when_some}
-use Rattle.ng_language.specs.Letters.{is_digit}
+use Rattle.std.specs.Char.{is_ascii_digit}
 use Rattle.ng_language.specs.Spelling.{value_on}
 use Rattle.ng_language.proofs.LexSound.{both, code_is}
 use Rattle.ng_script.specs.Targets.{IsPath, IsTarget, has_no_blank, with_digit, numbers_from, as_path, id_of, target_of}
@@ -25,10 +25,10 @@ value_le : (n : ℕ) (ds : List ℕ) → n ≤ value_on n ds
 value_le n [] = omega arith
 value_le n (d ∷ ds) = let h = value_le (10 * n + (d - 48)) ds in omega (arith, h)
 
-not_slash : (d : ℕ) → is_digit d ≡ true → (d == slash) ≡ false
+not_slash : (d : ℕ) → is_ascii_digit d ≡ true → (d == slash) ≡ false
 not_slash d h = grind (arith, common_steps)
 
-digit_solid : (d : ℕ) → is_digit d ≡ true → not (is_blank d) ≡ true
+digit_solid : (d : ℕ) → is_ascii_digit d ≡ true → not (is_blank d) ≡ true
 digit_solid d h = grind (arith, common_steps)
 
 below : (x : ℕ) → x < 4294967296 → nat_lt x 4294967296 ≡ true
@@ -40,8 +40,8 @@ is_below x h = grind (arith, nat_tests)
 abbrev pub next_value : Option ℕ → ℕ → ℕ
 next_value now c = 10 * unwrap_or now 0 + (c - digit_zero)
 
-digit_taken : (now : Option ℕ) (d : ℕ) → is_digit d ≡ true → next_value now d < 4294967296 → with_digit now d ≡ Some (next_value now d)
-digit_taken now d h l = if_true (is_digit d && nat_lt (next_value now d) 4294967296) (Some (next_value now d)) None (both (is_digit d) (nat_lt (next_value now d) 4294967296) h (below (next_value now d) l))
+digit_taken : (now : Option ℕ) (d : ℕ) → is_ascii_digit d ≡ true → next_value now d < 4294967296 → with_digit now d ≡ Some (next_value now d)
+digit_taken now d h l = if_true (is_ascii_digit d && nat_lt (next_value now d) 4294967296) (Some (next_value now d)) None (both (is_ascii_digit d) (nat_lt (next_value now d) 4294967296) h (below (next_value now d) l))
 
 abbrev Numbers : Type 0
 Numbers = Result (List ℕ) ScriptKind
@@ -60,7 +60,7 @@ Low (Some n) = n < 4294967296
 -- the digits of a number that is being read, and the numbers after it
 abbrev pub Continues : Option ℕ → List ℕ → List ℕ → Type 0
 Continues now [] cs = ⊥
-Continues now (m ∷ ms) cs = (ds : List ℕ) × (rest : List ℕ) × (cs ≡ ds ++ rest) × (list_all is_digit ds ≡ true) × (value_on (unwrap_or now 0) ds ≡ m) × (m < 4294967296) × Filled now ds × IsPath ms rest
+Continues now (m ∷ ms) cs = (ds : List ℕ) × (rest : List ℕ) × (cs ≡ ds ++ rest) × (list_all is_ascii_digit ds ≡ true) × (value_on (unwrap_or now 0) ds ≡ m) × (m < 4294967296) × Filled now ds × IsPath ms rest
 
 abbrev Sound : List ℕ → Option ℕ → List ℕ → List ℕ → Type 0
 Sound done now cs ns = (ms : List ℕ) × (ns ≡ done ++ ms) × Continues now ms cs
@@ -69,15 +69,15 @@ filled_by : (now : Option ℕ) (c : ℕ) (ds : List ℕ) → Filled now (c ∷ d
 filled_by None c ds = omega arith
 filled_by (Some n) c ds = tt
 
-longer_digits : (done : List ℕ) (now : Option ℕ) (c : ℕ) (cs ns ms : List ℕ) → is_digit c ≡ true → ns ≡ done ++ ms → Continues (Some (next_value now c)) ms cs → Sound done now (c ∷ cs) ns
+longer_digits : (done : List ℕ) (now : Option ℕ) (c : ℕ) (cs ns ms : List ℕ) → is_ascii_digit c ≡ true → ns ≡ done ++ ms → Continues (Some (next_value now c)) ms cs → Sound done now (c ∷ cs) ns
 longer_digits done now c cs ns [] h e k = absurd k
-longer_digits done now c cs ns (m ∷ ms) h e k = (m ∷ ms, e, (c ∷ k.0, k.1, ap (λ (t : List ℕ). c ∷ t) k.2, both (is_digit c) (list_all is_digit k.0) h k.3, k.4, k.5, filled_by now c k.0, k.7))
+longer_digits done now c cs ns (m ∷ ms) h e k = (m ∷ ms, e, (c ∷ k.0, k.1, ap (λ (t : List ℕ). c ∷ t) k.2, both (is_ascii_digit c) (list_all is_ascii_digit k.0) h k.3, k.4, k.5, filled_by now c k.0, k.7))
 
-digit_step : (done : List ℕ) (now : Option ℕ) (c : ℕ) (cs ns : List ℕ) (b : Bool) → (is_digit c && nat_lt (next_value now c) 4294967296) ≡ b
+digit_step : (done : List ℕ) (now : Option ℕ) (c : ℕ) (cs ns : List ℕ) (b : Bool) → (is_ascii_digit c && nat_lt (next_value now c) 4294967296) ≡ b
     → when_some (if b then Some (next_value now c) else None) (λ n. numbers_from done (Some n) cs) no_target ≡ Ok ns
     → ((n : ℕ) → n < 4294967296 → numbers_from done (Some n) cs ≡ Ok ns → Sound done (Some n) cs ns) → Sound done now (c ∷ cs) ns
 digit_step done now c cs ns true h e ih =
-    let p = and_parts (is_digit c) (nat_lt (next_value now c) 4294967296) h in
+    let p = and_parts (is_ascii_digit c) (nat_lt (next_value now c) 4294967296) h in
     let s = ih (next_value now c) (is_below (next_value now c) p.1) e in
     longer_digits done now c cs ns s.0 p.0 s.1 s.2
 digit_step done now c cs ns false h e ih = absurd (cc)
@@ -90,7 +90,7 @@ none_step : (done : List ℕ) (c : ℕ) (cs ns : List ℕ) (a : Bool)
     → (if a then no_target else when_some (with_digit None c) (λ n. numbers_from done (Some n) cs) no_target) ≡ Ok ns
     → ((n : ℕ) → n < 4294967296 → numbers_from done (Some n) cs ≡ Ok ns → Sound done (Some n) cs ns) → Sound done None (c ∷ cs) ns
 none_step done c cs ns true e ih = absurd (cc)
-none_step done c cs ns false e ih = digit_step done None c cs ns (is_digit c && nat_lt (next_value None c) 4294967296) refl e ih
+none_step done c cs ns false e ih = digit_step done None c cs ns (is_ascii_digit c && nat_lt (next_value None c) 4294967296) refl e ih
 
 some_step : (done : List ℕ) (n c : ℕ) (cs ns : List ℕ) (a : Bool) → c == slash ≡ a → n < 4294967296
     → (if a then numbers_from (done ++ n ∷ []) None cs else when_some (with_digit (Some n) c) (λ m. numbers_from done (Some m) cs) no_target) ≡ Ok ns
@@ -99,7 +99,7 @@ some_step : (done : List ℕ) (n c : ℕ) (cs ns : List ℕ) (a : Bool) → c ==
 some_step done n c cs ns true h l e next ih =
     let s = next e in
     (n ∷ s.0, s.1 ∙ append_assoc done (n ∷ []) s.0, ([], c ∷ cs, refl, refl, refl, l, tt, more_path c cs s.0 (code_is c slash h) s.2))
-some_step done n c cs ns false h l e next ih = digit_step done (Some n) c cs ns (is_digit c && nat_lt (next_value (Some n) c) 4294967296) refl e ih
+some_step done n c cs ns false h l e next ih = digit_step done (Some n) c cs ns (is_ascii_digit c && nat_lt (next_value (Some n) c) 4294967296) refl e ih
 
 numbers_are : (done : List ℕ) (now : Option ℕ) (cs ns : List ℕ) → Low now → numbers_from done now cs ≡ Ok ns → Sound done now cs ns
 numbers_are done None [] ns l e = absurd (cc)
@@ -108,25 +108,25 @@ numbers_are done None (c ∷ cs) ns l e = none_step done c cs ns (c == slash) e 
 numbers_are done (Some n) (c ∷ cs) ns l e = some_step done n c cs ns (c == slash) refl l e (λ h. numbers_are (done ++ n ∷ []) None cs ns tt h) (λ m low h. numbers_are done (Some m) cs ns low h)
 
 -- what digits add
-taken_none : (done : List ℕ) (d : ℕ) (cs : List ℕ) → is_digit d ≡ true → next_value None d < 4294967296 → numbers_from done None (d ∷ cs) ≡ numbers_from done (Some (next_value None d)) cs
+taken_none : (done : List ℕ) (d : ℕ) (cs : List ℕ) → is_ascii_digit d ≡ true → next_value None d < 4294967296 → numbers_from done None (d ∷ cs) ≡ numbers_from done (Some (next_value None d)) cs
 taken_none done d cs h l =
     if_false (d == slash) no_target (when_some (with_digit None d) (λ n. numbers_from done (Some n) cs) no_target) (not_slash d h)
     ∙ ap (λ (o : Option ℕ). when_some o (λ n. numbers_from done (Some n) cs) no_target) (digit_taken None d h l)
 
-taken_some : (done : List ℕ) (n d : ℕ) (cs : List ℕ) → is_digit d ≡ true → next_value (Some n) d < 4294967296 → numbers_from done (Some n) (d ∷ cs) ≡ numbers_from done (Some (next_value (Some n) d)) cs
+taken_some : (done : List ℕ) (n d : ℕ) (cs : List ℕ) → is_ascii_digit d ≡ true → next_value (Some n) d < 4294967296 → numbers_from done (Some n) (d ∷ cs) ≡ numbers_from done (Some (next_value (Some n) d)) cs
 taken_some done n d cs h l =
     if_false (d == slash) (numbers_from (done ++ n ∷ []) None cs) (when_some (with_digit (Some n) d) (λ m. numbers_from done (Some m) cs) no_target) (not_slash d h)
     ∙ ap (λ (o : Option ℕ). when_some o (λ m. numbers_from done (Some m) cs) no_target) (digit_taken (Some n) d h l)
 
-digits_on : (ds rest done : List ℕ) (now : Option ℕ) (m : ℕ) → list_all is_digit ds ≡ true → value_on (unwrap_or now 0) ds ≡ m → m < 4294967296 → Filled now ds → numbers_from done now (ds ++ rest) ≡ numbers_from done (Some m) rest
+digits_on : (ds rest done : List ℕ) (now : Option ℕ) (m : ℕ) → list_all is_ascii_digit ds ≡ true → value_on (unwrap_or now 0) ds ≡ m → m < 4294967296 → Filled now ds → numbers_from done now (ds ++ rest) ≡ numbers_from done (Some m) rest
 digits_on [] rest done None m a v l f = absurd (omega (arith, f))
 digits_on [] rest done (Some n) m a v l f = ap (λ (k : ℕ). numbers_from done (Some k) rest) v
 digits_on (d ∷ ds) rest done None m a v l f =
-    let p = and_parts (is_digit d) (list_all is_digit ds) a in
+    let p = and_parts (is_ascii_digit d) (list_all is_ascii_digit ds) a in
     let low : next_value None d < 4294967296 = omega (arith, value_le (next_value None d) ds, v, l) in
     taken_none done d (ds ++ rest) p.0 low ∙ digits_on ds rest done (Some (next_value None d)) m p.1 v l tt
 digits_on (d ∷ ds) rest done (Some n) m a v l f =
-    let p = and_parts (is_digit d) (list_all is_digit ds) a in
+    let p = and_parts (is_ascii_digit d) (list_all is_ascii_digit ds) a in
     let low : next_value (Some n) d < 4294967296 = omega (arith, value_le (next_value (Some n) d) ds, v, l) in
     taken_some done n d (ds ++ rest) p.0 low ∙ digits_on ds rest done (Some (next_value (Some n) d)) m p.1 v l tt
 
@@ -137,9 +137,9 @@ path_on done m (n ∷ ms) rest h =
     ∙ (digits_on h.0 h.1 (done ++ m ∷ []) None n h.3.0 h.3.2 h.3.3 h.3.1
     ∙ (path_on (done ++ m ∷ []) n ms h.1 h.4 ∙ ap (λ (t : List ℕ). let r : Numbers = Ok t in r) (append_assoc done (m ∷ []) (n ∷ ms))))
 
-digits_solid : (ds : List ℕ) → list_all is_digit ds ≡ true → has_no_blank ds ≡ true
+digits_solid : (ds : List ℕ) → list_all is_ascii_digit ds ≡ true → has_no_blank ds ≡ true
 digits_solid [] h = refl
-digits_solid (d ∷ ds) h = let p = and_parts (is_digit d) (list_all is_digit ds) h in both (not (is_blank d)) (has_no_blank ds) (digit_solid d p.0) (digits_solid ds p.1)
+digits_solid (d ∷ ds) h = let p = and_parts (is_ascii_digit d) (list_all is_ascii_digit ds) h in both (not (is_blank d)) (has_no_blank ds) (digit_solid d p.0) (digits_solid ds p.1)
 
 path_solid : (ns cs : List ℕ) → IsPath ns cs → has_no_blank cs ≡ true
 path_solid [] cs h = ap has_no_blank h

@@ -1,14 +1,12 @@
 -- The lines of a script.
-use Rattle.std.specs.Prelude.{ℕ, ◌==◌, ◌&&◌, Bool, false, List, [], ◌∷◌, reverse, Option, None, Some, if◌then◌else◌}
+use Rattle.std.specs.Prelude.{ℕ, ◌==◌, ◌&&◌, Bool, false, List, [], ◌∷◌, Option, None, Some, if◌then◌else◌}
 use Rattle.ng_base.specs.Codes.{line_feed, carriage_return}
-use Rattle.ng_script.specs.Words.{past_blanks}
+use Rattle.ng_base.specs.Trimming.{trimmed as without_blanks}
+use Rattle.ng_script.specs.Words.{is_blank}
 
--- without the blanks at the end, and at both ends
-abbrev pub without_blanks_at_end : List ℕ → List ℕ
-without_blanks_at_end cs = reverse (past_blanks (reverse cs))
-
+-- without the blanks at both ends
 abbrev pub trimmed : List ℕ → List ℕ
-trimmed cs = without_blanks_at_end (past_blanks cs)
+trimmed cs = without_blanks is_blank cs
 
 abbrev pub begins_line_feed : List ℕ → Bool
 begins_line_feed [] = false

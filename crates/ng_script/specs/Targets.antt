@@ -7,7 +7,7 @@ use Rattle.ng_base.specs.Meets.{◌>>=◌}
 use Rattle.ng_base.specs.declared.path.Target.{Target}
 use Rattle.ng_base.specs.declared.path.Target.TheVariants as target
 use Rattle.ng_language.specs.Choice.{when_some}
-use Rattle.ng_language.specs.Letters.{is_digit}
+use Rattle.std.specs.Char.{is_ascii_digit}
 use Rattle.ng_language.specs.Spelling.{value_on}
 use Rattle.ng_script.specs.Words.{is_blank}
 use Rattle.ng_script.specs.declared.fault.ScriptKind.{ScriptKind}
@@ -15,7 +15,7 @@ use Rattle.ng_script.specs.declared.fault.ScriptKind.TheVariants as kinds
 
 -- a child's number is below 2^32, and may have zeros in front
 abbrev pub IsChildNumber : ℕ → List ℕ → Type 0
-IsChildNumber n ds = (list_all is_digit ds ≡ true) × (0 < length ds) × (value_on 0 ds ≡ n) × (n < 2 ^ 32)
+IsChildNumber n ds = (list_all is_ascii_digit ds ≡ true) × (0 < length ds) × (value_on 0 ds ≡ n) × (n < 2 ^ 32)
 
 -- each number of a path has a `/` in front
 abbrev pub IsPath : List ℕ → List ℕ → Type 0
@@ -33,7 +33,7 @@ IsTarget (target.Path ns) cs = (0 < length ns) × IsPath ns cs
 -- a number with one digit more, where it is one and not too large
 abbrev pub with_digit : Option ℕ → ℕ → Option ℕ
 with_digit now c =
-    if is_digit c && nat_lt (10 * unwrap_or now 0 + (c - digit_zero)) 4294967296
+    if is_ascii_digit c && nat_lt (10 * unwrap_or now 0 + (c - digit_zero)) 4294967296
     then Some (10 * unwrap_or now 0 + (c - digit_zero))
     else None
 

@@ -1,6 +1,7 @@
 -- The words of a line, with blanks between them.
 use Rattle.std.specs.Prelude.{ℕ, ◌==◌, ◌||◌, Bool, List, [], ◌∷◌, if◌then◌else◌}
 use Rattle.ng_base.specs.Codes.{tab, line_feed, space}
+use Rattle.ng_base.specs.Trimming.{past}
 use Rattle.ng_script.specs.declared.cut.Part.{Part}
 use Rattle.ng_script.specs.declared.cut.Part.TheVariants as part
 
@@ -23,8 +24,7 @@ onward p (c ∷ cs) = if p c then c ∷ cs else onward p cs
 
 -- without the blanks in front
 abbrev pub past_blanks : List ℕ → List ℕ
-past_blanks [] = []
-past_blanks (c ∷ cs) = if is_blank c then past_blanks cs else c ∷ cs
+past_blanks cs = past is_blank cs
 
 -- the first word, and what stands after it and the blanks that follow it
 abbrev pub word : List ℕ → List ℕ

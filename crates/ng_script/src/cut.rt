@@ -1,12 +1,12 @@
 //! Cuts a text at the end of a line or of a word, and takes off what stands round it.
-ghost use Rattle.std.specs.Prelude.{◌≡◌, ◌≤◌, ◌<◌, ◌++◌, ◌∷◌, [], length, take, get_or, true, not, MatchOption, IfSome, option_map};
+ghost use Rattle.std.specs.Prelude.{◌≡◌, ◌≤◌, ◌<◌, ◌∷◌, length, take, get_or, true, not, IfSome, option_map};
 ghost use Rattle.std.specs.List.{list_all};
 ghost use Rattle.std.specs.Str.{chars};
 ghost use Rattle.ng_script.specs.Words.{is_blank, ends, front, onward, past_blanks, word, next_part};
-ghost use Rattle.ng_script.specs.Lines.{without_blanks_at_end, trimmed, without_return, lines, lines_after};
+ghost use Rattle.ng_script.specs.Lines.{trimmed, without_return, lines, lines_after};
 
 use ng_base::reader::Plain;
-use std::marker::Model;
+use ng_base::trimming::{Back, Class, trim, without_front};
 
 /// A part of a text, which goes up to the character that ends it.
 #[derive(Clone, Copy, Debug, PartialEq, Eq)]
@@ -50,94 +50,30 @@ pub fn cut(part: Part, text: &str) -> (&str, &str)
     (&text[..count], &text[count..])
 }
 
-/// The last character of a text, and what stands before it.
-fn last_of(text: &str) -> Option<(char, &str)>
-    ensures { MatchOption result (chars text.now ≡ []) (λ p. chars text.now ≡ chars p.1.now ++ p.0 ∷ []) }
-{
-    let mut all = text.chars();
-    let c = all.next_back()?;
-    Some((c, all.as_str()))
-}
-
-/// A text that is read from its end.
+/// A space or a tab.
 #[derive(Drop)]
-struct Back<'a> {
-    text: &'a str,
-}
+struct Blank;
 
-impl<'a> Model for Back<'a> {
-    ghost use Rattle.std.specs.Prelude.{ℕ, List};
-    ghost use Rattle.std.specs.Str.{chars, IsUtf8};
+impl Class for Blank {
+    ghost holds = { is_blank };
 
-    ghost Value = { List ℕ };
-
-    ghost view = { λ b. chars b.text.now };
-
-    ghost invariant = { λ b. IsUtf8 b.text.now };
-}
-
-impl<'a> Back<'a> {
-    fn new(text: &'a str) -> Back<'a>
-        ensures { result ≡ chars text.now }
-    {
-        Back { text }
+    fn has(c: char) -> bool {
+        c == ' ' || c == '\t'
     }
-
-    /// The last character, and what stands before it.
-    fn last(&self) -> Option<(char, Back<'a>)>
-        ensures { MatchOption result (self.now ≡ []) (λ p. self.now ≡ p.1 ++ p.0 ∷ []) }
-    {
-        let (c, text) = last_of(self.text)?;
-        Some((c, Back { text }))
-    }
-
-    fn rest(&self) -> &'a str
-        ensures { chars result.now ≡ self.now }
-    {
-        self.text
-    }
-}
-
-/// Whether it is a space or a tab.
-fn is_blank(c: char) -> bool
-    ensures { result ≡ is_blank c }
-{
-    c == ' ' || c == '\t'
 }
 
 /// Without the blanks in front.
 pub fn past_blanks(text: &str) -> &str
     ensures { chars result.now ≡ past_blanks (chars text.now) }
 {
-    let mut reader = Plain::new(text);
-    while let Some((c, rest)) = reader.first() {
-        if !is_blank(c) {
-            return reader.rest();
-        }
-        reader = rest;
-    }
-    reader.rest()
-}
-
-/// Without the blanks at the end.
-fn without_blanks_at_end(text: &str) -> &str
-    ensures { chars result.now ≡ without_blanks_at_end (chars text.now) }
-{
-    let mut back = Back::new(text);
-    while let Some((c, before)) = back.last() {
-        if !is_blank(c) {
-            return back.rest();
-        }
-        back = before;
-    }
-    back.rest()
+    without_front::<Blank>(text)
 }
 
 /// Without the blanks at both ends.
 pub fn trimmed(text: &str) -> &str
     ensures { chars result.now ≡ trimmed (chars text.now) }
 {
-    without_blanks_at_end(past_blanks(text))
+    trim::<Blank>(text)
 }
 
 /// Without a return at the end.

@@ -1,6 +1,6 @@
 //! Targets of commands.
 ghost use Rattle.std.specs.Prelude.{◌≡◌, ◌<◌, [], None};
-ghost use Rattle.ng_language.specs.Letters.{is_digit};
+ghost use Rattle.std.specs.Char.{is_ascii_digit};
 ghost use Rattle.std.specs.Str.{chars};
 ghost use Rattle.ng_base.specs.Meets.{Gives};
 ghost use Rattle.ng_script.specs.Free.{is_want};
@@ -14,7 +14,7 @@ use std::alloc::Global;
 
 /// Whether it is a digit.
 fn digit(c: char) -> bool
-    ensures { result ≡ is_digit c }
+    ensures { result ≡ is_ascii_digit c }
 {
     '0' <= c && c <= '9'
 }

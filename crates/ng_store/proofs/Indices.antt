@@ -11,7 +11,8 @@ use Rattle.std.specs.List.Sorted.{IsPermutation}
 use Rattle.std.specs.Map.{keys_of}
 use Rattle.std.specs.BTreeSet.{insert_key}
 use Rattle.std.specs.Ordering.{match_ordering}
-use Rattle.ng_base.specs.Objects.{Object, is_array, is_digit, spelled, only_zero, index_of, with_index, indices_from, other_names, names_of}
+use Rattle.std.specs.Char.{is_ascii_digit}
+use Rattle.ng_base.specs.Objects.{Object, is_array, spelled, only_zero, index_of, with_index, indices_from, other_names, names_of}
 use Rattle.ng_store.proofs.Sound.{Property}
 
 guarded : (b : Bool) (x : Option ℕ) (i : ℕ) → (if b then x else None) ≡ Some i → (b ≡ true) × (x ≡ Some i)
@@ -26,7 +27,7 @@ pub record IsDigit (c : ℕ) : Type 0 where
   pub low : 48 ≤ c
   pub high : c ≤ 57
 
-digit : (c : ℕ) → is_digit c ≡ true → IsDigit c
+digit : (c : ℕ) → is_ascii_digit c ≡ true → IsDigit c
 digit c h = let t = two (nat_le 48 c) (nat_le c 57) h in record { low = grind (arith, nat_tests, t.0); high = grind (arith, nat_tests, t.1) }
 
 decimal_more : (n c : ℕ) → IsDigit c → 0 < n → 10 * n + (c - 48) < 4294967295 → decimal (10 * n + (c - 48)) ≡ decimal n ++ c ∷ []
@@ -44,8 +45,8 @@ spelled_is : (cs : List ℕ) (n i : ℕ) → 0 < n → n < 4294967295 → spelle
 spelled_is [] n i p l h = let e : n ≡ i = cc in record { is = append-nil (decimal n) ∙ ap decimal e; below = subst (λ k. k < 4294967295) e l }
 spelled_is (c ∷ cs) n i p l h =
     let m = 10 * n + (c - 48) in
-    let g = guarded (is_digit c && nat_lt m 4294967295) (spelled m cs) i h in
-    let t = two (is_digit c) (nat_lt m 4294967295) g.0 in
+    let g = guarded (is_ascii_digit c && nat_lt m 4294967295) (spelled m cs) i h in
+    let t = two (is_ascii_digit c) (nat_lt m 4294967295) g.0 in
     let d = digit c t.0 in
     let below : m < 4294967295 = grind (arith, nat_tests, t.1) in
     let r = spelled_is cs m i (omega arith) below g.1 in
@@ -58,8 +59,8 @@ zero_is (c ∷ cs) i h = absurd (cc)
 first_is : (c : ℕ) (cs : List ℕ) (i : ℕ) → ((c == 48) ≡ false) → spelled 0 (c ∷ cs) ≡ Some i → IsNumber (c ∷ cs) i
 first_is c cs i apart h =
     let m = 10 * 0 + (c - 48) in
-    let g = guarded (is_digit c && nat_lt m 4294967295) (spelled m cs) i h in
-    let t = two (is_digit c) (nat_lt m 4294967295) g.0 in
+    let g = guarded (is_ascii_digit c && nat_lt m 4294967295) (spelled m cs) i h in
+    let t = two (is_ascii_digit c) (nat_lt m 4294967295) g.0 in
     let d = digit c t.0 in
     let below : m < 4294967295 = grind (arith, nat_tests, t.1) in
     let some : 0 < m = grind (arith, nat_tests, apart, d.low) in

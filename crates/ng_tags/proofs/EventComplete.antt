@@ -6,7 +6,8 @@ use Rattle.ng_base.specs.Cells.{Cell}
 use Rattle.ng_base.proofs.Binds.{if_true, if_false}
 use Rattle.ng_markup.specs.Tables.{is_left_out}
 use Rattle.ng_tags.specs.Free.{fault}
-use Rattle.ng_tags.specs.Letters.{is_letter, begins_tag, lower}
+use Rattle.std.specs.Char.{is_ascii_alphabetic}
+use Rattle.ng_tags.specs.Letters.{begins_tag, lower}
 use Rattle.ng_tags.specs.Skips.{past_word, name_run}
 use Rattle.ng_tags.specs.References.{character}
 use Rattle.ng_tags.specs.Texts.{ends, no_text, tag_follows, text_run}
@@ -31,7 +32,7 @@ pub record LexRead (total : ℕ) (e : Event) (us rest : List Cell) : Type 0 wher
   pub whole : us ++ rest ≡ first ∷ more
   pub read : event_at total first more ≡ Ok (e, rest)
 
-pub begins_letter : (c : ℕ) → is_letter c ≡ true → begins_tag c ≡ true
+pub begins_letter : (c : ℕ) → is_ascii_alphabetic c ≡ true → begins_tag c ≡ true
 begins_letter c h = grind (arith, nat_tests)
 
 pub begins_slash : (c : ℕ) → c ≡ 47 → begins_tag c ≡ true
@@ -40,11 +41,11 @@ begins_slash c h = subst (λ (n : ℕ). begins_tag n ≡ true) (sym h) refl
 pub begins_mark : (c : ℕ) → c ≡ 33 → begins_tag c ≡ true
 begins_mark c h = subst (λ (n : ℕ). begins_tag n ≡ true) (sym h) refl
 
-slash_no_letter : (c : ℕ) → c ≡ 47 → is_letter c ≡ false
-slash_no_letter c h = subst (λ (n : ℕ). is_letter n ≡ false) (sym h) refl
+slash_no_letter : (c : ℕ) → c ≡ 47 → is_ascii_alphabetic c ≡ false
+slash_no_letter c h = subst (λ (n : ℕ). is_ascii_alphabetic n ≡ false) (sym h) refl
 
-mark_no_letter : (c : ℕ) → c ≡ 33 → is_letter c ≡ false
-mark_no_letter c h = subst (λ (n : ℕ). is_letter n ≡ false) (sym h) refl
+mark_no_letter : (c : ℕ) → c ≡ 33 → is_ascii_alphabetic c ≡ false
+mark_no_letter c h = subst (λ (n : ℕ). is_ascii_alphabetic n ≡ false) (sym h) refl
 
 mark_no_slash : (c : ℕ) → c ≡ 33 → (c == 47) ≡ false
 mark_no_slash c h = subst (λ (n : ℕ). (n == 47) ≡ false) (sym h) refl
@@ -56,17 +57,17 @@ markup_on total a b cs h i =
 abbrev pub other : ℕ → ℕ → Cell → List Cell → Result (Event × List Cell) HtmlFault
 other total p c cs = if c.0 == 33 then comment total p (past_word (codes "--") cs) else Err (fault kind.BadTag p)
 
-pub letter_on : (total p : ℕ) (c : Cell) (cs : List Cell) → is_letter c.0 ≡ true → markup total p (c ∷ cs) ≡ start_tag total p (name_run (lower c.0 ∷ []) cs)
-letter_on total p c cs h = if_true (is_letter c.0) (start_tag total p (name_run (lower c.0 ∷ []) cs)) (if c.0 == 47 then end_tag total p cs else other total p c cs) h
+pub letter_on : (total p : ℕ) (c : Cell) (cs : List Cell) → is_ascii_alphabetic c.0 ≡ true → markup total p (c ∷ cs) ≡ start_tag total p (name_run (lower c.0 ∷ []) cs)
+letter_on total p c cs h = if_true (is_ascii_alphabetic c.0) (start_tag total p (name_run (lower c.0 ∷ []) cs)) (if c.0 == 47 then end_tag total p cs else other total p c cs) h
 
 pub slash_on : (total p : ℕ) (c : Cell) (cs : List Cell) → c.0 ≡ 47 → markup total p (c ∷ cs) ≡ end_tag total p cs
 slash_on total p c cs h =
-    if_false (is_letter c.0) (start_tag total p (name_run (lower c.0 ∷ []) cs)) (if c.0 == 47 then end_tag total p cs else other total p c cs) (slash_no_letter c.0 h)
+    if_false (is_ascii_alphabetic c.0) (start_tag total p (name_run (lower c.0 ∷ []) cs)) (if c.0 == 47 then end_tag total p cs else other total p c cs) (slash_no_letter c.0 h)
     ∙ if_true (c.0 == 47) (end_tag total p cs) (other total p c cs) (code_is c.0 47 h)
 
 pub mark_on : (total p : ℕ) (c : Cell) (cs : List Cell) → c.0 ≡ 33 → markup total p (c ∷ cs) ≡ comment total p (past_word (codes "--") cs)
 mark_on total p c cs h =
-    if_false (is_letter c.0) (start_tag total p (name_run (lower c.0 ∷ []) cs)) (if c.0 == 47 then end_tag total p cs else other total p c cs) (mark_no_letter c.0 h)
+    if_false (is_ascii_alphabetic c.0) (start_tag total p (name_run (lower c.0 ∷ []) cs)) (if c.0 == 47 then end_tag total p cs else other total p c cs) (mark_no_letter c.0 h)
     ∙ (if_false (c.0 == 47) (end_tag total p cs) (other total p c cs) (mark_no_slash c.0 h)
     ∙ if_true (c.0 == 33) (comment total p (past_word (codes "--") cs)) (Err (fault kind.BadTag p)) (code_is c.0 33 h))
 
@@ -75,7 +76,7 @@ record Named (cs : List Cell) : Type 0 where
   c : Cell
   w : List Cell
   whole : cs ≡ c ∷ w
-  is_one : is_letter c.0 ≡ true
+  is_one : is_ascii_alphabetic c.0 ≡ true
 
 name_of : (cs : List Cell) → IsName (chars_of cs) → Named cs
 name_of [] h = absurd h

@@ -5,7 +5,8 @@ use Rattle.std.specs.Str.{bytes_eq}
 use Rattle.ng_base.specs.Cells.{Cell}
 use Rattle.ng_markup.specs.Tables.{is_left_out, is_line_dropping}
 use Rattle.ng_tags.specs.Free.{fault}
-use Rattle.ng_tags.specs.Letters.{is_letter, lower}
+use Rattle.std.specs.Char.{is_ascii_alphabetic}
+use Rattle.ng_tags.specs.Letters.{lower}
 use Rattle.ng_tags.specs.Skips.{past, past_spaces, past_word, name_run, place_in}
 use Rattle.ng_tags.specs.References.{character}
 use Rattle.ng_tags.specs.Texts.{no_text, tag_follows, with_character, text_run, past_name, past_end_tag}
@@ -83,7 +84,7 @@ end_tag_less : (total p : ℕ) (cs : List Cell) → LeftOk (end_tag total p cs) 
 end_tag_less total p [] = tt
 end_tag_less total p (c ∷ cs) =
     let r = name_run (lower c.0 ∷ []) cs in
-    either_ok (is_letter c.0) (end_tag_named total p r) (Err (fault kind.BadTag p)) (length (c ∷ cs))
+    either_ok (is_ascii_alphabetic c.0) (end_tag_named total p r) (Err (fault kind.BadTag p)) (length (c ∷ cs))
     (more_ok (end_tag_named total p r) (length r.1) (length (c ∷ cs)) (tag_named_less total p r) (omega (arith, name_less (lower c.0 ∷ []) cs))) tt
 
 abbrev WordLeft : Option (List Cell) → ℕ → Type 0
@@ -124,7 +125,7 @@ markup_less total p (c ∷ cs) =
     let r = name_run (lower c.0 ∷ []) cs in
     let bad : Result (Event × List Cell) HtmlFault = Err (fault kind.BadTag p) in
     let note = comment total p (past_word (codes "--") cs) in
-    either_ok (is_letter c.0) (start_tag total p r) (if c.0 == 47 then end_tag total p cs else if c.0 == 33 then note else bad) m
+    either_ok (is_ascii_alphabetic c.0) (start_tag total p r) (if c.0 == 47 then end_tag total p cs else if c.0 == 33 then note else bad) m
     (more_ok (start_tag total p r) (length r.1) m (start_less total p r) (omega (arith, name_less (lower c.0 ∷ []) cs)))
     (either_ok (c.0 == 47) (end_tag total p cs) (if c.0 == 33 then note else bad) m
     (more_ok (end_tag total p cs) (length cs) m (end_tag_less total p cs) (omega arith))

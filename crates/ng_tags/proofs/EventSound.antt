@@ -6,7 +6,8 @@ use Rattle.std.specs.List.{list_all}
 use Rattle.ng_base.specs.Cells.{Cell}
 use Rattle.ng_base.proofs.Binds.{chosen, guarded}
 use Rattle.ng_tags.specs.Free.{fault}
-use Rattle.ng_tags.specs.Letters.{is_letter, lower}
+use Rattle.std.specs.Char.{is_ascii_alphabetic}
+use Rattle.ng_tags.specs.Letters.{lower}
 use Rattle.ng_tags.specs.Skips.{past_word, name_run}
 use Rattle.ng_tags.specs.References.{character}
 use Rattle.ng_tags.specs.Texts.{ends, no_text, tag_follows, text_run}
@@ -127,7 +128,7 @@ markup_read total a (c ∷ cs) e rest h s n =
     let bad : Result (Event × List Cell) HtmlFault = Err (fault kind.BadTag a.1) in
     let start = start_tag total a.1 (name_run (lower c.0 ∷ []) cs) in
     let note = comment total a.1 (past_word (codes "--") cs) in
-    elim (chosen (is_letter c.0) start (if c.0 == 47 then end_tag total a.1 cs else if c.0 == 33 then note else bad) (Ok (e, rest)) s) [
+    elim (chosen (is_ascii_alphabetic c.0) start (if c.0 == 47 then end_tag total a.1 cs else if c.0 == 33 then note else bad) (Ok (e, rest)) s) [
       | inl g ↦ start_read total a c cs e rest h g.0 g.1 n
       | inr g ↦ elim (chosen (c.0 == 47) (end_tag total a.1 cs) (if c.0 == 33 then note else bad) (Ok (e, rest)) g.1) [
         | inl k ↦ end_tag_read total a c cs e rest h (is_code c.0 47 k.0) k.1

@@ -6,7 +6,8 @@ use Rattle.ng_base.specs.Cells.{Cell}
 use Rattle.ng_base.proofs.Binds.{chosen, guarded}
 use Rattle.ng_markup.specs.Tables.{is_left_out, is_raw}
 use Rattle.ng_tags.specs.Free.{fault, met_or}
-use Rattle.ng_tags.specs.Letters.{is_letter, is_in_name, lower}
+use Rattle.std.specs.Char.{is_ascii_alphabetic}
+use Rattle.ng_tags.specs.Letters.{is_in_name, lower}
 use Rattle.ng_tags.specs.Skips.{past_word, name_run, place_in}
 use Rattle.ng_tags.specs.References.{character}
 use Rattle.ng_tags.specs.Texts.{no_text, tag_follows, text_run, past_end_tag}
@@ -101,7 +102,7 @@ raw_faulty total c cs t inner e rest f d more (Some g) (Some left) k h i p w v =
     as_fault total c cs f g e (event.Start (with_fault t g)) (sym was) v refl (bad_content total c cs t inner g k (ap (λ (r : Decoded × List Cell). r.0.fault) h ∙ i))
 
 -- a start tag without a fault so far
-tag_is : (a c : Cell) (m : List ℕ) (ds : List Cell) (i : Inside × List Cell) (w : List Cell) → a.0 ≡ 60 → is_letter c.0 ≡ true → list_all is_in_name (chars_of w) ≡ true → m ≡ (lower c.0 ∷ []) ++ map lower (chars_of w) → is_left_out m ≡ false → may_follow_name ds ≡ true →
+tag_is : (a c : Cell) (m : List ℕ) (ds : List Cell) (i : Inside × List Cell) (w : List Cell) → a.0 ≡ 60 → is_ascii_alphabetic c.0 ≡ true → list_all is_in_name (chars_of w) ≡ true → m ≡ (lower c.0 ∷ []) ++ map lower (chars_of w) → is_left_out m ≡ false → may_follow_name ds ≡ true →
     (k : Attributed [] None i.0 ds i.1) → i.0.fault ≡ None → IsStartTag (tag_of m a.1 i.0) (a ∷ ((c ∷ w) ++ k.us)) i.1
 tag_is a c m ds i w h l al rd lo mf k nf = record {
   first = a;
@@ -118,7 +119,7 @@ tag_is a c m ds i w h l al rd lo mf k nf = record {
   no_fault = nf;
 }
 
-behind_faulty : (total : ℕ) (a c : Cell) (cs : List Cell) (e : Event) (rest : List Cell) (f : HtmlFault) (m : List ℕ) (ds : List Cell) (i : Inside × List Cell) (w : List Cell) → a.0 ≡ 60 → is_letter c.0 ≡ true → cs ≡ w ++ ds → list_all is_in_name (chars_of w) ≡ true →
+behind_faulty : (total : ℕ) (a c : Cell) (cs : List Cell) (e : Event) (rest : List Cell) (f : HtmlFault) (m : List ℕ) (ds : List Cell) (i : Inside × List Cell) (w : List Cell) → a.0 ≡ 60 → is_ascii_alphabetic c.0 ≡ true → cs ≡ w ++ ds → list_all is_in_name (chars_of w) ≡ true →
     m ≡ (lower c.0 ∷ []) ++ map lower (chars_of w) → IsWholeName m (c ∷ w) ds → is_left_out m ≡ false → may_follow_name ds ≡ true → attributes total ds ≡ i → start_with total a.1 m i ≡ (e, rest) → fault_in f e ≡ Some f → IsFaulty total a (c ∷ cs) f
 behind_faulty total a c cs e rest f m ds i w h l wh al rd nm lo mf q x v =
     let t0 = tag_of m a.1 i.0 in
@@ -149,7 +150,7 @@ behind_faulty total a c cs e rest f m ds i w h l wh al rd nm lo mf q x v =
           in_tag m (c ∷ w) ds f h (ap (λ xs. c ∷ xs) wh) nm lo (may_follow_of ds mf) (inside_wrong total ds f (ap (λ (r : Inside × List Cell). r.0.fault) q ∙ found))
     ]
 
-start_faulty : (total : ℕ) (a c : Cell) (cs : List Cell) (e : Event) (rest : List Cell) (f : HtmlFault) → a.0 ≡ 60 → is_letter c.0 ≡ true → start_tag total a.1 (name_run (lower c.0 ∷ []) cs) ≡ Ok (e, rest) → fault_in f e ≡ Some f → IsFaulty total a (c ∷ cs) f
+start_faulty : (total : ℕ) (a c : Cell) (cs : List Cell) (e : Event) (rest : List Cell) (f : HtmlFault) → a.0 ≡ 60 → is_ascii_alphabetic c.0 ≡ true → start_tag total a.1 (name_run (lower c.0 ∷ []) cs) ≡ Ok (e, rest) → fault_in f e ≡ Some f → IsFaulty total a (c ∷ cs) f
 start_faulty total a c cs e rest f h l s v =
     let r = name_run (lower c.0 ∷ []) cs in
     let i = attributes total r.1 in
@@ -170,7 +171,7 @@ markup_faulty total a (c ∷ cs) t rest f h s v =
     let bad : Result (Event × List Cell) HtmlFault = Err (fault kind.BadTag a.1) in
     let start = start_tag total a.1 (name_run (lower c.0 ∷ []) cs) in
     let note = comment total a.1 (past_word (codes "--") cs) in
-    elim (chosen (is_letter c.0) start (if c.0 == 47 then end_tag total a.1 cs else if c.0 == 33 then note else bad) (Ok (event.Start t, rest)) s) [
+    elim (chosen (is_ascii_alphabetic c.0) start (if c.0 == 47 then end_tag total a.1 cs else if c.0 == 33 then note else bad) (Ok (event.Start t, rest)) s) [
       | inl g ↦ start_faulty total a c cs (event.Start t) rest f h g.0 g.1 v
       | inr g ↦ elim (chosen (c.0 == 47) (end_tag total a.1 cs) (if c.0 == 33 then note else bad) (Ok (event.Start t, rest)) g.1) [
         | inl k ↦ absurd (no_start (end_tag total a.1 cs) t rest (end_no_start total a.1 cs) k.1)

@@ -3,7 +3,7 @@ use Rattle.std.proofs.Common.{◌≡◌, ℕ, true, List, [], ◌∷◌, refl, a
 use Rattle.std.specs.Prelude.{Option, None, Some, if◌then◌else◌, ◌==◌}
 use Rattle.ng_base.specs.Cells.{Cell}
 use Rattle.ng_base.proofs.Binds.{chosen, if_true, if_false}
-use Rattle.ng_tags.specs.Letters.{is_letter}
+use Rattle.std.specs.Char.{is_ascii_alphabetic}
 use Rattle.ng_tags.specs.Skips.{past}
 use Rattle.ng_tags.specs.References.{Read, named_character, is_digit_of, digit_run, number_from, number_at, behind_sign, letter_run, read_so, named, name_from, reference}
 use Rattle.ng_tags.specs.Spelling.{BeginsNumber, with_digit_first, with_sign_first, NoReference}
@@ -49,9 +49,9 @@ pub number_begins : (cs rest : List Cell) → reference cs ≡ Some (None, rest)
 number_begins [] rest h = absurd (cc (h))
 number_begins (c ∷ cs) rest h =
     let r = letter_run (c.0 ∷ []) cs in
-    elim (chosen (c.0 == 35) (behind_sign cs) (if is_letter c.0 then name_from r else None) (Some (None, rest)) h) [
+    elim (chosen (c.0 == 35) (behind_sign cs) (if is_ascii_alphabetic c.0 then name_from r else None) (Some (None, rest)) h) [
       | inl g ↦ sign_begins c cs (None, rest) (is_code c.0 35 g.0) g.1
-      | inr g ↦ elim (chosen (is_letter c.0) (name_from r) None (Some (None, rest)) g.1) [
+      | inr g ↦ elim (chosen (is_ascii_alphabetic c.0) (name_from r) None (Some (None, rest)) g.1) [
         | inl l ↦ absurd (no_named r.0 (past 59 r.1) rest l.1)
         | inr l ↦ absurd (cc (l.1))
       ]
@@ -62,14 +62,14 @@ pub number_refers : (cs : List Cell) → BeginsNumber cs → (r : Read) × (refe
 number_refers cs (with_digit_first a d ds i k) =
     let r = number_from (digit_run base.Decimal 0 (d ∷ ds)) in (
       r,
-      if_true (a.0 == 35) (behind_sign (d ∷ ds)) (if is_letter a.0 then name_from (letter_run (a.0 ∷ []) (d ∷ ds)) else None) (code_is a.0 35 i)
+      if_true (a.0 == 35) (behind_sign (d ∷ ds)) (if is_ascii_alphabetic a.0 then name_from (letter_run (a.0 ∷ []) (d ∷ ds)) else None) (code_is a.0 35 i)
           ∙ (if_false (d.0 == 120) (number_at base.Hexadecimal ds) (number_at base.Decimal (d ∷ ds)) (digit_no_x d.0 k)
           ∙ if_true (is_digit_of base.Decimal d.0) (Some r) None k),
     )
 number_refers cs (with_sign_first a b d ds i j k) =
     let r = number_from (digit_run base.Hexadecimal 0 (d ∷ ds)) in (
       r,
-      if_true (a.0 == 35) (behind_sign (b ∷ d ∷ ds)) (if is_letter a.0 then name_from (letter_run (a.0 ∷ []) (b ∷ d ∷ ds)) else None) (code_is a.0 35 i)
+      if_true (a.0 == 35) (behind_sign (b ∷ d ∷ ds)) (if is_ascii_alphabetic a.0 then name_from (letter_run (a.0 ∷ []) (b ∷ d ∷ ds)) else None) (code_is a.0 35 i)
           ∙ (if_true (b.0 == 120) (number_at base.Hexadecimal (d ∷ ds)) (number_at base.Decimal (b ∷ d ∷ ds)) (code_is b.0 120 j)
           ∙ if_true (is_digit_of base.Hexadecimal d.0) (Some r) None k),
     )

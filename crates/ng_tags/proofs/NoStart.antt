@@ -4,7 +4,8 @@ use Rattle.std.specs.Prelude.{Option, None, Some, Result, Ok, Err, if◌then◌e
 use Rattle.ng_base.specs.Cells.{Cell}
 use Rattle.ng_markup.specs.Tables.{is_left_out}
 use Rattle.ng_tags.specs.Free.{fault}
-use Rattle.ng_tags.specs.Letters.{is_letter, lower}
+use Rattle.std.specs.Char.{is_ascii_alphabetic}
+use Rattle.ng_tags.specs.Letters.{lower}
 use Rattle.ng_tags.specs.Skips.{past_spaces, past_word, name_run}
 use Rattle.ng_tags.specs.Tags.{end_tag_end, end_tag_named, end_tag}
 use Rattle.ng_tags.specs.Lexing.{comment_run, comment_with, comment, text_or}
@@ -43,7 +44,7 @@ pub end_no_start : (total p : ℕ) (cs : List Cell) → GivesNoStart (end_tag to
 end_no_start total p [] = tt
 end_no_start total p (c ∷ cs) =
     let r = name_run (lower c.0 ∷ []) cs in
-    either (is_letter c.0) (end_tag_named total p r) (Err (fault kind.BadTag p)) (end_named total p r) tt
+    either (is_ascii_alphabetic c.0) (end_tag_named total p r) (Err (fault kind.BadTag p)) (end_named total p r) tt
 
 with_no_start : (total p : ℕ) (t : List ℕ) (o : Option (List Cell)) → GivesNoStart (comment_with total p t o)
 with_no_start total p t None = tt

@@ -4,7 +4,7 @@ use Rattle.std.specs.Prelude.{Option, None, Some, if◌then◌else◌, ◌==◌}
 use Rattle.std.specs.List.{list_all}
 use Rattle.ng_base.specs.Cells.{Cell}
 use Rattle.ng_base.proofs.Binds.{chosen, if_true}
-use Rattle.ng_tags.specs.Letters.{is_letter}
+use Rattle.std.specs.Char.{is_ascii_alphabetic}
 use Rattle.ng_tags.specs.Skips.{past}
 use Rattle.ng_tags.specs.References.{Read, named_character, is_character, is_digit_of, digit_value, with_digit, digit_run, numbered, number_from, number_at, behind_sign, letter_run, read_so, named, name_from, reference, or_itself, character}
 use Rattle.ng_tags.specs.Spelling.{chars_of, digits_value, Names, by_name, by_number, by_hexadecimal}
@@ -110,9 +110,9 @@ pub reference_is : (x : ℕ) (cs rest : List Cell) → reference cs ≡ Some (So
 reference_is x [] rest h = absurd (cc)
 reference_is x (c ∷ cs) rest h =
     let r = letter_run (c.0 ∷ []) cs in
-    elim (chosen (c.0 == 35) (behind_sign cs) (if is_letter c.0 then name_from r else None) (Some (Some x, rest)) h) [
+    elim (chosen (c.0 == 35) (behind_sign cs) (if is_ascii_alphabetic c.0 then name_from r else None) (Some (Some x, rest)) h) [
       | inl g ↦ sign_is x c cs rest (is_code c.0 35 g.0) g.1
-      | inr g ↦ elim (chosen (is_letter c.0) (name_from r) None (Some (Some x, rest)) g.1) [
+      | inr g ↦ elim (chosen (is_ascii_alphabetic c.0) (name_from r) None (Some (Some x, rest)) g.1) [
         | inl l ↦
             let n = named_is r.0 x r.1 rest (past 59 r.1) refl l.1 in
             let s = past_is 59 r.1 rest n.0 in
@@ -121,7 +121,7 @@ reference_is x (c ∷ cs) rest h =
             record {
               us = (c ∷ w.w) ++ s.0 ∷ [];
               whole = ap (λ xs. c ∷ xs) (w.whole ∙ (ap (λ xs. w.w ++ xs) s.1 ∙ sym (append_assoc w.w (s.0 ∷ []) rest)));
-              names = by_name x (c ∷ w.w) s.0 (both (is_letter c.0) (list_all is_letter (chars_of w.w)) l.0 w.all) (ap named_character (sym name) ∙ n.1) s.2;
+              names = by_name x (c ∷ w.w) s.0 (both (is_ascii_alphabetic c.0) (list_all is_ascii_alphabetic (chars_of w.w)) l.0 w.all) (ap named_character (sym name) ∙ n.1) s.2;
             }
         | inr l ↦ absurd (cc (l.1))
       ]

@@ -7,7 +7,8 @@ use Rattle.ng_base.specs.Cells.{Cell}
 use Rattle.ng_base.proofs.Binds.{chosen}
 use Rattle.ng_markup.specs.Tables.{is_left_out}
 use Rattle.ng_tags.specs.Free.{fault}
-use Rattle.ng_tags.specs.Letters.{is_letter, is_in_name, is_space, begins_tag, lower}
+use Rattle.std.specs.Char.{is_ascii_alphabetic}
+use Rattle.ng_tags.specs.Letters.{is_in_name, is_space, begins_tag, lower}
 use Rattle.ng_tags.specs.Skips.{past_spaces, past_word, name_run}
 use Rattle.ng_tags.specs.References.{character}
 use Rattle.ng_tags.specs.Texts.{ends, no_text, tag_follows, text_run}
@@ -39,11 +40,11 @@ fault_in g (Err f) = f
 refused_as : (total : ℕ) (c : Cell) (cs : List Cell) (f g : HtmlFault) → (let q : Answer = Err g in q) ≡ Err f → Refused total c cs g → Refused total c cs f
 refused_as total c cs f g h r = subst (λ (x : HtmlFault). Refused total c cs x) (ap (fault_in g) h) r
 
-whole_name : (c : Cell) (w rest : List Cell) (n : List ℕ) → is_letter c.0 ≡ true → list_all is_in_name (chars_of w) ≡ true → n ≡ (lower c.0 ∷ []) ++ map lower (chars_of w) → BeginsNot is_in_name rest → IsWholeName n (c ∷ w) rest
+whole_name : (c : Cell) (w rest : List Cell) (n : List ℕ) → is_ascii_alphabetic c.0 ≡ true → list_all is_in_name (chars_of w) ≡ true → n ≡ (lower c.0 ∷ []) ++ map lower (chars_of w) → BeginsNot is_in_name rest → IsWholeName n (c ∷ w) rest
 whole_name c w rest n l al rd s = record { characters = (l, al); in_lower = rd; name_ends = s }
 
 -- a start tag
-start_refused : (total : ℕ) (a c : Cell) (cs : List Cell) (f : HtmlFault) → a.0 ≡ 60 → is_letter c.0 ≡ true → start_tag total a.1 (name_run (lower c.0 ∷ []) cs) ≡ Err f → Refused total a (c ∷ cs) f
+start_refused : (total : ℕ) (a c : Cell) (cs : List Cell) (f : HtmlFault) → a.0 ≡ 60 → is_ascii_alphabetic c.0 ≡ true → start_tag total a.1 (name_run (lower c.0 ∷ []) cs) ≡ Err f → Refused total a (c ∷ cs) f
 start_refused total a c cs f h l s =
     let r = name_run (lower c.0 ∷ []) cs in
     let w = name_runs (lower c.0 ∷ []) r.0 cs r.1 refl in
@@ -70,7 +71,7 @@ end_refused total a s (c ∷ cs) f h k e =
     let w = name_runs (lower c.0 ∷ []) r.0 cs r.1 refl in
     let p = spaces_are r.1 (past_spaces r.1) refl in
     let bad : Answer = Err (fault kind.BadTag a.1) in
-    elim (chosen (is_letter c.0) (end_tag_named total a.1 r) bad (Err f) e) [
+    elim (chosen (is_ascii_alphabetic c.0) (end_tag_named total a.1 r) bad (Err f) e) [
       | inr g ↦ refused_as total a (s ∷ c ∷ cs) f (fault kind.BadTag a.1) g.1 (bad_tag h (no_name s (c ∷ cs) k g.0))
       | inl g ↦
           let name = whole_name c w.w r.1 r.0 g.0 w.all w.read w.stops in
@@ -124,7 +125,7 @@ comment_refused total a s cs f (Some ds) h k e q =
     subst (λ (xs : List Cell). Refused total a (s ∷ xs) f) (sym w.whole)
     (cut_refused total a s w.us ds f r.0 r.1 (past_word (codes "-->") r.1) h k (signs_are (chars_of w.us) (codes "--") w.reads refl) refl refl q)
 
-last_mark : (c : ℕ) → begins_tag c ≡ true → is_letter c ≡ false → (c == 47) ≡ false → (c == 33) ≡ false → c ≡ 63
+last_mark : (c : ℕ) → begins_tag c ≡ true → is_ascii_alphabetic c ≡ false → (c == 47) ≡ false → (c == 33) ≡ false → c ≡ 63
 last_mark c h i j k = grind (arith, nat_tests)
 
 markup_refused : (total : ℕ) (a : Cell) (cs : List Cell) (f : HtmlFault) → a.0 ≡ 60 → tag_follows cs ≡ true → markup total a.1 cs ≡ Err f → Refused total a cs f
@@ -133,7 +134,7 @@ markup_refused total a (c ∷ cs) f h t e =
     let bad : Answer = Err (fault kind.BadTag a.1) in
     let start = start_tag total a.1 (name_run (lower c.0 ∷ []) cs) in
     let note = comment total a.1 (past_word (codes "--") cs) in
-    elim (chosen (is_letter c.0) start (if c.0 == 47 then end_tag total a.1 cs else if c.0 == 33 then note else bad) (Err f) e) [
+    elim (chosen (is_ascii_alphabetic c.0) start (if c.0 == 47 then end_tag total a.1 cs else if c.0 == 33 then note else bad) (Err f) e) [
       | inl g ↦ start_refused total a c cs f h g.0 g.1
       | inr g ↦ elim (chosen (c.0 == 47) (end_tag total a.1 cs) (if c.0 == 33 then note else bad) (Err f) g.1) [
         | inl k ↦ end_refused total a c cs f h (is_code c.0 47 k.0) k.1

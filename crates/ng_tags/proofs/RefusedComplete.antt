@@ -5,7 +5,8 @@ use Rattle.ng_base.specs.Cells.{Cell}
 use Rattle.ng_base.proofs.Binds.{if_true, if_false}
 use Rattle.ng_markup.specs.Tables.{is_left_out}
 use Rattle.ng_tags.specs.Free.{fault}
-use Rattle.ng_tags.specs.Letters.{is_letter, is_space, begins_tag, lower}
+use Rattle.std.specs.Char.{is_ascii_alphabetic}
+use Rattle.ng_tags.specs.Letters.{is_space, begins_tag, lower}
 use Rattle.ng_tags.specs.Skips.{past_spaces, past_word, name_run}
 use Rattle.ng_tags.specs.References.{character}
 use Rattle.ng_tags.specs.Texts.{no_text, tag_follows}
@@ -55,7 +56,7 @@ end_on total a s n [] ds f h k i e = absurd i.characters
 end_on total a s n (c ∷ w) ds f h k i e =
     markup_on total a s (c ∷ (w ++ ds)) h (begins_slash s.0 k)
     ∙ (slash_on total a.1 s (c ∷ (w ++ ds)) k
-    ∙ (if_true (is_letter c.0) (end_tag_named total a.1 (name_run (lower c.0 ∷ []) (w ++ ds))) (Err (fault kind.BadTag a.1)) i.characters.0
+    ∙ (if_true (is_ascii_alphabetic c.0) (end_tag_named total a.1 (name_run (lower c.0 ∷ []) (w ++ ds))) (Err (fault kind.BadTag a.1)) i.characters.0
     ∙ (ap (end_tag_named total a.1) (named_on n c w ds i) ∙ e)))
 
 end_out : (total p : ℕ) (n : List ℕ) (ds : List Cell) → is_left_out n ≡ true → end_tag_named total p (n, ds) ≡ Err (fault kind.BadTag p)
@@ -73,9 +74,9 @@ end_cut total p n sp h i =
     if_false (is_left_out n) (Err (fault kind.BadTag p)) (end_tag_end total p n (past_spaces sp)) h
     ∙ ap (end_tag_end total p n) (ap past_spaces (sym (append-nil sp)) ∙ spaces_on sp [] i tt)
 
-nameless : (total p : ℕ) (cs : List Cell) → BeginsNot is_letter cs → end_tag total p cs ≡ Err (fault kind.BadTag p)
+nameless : (total p : ℕ) (cs : List Cell) → BeginsNot is_ascii_alphabetic cs → end_tag total p cs ≡ Err (fault kind.BadTag p)
 nameless total p [] h = refl
-nameless total p (c ∷ cs) h = if_false (is_letter c.0) (end_tag_named total p (name_run (lower c.0 ∷ []) cs)) (Err (fault kind.BadTag p)) h
+nameless total p (c ∷ cs) h = if_false (is_ascii_alphabetic c.0) (end_tag_named total p (name_run (lower c.0 ∷ []) cs)) (Err (fault kind.BadTag p)) h
 
 word_known : (w : List ℕ) (cs : List Cell) (o : Option (List Cell)) → ((us : List Cell) → map lower (chars_of us) ≡ w → chars_of us ≡ w) → past_word w cs ≡ o → BeginsNoWord w cs → o ≡ None
 word_known w cs None s e n = refl
@@ -98,7 +99,7 @@ question_on : (total p : ℕ) (c : Cell) (cs : List Cell) → c.0 ≡ 63 → mar
 question_on total p c cs h =
     let bad : Answer = Err (fault kind.BadTag p) in
     let note = comment total p (past_word (codes "--") cs) in
-    if_false (is_letter c.0) (start_tag total p (name_run (lower c.0 ∷ []) cs)) (if c.0 == 47 then end_tag total p cs else if c.0 == 33 then note else bad) (subst (λ (n : ℕ). is_letter n ≡ false) (sym h) refl)
+    if_false (is_ascii_alphabetic c.0) (start_tag total p (name_run (lower c.0 ∷ []) cs)) (if c.0 == 47 then end_tag total p cs else if c.0 == 33 then note else bad) (subst (λ (n : ℕ). is_ascii_alphabetic n ≡ false) (sym h) refl)
     ∙ (if_false (c.0 == 47) (end_tag total p cs) (if c.0 == 33 then note else bad) (subst (λ (n : ℕ). (n == 47) ≡ false) (sym h) refl)
     ∙ if_false (c.0 == 33) note bad (subst (λ (n : ℕ). (n == 33) ≡ false) (sym h) refl))
 

@@ -5,7 +5,8 @@ use Rattle.std.specs.Prelude.{None, Some, ◌==◌}
 use Rattle.std.specs.List.{list_all}
 use Rattle.ng_base.specs.Cells.{Cell}
 use Rattle.ng_base.proofs.Binds.{chosen, if_true, if_false}
-use Rattle.ng_tags.specs.Letters.{is_letter, is_in_name, is_space, is_in_attribute, lower}
+use Rattle.std.specs.Char.{is_ascii_alphabetic}
+use Rattle.ng_tags.specs.Letters.{is_in_name, is_space, is_in_attribute, lower}
 use Rattle.ng_tags.specs.Skips.{past_spaces, past, name_run}
 use Rattle.ng_tags.specs.References.{letter_run, digit_run, with_digit, digit_value, is_digit_of}
 use Rattle.ng_tags.specs.Attributes.{attribute_run}
@@ -93,12 +94,12 @@ pub map-same : (cs : List ℕ) → map same cs ≡ cs
 map-same [] = refl
 map-same (c ∷ cs) = ap (λ xs. c ∷ xs) (map-same cs)
 
-pub letter_runs : (n m : List ℕ) (cs rest : List Cell) → letter_run n cs ≡ (m, rest) → Run is_letter same n m cs rest
-letter_runs n m [] rest h = no_more is_letter same n m [] rest (ap (λ p. p.0) h) (ap (λ p. p.1) h) tt
+pub letter_runs : (n m : List ℕ) (cs rest : List Cell) → letter_run n cs ≡ (m, rest) → Run is_ascii_alphabetic same n m cs rest
+letter_runs n m [] rest h = no_more is_ascii_alphabetic same n m [] rest (ap (λ p. p.0) h) (ap (λ p. p.1) h) tt
 letter_runs n m (c ∷ cs) rest h =
-    elim (chosen (is_letter c.0) (letter_run (n ++ c.0 ∷ []) cs) (n, c ∷ cs) (m, rest) h) [
-      | inl g ↦ one_more is_letter same n m c cs rest g.0 (letter_runs (n ++ c.0 ∷ []) m cs rest g.1)
-      | inr g ↦ no_more is_letter same n m (c ∷ cs) rest (ap (λ p. p.0) g.1) (ap (λ p. p.1) g.1) g.0
+    elim (chosen (is_ascii_alphabetic c.0) (letter_run (n ++ c.0 ∷ []) cs) (n, c ∷ cs) (m, rest) h) [
+      | inl g ↦ one_more is_ascii_alphabetic same n m c cs rest g.0 (letter_runs (n ++ c.0 ∷ []) m cs rest g.1)
+      | inr g ↦ no_more is_ascii_alphabetic same n m (c ∷ cs) rest (ap (λ p. p.0) g.1) (ap (λ p. p.1) g.1) g.0
     ]
 
 -- digits, as far as they go
@@ -164,12 +165,12 @@ attribute_run_on n (c ∷ w) rest h s =
     ∙ (attribute_run_on (n ++ lower c.0 ∷ []) w rest b.1 s
     ∙ ap (λ m. let q : List ℕ × List Cell = (m, rest) in q) (append_assoc n (lower c.0 ∷ []) (map lower (chars_of w))))
 
-pub letter_run_on : (n : List ℕ) (w rest : List Cell) → list_all is_letter (chars_of w) ≡ true → BeginsNot is_letter rest → letter_run n (w ++ rest) ≡ (n ++ chars_of w, rest)
+pub letter_run_on : (n : List ℕ) (w rest : List Cell) → list_all is_ascii_alphabetic (chars_of w) ≡ true → BeginsNot is_ascii_alphabetic rest → letter_run n (w ++ rest) ≡ (n ++ chars_of w, rest)
 letter_run_on n [] [] h s = ap (λ m. let q : List ℕ × List Cell = (m, []) in q) (sym (append-nil n))
-letter_run_on n [] (c ∷ cs) h s = if_false (is_letter c.0) (letter_run (n ++ c.0 ∷ []) cs) (n, c ∷ cs) s ∙ ap (λ m. let q : List ℕ × List Cell = (m, c ∷ cs) in q) (sym (append-nil n))
+letter_run_on n [] (c ∷ cs) h s = if_false (is_ascii_alphabetic c.0) (letter_run (n ++ c.0 ∷ []) cs) (n, c ∷ cs) s ∙ ap (λ m. let q : List ℕ × List Cell = (m, c ∷ cs) in q) (sym (append-nil n))
 letter_run_on n (c ∷ w) rest h s =
-    let b = both_true (is_letter c.0) (list_all is_letter (chars_of w)) h in
-    if_true (is_letter c.0) (letter_run (n ++ c.0 ∷ []) (w ++ rest)) (n, c ∷ (w ++ rest)) b.0
+    let b = both_true (is_ascii_alphabetic c.0) (list_all is_ascii_alphabetic (chars_of w)) h in
+    if_true (is_ascii_alphabetic c.0) (letter_run (n ++ c.0 ∷ []) (w ++ rest)) (n, c ∷ (w ++ rest)) b.0
     ∙ (letter_run_on (n ++ c.0 ∷ []) w rest b.1 s
     ∙ ap (λ m. let q : List ℕ × List Cell = (m, rest) in q) (append_assoc n (c.0 ∷ []) (chars_of w)))
 

@@ -2,7 +2,8 @@
 use Rattle.std.proofs.Common.{◌≤◌, ◌<◌, ℕ, Bool, true, false, List, [], ◌∷◌, ◌++◌, length, arith}
 use Rattle.std.specs.Prelude.{Option, None, Some, if◌then◌else◌, ◌==◌}
 use Rattle.ng_base.specs.Cells.{Cell}
-use Rattle.ng_tags.specs.Letters.{is_space, is_in_name, is_letter, lower}
+use Rattle.std.specs.Char.{is_ascii_alphabetic}
+use Rattle.ng_tags.specs.Letters.{is_space, is_in_name, lower}
 use Rattle.ng_tags.specs.Skips.{past_spaces, past, name_run}
 use Rattle.ng_tags.specs.References.{Read, named_character, is_digit_of, digit_value, with_digit, digit_run, numbered, number_from, number_at, behind_sign, letter_run, read_so, named, name_from, reference, or_itself, character}
 use Rattle.ng_tags.specs.declared.base.Base.{Base}
@@ -54,7 +55,7 @@ name_less n (c ∷ cs) = either (is_in_name c.0) (name_run (n ++ lower c.0 ∷ [
 
 pub letter_less : (n : List ℕ) (cs : List Cell) → Left (letter_run n cs) (length cs)
 letter_less n [] = omega arith
-letter_less n (c ∷ cs) = either (is_letter c.0) (letter_run (n ++ c.0 ∷ []) cs) (n, c ∷ cs) (length (c ∷ cs)) (omega (arith, letter_less (n ++ c.0 ∷ []) cs)) (omega arith)
+letter_less n (c ∷ cs) = either (is_ascii_alphabetic c.0) (letter_run (n ++ c.0 ∷ []) cs) (n, c ∷ cs) (length (c ∷ cs)) (omega (arith, letter_less (n ++ c.0 ∷ []) cs)) (omega arith)
 
 pub digit_less : (b : Base) (n : ℕ) (cs : List Cell) → Left (digit_run b n cs) (length cs)
 digit_less b n [] = omega arith
@@ -89,9 +90,9 @@ reference_less : (cs : List Cell) → LeftSome (reference cs) (length cs)
 reference_less [] = tt
 reference_less (c ∷ cs) =
     let r = letter_run (c.0 ∷ []) cs in
-    either_some (c.0 == 35) (behind_sign cs) (if is_letter c.0 then name_from r else None) (length (c ∷ cs))
+    either_some (c.0 == 35) (behind_sign cs) (if is_ascii_alphabetic c.0 then name_from r else None) (length (c ∷ cs))
     (more_left (behind_sign cs) (length cs) (length (c ∷ cs)) (sign_less cs) (omega arith))
-    (either_some (is_letter c.0) (name_from r) None (length (c ∷ cs)) (let less = letter_less (c.0 ∷ []) cs in named_less r.0 (past 59 r.1) (length r.1) (length (c ∷ cs)) (past_less 59 r.1) (omega (arith, less))) tt)
+    (either_some (is_ascii_alphabetic c.0) (name_from r) None (length (c ∷ cs)) (let less = letter_less (c.0 ∷ []) cs in named_less r.0 (past 59 r.1) (length r.1) (length (c ∷ cs)) (past_less 59 r.1) (omega (arith, less))) tt)
 
 itself_less : (cs : List Cell) (o : Option Read) → LeftSome o (length cs) → Left (or_itself cs o) (length cs)
 itself_less cs None h = omega arith

@@ -9,7 +9,8 @@ use Rattle.ng_base.specs.Cells.{Cell}
 use Rattle.ng_base.proofs.Binds.{if_true, if_false}
 use Rattle.ng_markup.specs.Tables.{is_left_out, is_raw, is_line_dropping}
 use Rattle.ng_tags.specs.Free.{fault}
-use Rattle.ng_tags.specs.Letters.{is_letter, is_in_name, is_space, lower}
+use Rattle.std.specs.Char.{is_ascii_alphabetic}
+use Rattle.ng_tags.specs.Letters.{is_in_name, is_space, lower}
 use Rattle.ng_tags.specs.Skips.{past, past_spaces, name_run, place_in}
 use Rattle.ng_tags.specs.Texts.{decoded, past_name, past_end_tag}
 use Rattle.ng_tags.specs.Attributes.{attributes, inside}
@@ -27,7 +28,7 @@ use Rattle.ng_tags.proofs.TextComplete.{reads_run}
 use Rattle.ng_tags.proofs.AttributeComplete.{attributes_on}
 use Rattle.ng_tags.proofs.TagSound.{opens_whole}
 
-pub letter_in_name : (c : ℕ) → is_letter c ≡ true → is_in_name c ≡ true
+pub letter_in_name : (c : ℕ) → is_ascii_alphabetic c ≡ true → is_in_name c ≡ true
 letter_in_name c h = grind (arith, nat_tests)
 
 pub name_all : (cs : List ℕ) → IsName cs → list_all is_in_name cs ≡ true
@@ -102,8 +103,8 @@ spaces_no_name (c ∷ s) z rest h e = space_no_name c.0 (both_true (is_space c.0
 sign_no_space : (c : ℕ) → c ≡ 62 → is_space c ≡ false
 sign_no_space c h = subst (λ (n : ℕ). is_space n ≡ false) (sym h) refl
 
-slash_no_letter : (c : ℕ) → c ≡ 47 → is_letter c ≡ false
-slash_no_letter c h = subst (λ (n : ℕ). is_letter n ≡ false) (sym h) refl
+slash_no_letter : (c : ℕ) → c ≡ 47 → is_ascii_alphabetic c ≡ false
+slash_no_letter c h = subst (λ (n : ℕ). is_ascii_alphabetic n ≡ false) (sym h) refl
 
 -- its cells apart
 pub end_cells : (n : List ℕ) (p : ℕ) (us rest : List Cell) (e : IsEndTag n p us) → us ++ rest ≡ e.first ∷ e.second ∷ (e.name ++ (e.spaces ++ e.last ∷ rest))
@@ -157,7 +158,7 @@ end_tag_on total n p us rest e lo c w f =
     let in_lower : lower c.0 ∷ map lower (chars_of w) ≡ n = sym (e.in_lower ∙ ap (λ (xs : List Cell). map lower (chars_of xs)) f) in
     let run : name_run (lower c.0 ∷ []) (w ++ more) ≡ (n, more) =
     name_run_on (lower c.0 ∷ []) w more name.1 (spaces_no_name e.spaces e.last rest e.are_spaces e.is_close) ∙ ap (λ (m : List ℕ). let r : List ℕ × List Cell = (m, more) in r) in_lower in
-    if_true (is_letter c.0) (end_tag_named total q (name_run (lower c.0 ∷ []) (w ++ more))) (Err (fault kind.BadTag q)) name.0
+    if_true (is_ascii_alphabetic c.0) (end_tag_named total q (name_run (lower c.0 ∷ []) (w ++ more))) (Err (fault kind.BadTag q)) name.0
     ∙ (ap (end_tag_named total q) run
     ∙ (if_false (is_left_out n) (Err (fault kind.BadTag q)) (end_tag_end total q n (past_spaces more)) lo
     ∙ (ap (end_tag_end total q n) (spaces_on e.spaces (e.last ∷ rest) e.are_spaces (sign_no_space e.last.0 e.is_close))

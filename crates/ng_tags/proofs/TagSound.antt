@@ -10,7 +10,8 @@ use Rattle.ng_base.proofs.Binds.{chosen, guarded}
 use Rattle.ng_markup.specs.Forest.{Attributes}
 use Rattle.ng_markup.specs.Tables.{is_left_out, is_raw, is_line_dropping}
 use Rattle.ng_tags.specs.Free.{fault, met_or}
-use Rattle.ng_tags.specs.Letters.{is_letter, is_in_name, lower}
+use Rattle.std.specs.Char.{is_ascii_alphabetic}
+use Rattle.ng_tags.specs.Letters.{is_in_name, lower}
 use Rattle.ng_tags.specs.Skips.{past, past_spaces, name_run, place_in}
 use Rattle.ng_tags.specs.Texts.{no_text, text_run, past_name}
 use Rattle.ng_tags.specs.Attributes.{attributes}
@@ -69,7 +70,7 @@ dropped_by n cs rest e =
     ]
 
 -- the names of an end tag and of its start tag begin with letters alike
-letter_alike : (x y : ℕ) → lower x ≡ lower y → is_letter y ≡ true → is_letter x ≡ true
+letter_alike : (x y : ℕ) → lower x ≡ lower y → is_ascii_alphabetic y ≡ true → is_ascii_alphabetic x ≡ true
 letter_alike x y h i = grind (arith, nat_tests)
 
 name_alike : (v w : List ℕ) → map lower v ≡ map lower w → list_all is_in_name v ≡ true → IsName w → IsName v
@@ -229,7 +230,7 @@ none_opened t h = is_nothing t.fault (second (is_raw t.name) (not t.closed) (is_
     second false false c i = absurd (cc (i))
 
 -- a start tag at the front, behind its name
-pub start_read : (total : ℕ) (a c : Cell) (cs : List Cell) (e : Event) (rest : List Cell) → a.0 ≡ 60 → is_letter c.0 ≡ true → start_tag total a.1 (name_run (lower c.0 ∷ []) cs) ≡ Ok (e, rest) → IsWhole e → Lexed e (a ∷ c ∷ cs) rest
+pub start_read : (total : ℕ) (a c : Cell) (cs : List Cell) (e : Event) (rest : List Cell) → a.0 ≡ 60 → is_ascii_alphabetic c.0 ≡ true → start_tag total a.1 (name_run (lower c.0 ∷ []) cs) ≡ Ok (e, rest) → IsWhole e → Lexed e (a ∷ c ∷ cs) rest
 start_read total a c cs e rest h l s n =
     let r = name_run (lower c.0 ∷ []) cs in
     let i = attributes total r.1 in
@@ -331,13 +332,13 @@ end_tag_read total a b (c ∷ cs) e rest h k s =
     let r = name_run (lower c.0 ∷ []) cs in
     let w = name_runs (lower c.0 ∷ []) r.0 cs r.1 refl in
     let p = spaces_are r.1 (past_spaces r.1) refl in
-    let g = guarded (is_letter c.0) (end_tag_named total a.1 r) (fault kind.BadTag a.1) (e, rest) s in
+    let g = guarded (is_ascii_alphabetic c.0) (end_tag_named total a.1 r) (fault kind.BadTag a.1) (e, rest) s in
     elim (chosen (is_left_out r.0) (Err (fault kind.BadTag a.1)) (end_tag_end total a.1 r.0 (past_spaces r.1)) (Ok (e, rest)) g.1) [
       | inl m ↦ absurd (cc (m.1))
       | inr m ↦ closes r.0 (past_spaces r.1) w.w p.s (w.whole ∙ ap (λ xs. w.w ++ xs) p.whole) g.0 w.all w.read p.are m.0 m.1
     ]
   where
-    closes : (n : List ℕ) (ds w s : List Cell) → cs ≡ w ++ (s ++ ds) → is_letter c.0 ≡ true → list_all is_in_name (chars_of w) ≡ true → n ≡ (lower c.0 ∷ []) ++ map lower (chars_of w) → AreSpaces s → is_left_out n ≡ false →
+    closes : (n : List ℕ) (ds w s : List Cell) → cs ≡ w ++ (s ++ ds) → is_ascii_alphabetic c.0 ≡ true → list_all is_in_name (chars_of w) ≡ true → n ≡ (lower c.0 ∷ []) ++ map lower (chars_of w) → AreSpaces s → is_left_out n ≡ false →
         end_tag_end total a.1 n ds ≡ Ok (e, rest) → Lexed e (a ∷ b ∷ c ∷ cs) rest
     closes n [] w s wh l al rd ar lo f = absurd (cc (f))
     closes n (z ∷ zs) w s wh l al rd ar lo f =

@@ -1,6 +1,7 @@
 -- Attributes of a tag.
 use Rattle.std.specs.Prelude.{Bool, true, false, ℕ, zero, suc, ◌==◌, ◌||◌, List, [], ◌∷◌, ◌++◌, length, Option, None, Some, Result, Ok, Err, if◌then◌else◌}
 use Rattle.std.specs.BTreeMap.{insert_entry}
+use Rattle.ng_base.specs.Codes as char
 use Rattle.ng_base.specs.Cells.{Cell}
 use Rattle.ng_base.specs.Meets.{◌>>=◌}
 use Rattle.ng_base.specs.Order.{txt_cmp}
@@ -40,21 +41,21 @@ quoted total (d, c ∷ cs) = Ok (d, cs)
 -- a backquote ends a value, but nothing begins with it there
 abbrev pub unquoted : Decoded × List Cell → ValueRead
 unquoted (d, []) = Ok (d, [])
-unquoted (d, c ∷ cs) = if c.0 == 96 then Err (met_or d.fault (fault kind.BadAttr c.1)) else Ok (d, c ∷ cs)
+unquoted (d, c ∷ cs) = if c.0 == char.backquote then Err (met_or d.fault (fault kind.BadAttr c.1)) else Ok (d, c ∷ cs)
 
 -- the value behind `=`
 abbrev pub value_at : ℕ → List Cell → ValueRead
 value_at total [] = Err (fault kind.Unclosed total)
 value_at total (c ∷ cs) =
-    if c.0 == 34 then quoted total (text_run until.Double cs)
-    else if c.0 == 39 then quoted total (text_run until.Single cs)
+    if c.0 == char.quotation_mark then quoted total (text_run until.Double cs)
+    else if c.0 == char.apostrophe then quoted total (text_run until.Single cs)
     else if is_bare c.0 then unquoted (text_run until.Space (c ∷ cs))
     else Err (fault kind.BadAttr c.1)
 
 -- the value behind a name, which is empty where no `=` stands
 abbrev pub value_behind : ℕ → List Cell → ValueRead
 value_behind total [] = Ok (no_text, [])
-value_behind total (c ∷ cs) = if c.0 == 61 then value_at total (past_spaces cs) else Ok (no_text, c ∷ cs)
+value_behind total (c ∷ cs) = if c.0 == char.equals_sign then value_at total (past_spaces cs) else Ok (no_text, c ∷ cs)
 
 -- a name, and its value
 abbrev pub AttributeRead : Type 0
@@ -77,7 +78,7 @@ broken done f g cs = (inside done false (Some (met_or f g)), cs)
 -- behind a `/` at a place
 abbrev pub slash : ℕ → Attributes → Option HtmlFault → ℕ → List Cell → Inside × List Cell
 slash total done f p [] = broken done f (fault kind.Unclosed total) []
-slash total done f p (c ∷ cs) = if c.0 == 62 then (inside done true f, cs) else broken done f (fault kind.BadAttr p) (c ∷ cs)
+slash total done f p (c ∷ cs) = if c.0 == char.greater_than_sign then (inside done true f, cs) else broken done f (fault kind.BadAttr p) (c ∷ cs)
 
 abbrev pub either_way : {A B : Type 0} → (A → B) → (HtmlFault → B) → Result A HtmlFault → B
 either_way f g (Ok x) = f x
@@ -88,8 +89,8 @@ abbrev pub attributes_within : ℕ → ℕ → Attributes → Option HtmlFault �
 attributes_within zero total done f cs = (inside done false f, cs)
 attributes_within (suc k) total done f [] = broken done f (fault kind.Unclosed total) []
 attributes_within (suc k) total done f (c ∷ cs) =
-    if c.0 == 62 then (inside done false f, cs)
-    else if c.0 == 47 then slash total done f c.1 cs
+    if c.0 == char.greater_than_sign then (inside done false f, cs)
+    else if c.0 == char.slash then slash total done f c.1 cs
     else if is_space c.0 then attributes_within k total done f cs
     else
     either_way (λ r. attributes_within k total (with_attribute done r.0 r.1.text) (met_first f r.1.fault) r.2) (λ g. broken done f g (c ∷ cs)) (attribute_at total c cs)

@@ -1,8 +1,10 @@
 -- Tags, texts and comments, from the left.
 use Rattle.std.specs.Prelude.{Bool, ℕ, ◌==◌, ◌&&◌, List, [], ◌∷◌, ◌++◌, Option, None, Some, Result, Ok, Err, is_some, codes, if◌then◌else◌}
+use Rattle.ng_base.specs.Codes as char
 use Rattle.ng_base.specs.Cells.{Cell}
 use Rattle.ng_tags.specs.Free.{fault}
-use Rattle.ng_tags.specs.Letters.{is_letter, lower}
+use Rattle.std.specs.Char.{is_ascii_alphabetic}
+use Rattle.ng_tags.specs.Letters.{lower}
 use Rattle.ng_tags.specs.Skips.{past_spaces, past_word, name_run}
 use Rattle.ng_tags.specs.References.{Read, character}
 use Rattle.ng_tags.specs.Texts.{no_text, tag_follows, with_character, text_from}
@@ -16,7 +18,7 @@ use Rattle.ng_tags.specs.declared.until.Until.TheVariants as until
 
 -- a line feed in a comment reads as a space
 abbrev pub as_space : ℕ → ℕ
-as_space c = if c == 10 then 32 else c
+as_space c = if c == char.line_feed then char.space else c
 
 -- whether a comment ends here
 abbrev pub ends_comment : List Cell → Bool
@@ -43,9 +45,9 @@ comment total p (Some cs) = comment_from total p (comment_run [] cs)
 abbrev pub markup : ℕ → ℕ → List Cell → Result (Event × List Cell) HtmlFault
 markup total p [] = Err (fault kind.BadTag p)
 markup total p (c ∷ cs) =
-    if is_letter c.0 then start_tag total p (name_run (lower c.0 ∷ []) cs)
-    else if c.0 == 47 then end_tag total p cs
-    else if c.0 == 33 then comment total p (past_word (codes "--") cs)
+    if is_ascii_alphabetic c.0 then start_tag total p (name_run (lower c.0 ∷ []) cs)
+    else if c.0 == char.slash then end_tag total p cs
+    else if c.0 == char.exclamation_mark then comment total p (past_word (codes "--") cs)
     else Err (fault kind.BadTag p)
 
 -- a text is refused for the first bad reference in it
@@ -62,12 +64,12 @@ text_behind p r = text_from until.Tag (with_character no_text p r.0) r.1
 
 -- the event that begins with this cell, and what is left
 abbrev pub event_at : ℕ → Cell → List Cell → Result (Event × List Cell) HtmlFault
-event_at total c cs = if c.0 == 60 && tag_follows cs then markup total c.1 cs else text_event c.1 (text_behind c.1 (character c.0 cs))
+event_at total c cs = if c.0 == char.less_than_sign && tag_follows cs then markup total c.1 cs else text_event c.1 (text_behind c.1 (character c.0 cs))
 
 -- behind the next `>`
 abbrev pub past_sign : ℕ → List Cell → Result (List Cell) HtmlFault
 past_sign p [] = Err (fault kind.BadTag p)
-past_sign p (c ∷ cs) = if c.0 == 62 then Ok cs else past_sign p cs
+past_sign p (c ∷ cs) = if c.0 == char.greater_than_sign then Ok cs else past_sign p cs
 
 abbrev pub doctype_behind : ℕ → List Cell → Option (List Cell) → Result (List Cell) HtmlFault
 doctype_behind p all None = Ok all
@@ -75,7 +77,7 @@ doctype_behind p all (Some cs) = past_sign p cs
 
 abbrev pub doctype_at : List Cell → List Cell → Result (List Cell) HtmlFault
 doctype_at all [] = Ok all
-doctype_at all (c ∷ cs) = if c.0 == 60 then doctype_behind c.1 all (past_word (codes "!doctype") cs) else Ok all
+doctype_at all (c ∷ cs) = if c.0 == char.less_than_sign then doctype_behind c.1 all (past_word (codes "!doctype") cs) else Ok all
 
 -- what is left behind a doctype and the white space before it, if one stands first
 abbrev pub after_doctype : List Cell → Result (List Cell) HtmlFault

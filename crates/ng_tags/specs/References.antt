@@ -1,8 +1,9 @@
 -- References: characters by name or number.
 use Rattle.std.specs.Prelude.{Bool, ℕ, ◌+◌, ◌-◌, ◌*◌, min, ◌==◌, ◌&&◌, ◌||◌, nat_le, not, List, [], ◌∷◌, ◌++◌, Option, None, Some, codes, if◌then◌else◌}
 use Rattle.std.specs.Str.{bytes_eq}
+use Rattle.ng_base.specs.Codes as char
 use Rattle.ng_base.specs.Cells.{Cell}
-use Rattle.ng_tags.specs.Letters.{is_letter, is_digit}
+use Rattle.std.specs.Char.{is_ascii_alphabetic, is_ascii_digit}
 use Rattle.ng_tags.specs.Skips.{past}
 use Rattle.ng_tags.specs.declared.base.Base.{Base}
 use Rattle.ng_tags.specs.declared.base.Base.TheVariants as base
@@ -44,8 +45,8 @@ radix base.Decimal = 10
 radix base.Hexadecimal = 16
 
 abbrev pub is_digit_of : Base → ℕ → Bool
-is_digit_of base.Decimal c = is_digit c
-is_digit_of base.Hexadecimal c = is_digit c || (nat_le 65 c && nat_le c 70) || (nat_le 97 c && nat_le c 102)
+is_digit_of base.Decimal c = is_ascii_digit c
+is_digit_of base.Hexadecimal c = is_ascii_digit c || (nat_le 65 c && nat_le c 70) || (nat_le 97 c && nat_le c 102)
 
 abbrev pub digit_value : ℕ → ℕ
 digit_value c = if nat_le c 57 then c - 48 else if nat_le c 70 then c - 55 else c - 87
@@ -77,7 +78,7 @@ numbered n cs None = (None, cs)
 numbered n cs (Some rest) = (if is_character n then Some n else None, rest)
 
 abbrev pub number_from : ℕ × List Cell → Read
-number_from r = numbered r.0 r.1 (past 59 r.1)
+number_from r = numbered r.0 r.1 (past char.semicolon r.1)
 
 -- a number, if a digit stands first
 abbrev pub number_at : Base → List Cell → Option Read
@@ -87,11 +88,11 @@ number_at b (c ∷ cs) = if is_digit_of b c.0 then Some (number_from (digit_run 
 -- behind `&#`
 abbrev pub behind_sign : List Cell → Option Read
 behind_sign [] = None
-behind_sign (c ∷ cs) = if c.0 == 120 then number_at base.Hexadecimal cs else number_at base.Decimal (c ∷ cs)
+behind_sign (c ∷ cs) = if c.0 == char.letter_x then number_at base.Hexadecimal cs else number_at base.Decimal (c ∷ cs)
 
 abbrev pub letter_run : List ℕ → List Cell → List ℕ × List Cell
 letter_run n [] = (n, [])
-letter_run n (c ∷ cs) = if is_letter c.0 then letter_run (n ++ c.0 ∷ []) cs else (n, c ∷ cs)
+letter_run n (c ∷ cs) = if is_ascii_alphabetic c.0 then letter_run (n ++ c.0 ∷ []) cs else (n, c ∷ cs)
 
 abbrev pub read_so : Option ℕ → List Cell → Option Read
 read_so None rest = None
@@ -103,21 +104,21 @@ named n None = None
 named n (Some rest) = read_so (named_character n) rest
 
 abbrev pub name_from : List ℕ × List Cell → Option Read
-name_from r = named r.0 (past 59 r.1)
+name_from r = named r.0 (past char.semicolon r.1)
 
 -- the reference that stands behind an `&`, if there is one
 abbrev pub reference : List Cell → Option Read
 reference [] = None
 reference (c ∷ cs) =
-    if c.0 == 35 then behind_sign cs
-    else if is_letter c.0 then name_from (letter_run (c.0 ∷ []) cs)
+    if c.0 == char.number_sign then behind_sign cs
+    else if is_ascii_alphabetic c.0 then name_from (letter_run (c.0 ∷ []) cs)
     else None
 
 -- an `&` that begins no reference stands for itself
 abbrev pub or_itself : List Cell → Option Read → Read
-or_itself cs None = (Some 38, cs)
+or_itself cs None = (Some char.ampersand, cs)
 or_itself cs (Some r) = r
 
 -- what stands at the front reads as this character, and what is left
 abbrev pub character : ℕ → List Cell → Read
-character c cs = if c == 38 then or_itself cs (reference cs) else (Some c, cs)
+character c cs = if c == char.ampersand then or_itself cs (reference cs) else (Some c, cs)

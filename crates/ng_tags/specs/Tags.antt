@@ -1,9 +1,11 @@
 -- Tags, and elements of text alone.
 use Rattle.std.specs.Prelude.{Bool, true, not, ℕ, ◌==◌, ◌||◌, ◌&&◌, List, [], ◌∷◌, Option, None, Some, Result, Ok, Err, is_none, if◌then◌else◌}
+use Rattle.ng_base.specs.Codes as char
 use Rattle.ng_base.specs.Cells.{Cell}
 use Rattle.ng_markup.specs.Tables.{is_left_out, is_raw, is_line_dropping}
 use Rattle.ng_tags.specs.Free.{fault, met_or}
-use Rattle.ng_tags.specs.Letters.{is_letter, is_space, lower}
+use Rattle.std.specs.Char.{is_ascii_alphabetic}
+use Rattle.ng_tags.specs.Letters.{is_space, lower}
 use Rattle.ng_tags.specs.Skips.{past_spaces, name_run, place_in}
 use Rattle.ng_tags.specs.Texts.{text_run, past_end_tag}
 use Rattle.ng_tags.specs.declared.texts.Decoded.{Decoded}
@@ -29,7 +31,7 @@ with_fault t f = record { name = t.name; attrs = t.attrs; place = t.place; close
 -- the line feed right behind some tags is dropped
 abbrev pub past_line_feed : List Cell → List Cell
 past_line_feed [] = []
-past_line_feed (c ∷ cs) = if c.0 == 10 then cs else c ∷ cs
+past_line_feed (c ∷ cs) = if c.0 == char.line_feed then cs else c ∷ cs
 
 abbrev pub behind_tag : List ℕ → List Cell → List Cell
 behind_tag n cs = if is_line_dropping n then past_line_feed cs else cs
@@ -65,7 +67,7 @@ started total t cs = if opens_raw t then raw_event total t (behind_tag t.name cs
 -- what may stand right behind a tag's name
 abbrev pub may_follow_name : List Cell → Bool
 may_follow_name [] = true
-may_follow_name (c ∷ cs) = is_space c.0 || c.0 == 62 || c.0 == 47
+may_follow_name (c ∷ cs) = is_space c.0 || c.0 == char.greater_than_sign || c.0 == char.slash
 
 abbrev pub start_with : ℕ → ℕ → List ℕ → Inside × List Cell → Event × List Cell
 start_with total p n r = started total (tag_of n p r.0) r.1
@@ -80,7 +82,7 @@ start_tag total p r =
 -- an end tag at a place, behind its name and white space
 abbrev pub end_tag_end : ℕ → ℕ → List ℕ → List Cell → Result (Event × List Cell) HtmlFault
 end_tag_end total p n [] = Err (fault kind.Unclosed total)
-end_tag_end total p n (c ∷ cs) = if c.0 == 62 then Ok (event.End n p, cs) else Err (fault kind.BadTag p)
+end_tag_end total p n (c ∷ cs) = if c.0 == char.greater_than_sign then Ok (event.End n p, cs) else Err (fault kind.BadTag p)
 
 abbrev pub end_tag_named : ℕ → ℕ → List ℕ × List Cell → Result (Event × List Cell) HtmlFault
 end_tag_named total p r = if is_left_out r.0 then Err (fault kind.BadTag p) else end_tag_end total p r.0 (past_spaces r.1)
@@ -88,4 +90,4 @@ end_tag_named total p r = if is_left_out r.0 then Err (fault kind.BadTag p) else
 -- an end tag at a place, behind its `</`
 abbrev pub end_tag : ℕ → ℕ → List Cell → Result (Event × List Cell) HtmlFault
 end_tag total p [] = Err (fault kind.BadTag p)
-end_tag total p (c ∷ cs) = if is_letter c.0 then end_tag_named total p (name_run (lower c.0 ∷ []) cs) else Err (fault kind.BadTag p)
+end_tag total p (c ∷ cs) = if is_ascii_alphabetic c.0 then end_tag_named total p (name_run (lower c.0 ∷ []) cs) else Err (fault kind.BadTag p)

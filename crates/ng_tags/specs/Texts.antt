@@ -1,6 +1,7 @@
 -- Texts with references, up to what ends them.
 use Rattle.std.specs.Prelude.{Bool, false, ℕ, zero, suc, ◌==◌, ◌&&◌, not, List, [], ◌∷◌, ◌++◌, length, Option, None, Some, is_some, option_and_then, if◌then◌else◌}
 use Rattle.std.specs.Str.{bytes_eq}
+use Rattle.ng_base.specs.Codes as char
 use Rattle.ng_base.specs.Cells.{Cell}
 use Rattle.ng_tags.specs.Free.{fault, met_or}
 use Rattle.ng_tags.specs.Letters as letters
@@ -19,31 +20,31 @@ tag_follows [] = false
 tag_follows (c ∷ cs) = letters.begins_tag c.0
 
 abbrev pub past_name : List ℕ → List ℕ × List Cell → Option (List Cell)
-past_name n r = if bytes_eq n r.0 then past 62 (past_spaces r.1) else None
+past_name n r = if bytes_eq n r.0 then past char.greater_than_sign (past_spaces r.1) else None
 
 -- behind the end tag of this name, where its `<` stands before
 abbrev pub past_end_tag : List ℕ → List Cell → Option (List Cell)
-past_end_tag n cs = option_and_then (λ ds. past_name n (name_run [] ds)) (past 47 cs)
+past_end_tag n cs = option_and_then (λ ds. past_name n (name_run [] ds)) (past char.slash cs)
 
 -- whether a text ends before this character, with that behind it
 abbrev pub ends : Until → ℕ → List Cell → Bool
-ends until.Tag c cs = c == 60 && tag_follows cs
-ends until.Double c cs = c == 34
-ends until.Single c cs = c == 39
+ends until.Tag c cs = c == char.less_than_sign && tag_follows cs
+ends until.Double c cs = c == char.quotation_mark
+ends until.Single c cs = c == char.apostrophe
 ends until.Space c cs = not (is_bare c)
-ends (until.EndTag n) c cs = c == 60 && is_some (past_end_tag n cs)
+ends (until.EndTag n) c cs = c == char.less_than_sign && is_some (past_end_tag n cs)
 
 -- whether a text may end before this character
 abbrev pub may_end : Until → ℕ → Bool
-may_end until.Tag c = c == 60
-may_end until.Double c = c == 34
-may_end until.Single c = c == 39
+may_end until.Tag c = c == char.less_than_sign
+may_end until.Double c = c == char.quotation_mark
+may_end until.Single c = c == char.apostrophe
 may_end until.Space c = not (is_bare c)
-may_end (until.EndTag n) c = c == 60
+may_end (until.EndTag n) c = c == char.less_than_sign
 
 -- whether it goes on with this character as it is, whatever stands behind it
 abbrev pub goes_on : Until → ℕ → Bool
-goes_on u c = not (c == 38) && not (may_end u c)
+goes_on u c = not (c == char.ampersand) && not (may_end u c)
 
 abbrev pub decoded : List ℕ → Option HtmlFault → Decoded
 decoded t f = record { text = t; fault = f }

@@ -2,25 +2,11 @@
 ghost use Rattle.ng_tags.specs.Letters as letters;
 ghost use Rattle.std.specs.Prelude.{◌≡◌};
 
-pub fn letter(c: char) -> bool
-    ensures { result ≡ letters.is_letter c }
-{
-    let n = c as u32;
-    (65 <= n && n <= 90) || (97 <= n && n <= 122)
-}
-
-pub fn digit(c: char) -> bool
-    ensures { result ≡ letters.is_digit c }
-{
-    let n = c as u32;
-    48 <= n && n <= 57
-}
-
 /// Whether it may stand in the name of an element, behind its first letter.
 pub fn in_name(c: char) -> bool
     ensures { result ≡ letters.is_in_name c }
 {
-    letter(c) || digit(c) || c == '-' || c == ':' || c == '_'
+    c.is_ascii_alphabetic() || c.is_ascii_digit() || c == '-' || c == ':' || c == '_'
 }
 
 /// Tab, line feed, form feed or space.
@@ -48,7 +34,7 @@ pub fn bare(c: char) -> bool
 pub fn begins_tag(c: char) -> bool
     ensures { result ≡ letters.begins_tag c }
 {
-    letter(c) || c == '/' || c == '!' || c == '?'
+    c.is_ascii_alphabetic() || c == '/' || c == '!' || c == '?'
 }
 
 /// A capital letter as a small one.

@@ -9,7 +9,7 @@ use crate::attributes::no_text;
 use crate::comments::read_comment;
 use crate::event::Event;
 use crate::fault::HtmlFault;
-use crate::letters::{letter, lower};
+use crate::letters::lower;
 use crate::references::read_character;
 use crate::tags::{no_tag, read_end, read_start};
 use crate::texts::{Decoded, read_text, tag_follows, with_character};
@@ -29,7 +29,7 @@ fn read_markup<'a>(
     match reader.first() {
         None => Err(no_tag(place)),
         Some((c, _, rest)) => {
-            if letter(c) {
+            if c.is_ascii_alphabetic() {
                 read_start(alloc, total, place, c, rest)
             } else if c == '/' {
                 read_end(alloc, total, place, rest)

@@ -3,7 +3,6 @@ ghost use Rattle.ng_tags.specs.References as refs;
 ghost use Rattle.std.specs.Prelude.{◌≡◌, ◌≤◌, ◌<◌, ◌∷◌, [], Some, None, true, IfOk, if◌then◌else◌};
 
 use crate::base::Base;
-use crate::letters::{digit, letter};
 use crate::skips::past;
 use ng_base::reader::Reader;
 use ng_base::txt::Txt;
@@ -81,7 +80,7 @@ fn read_letters<'a>(mut name: Txt, mut reader: Reader<'a>) -> Result<(Txt, Reade
     ensures { IfOk result (λ r. r ≡ refs.letter_run name reader.entry) }
 {
     while let Some((c, _, rest)) = reader.first() {
-        if !letter(c) {
+        if !c.is_ascii_alphabetic() {
             return Ok((name, reader));
         }
         name.push(c)?;
@@ -116,8 +115,8 @@ fn digit_of(base: Base, c: char) -> bool
 {
     let n = c as u32;
     match base {
-        Base::Decimal => digit(c),
-        Base::Hexadecimal => digit(c) || (65 <= n && n <= 70) || (97 <= n && n <= 102),
+        Base::Decimal => c.is_ascii_digit(),
+        Base::Hexadecimal => c.is_ascii_digit() || (65 <= n && n <= 70) || (97 <= n && n <= 102),
     }
 }
 
@@ -213,7 +212,7 @@ fn read_reference<'a>(alloc: Global, reader: &Reader<'a>) -> Result<Option<Read<
         Some((c, _, rest)) => {
             if c == '#' {
                 Ok(behind_sign(rest))
-            } else if letter(c) {
+            } else if c.is_ascii_alphabetic() {
                 read_named(alloc, c, rest)
             } else {
                 Ok(None)

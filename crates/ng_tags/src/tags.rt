@@ -12,7 +12,7 @@ ghost use Rattle.std.specs.Prelude.{◌≡◌, ◌∷◌, [], IfOk, None};
 use crate::attributes::{Inside, cut, read_attributes};
 use crate::event::{Event, Tag};
 use crate::fault::{HtmlFault, HtmlKind, met_or};
-use crate::letters::{letter, lower, space};
+use crate::letters::{lower, space};
 use crate::skips::{past_spaces, place_in, read_name};
 use crate::tables::{left_out, line_dropping, raw};
 use crate::texts::{Decoded, past_end_tag, read_whole};
@@ -245,7 +245,9 @@ pub fn read_end<'a>(
     ensures { Gives is_free (λ r. r) (specs.end_tag total place reader.entry) result }
 {
     match reader.first() {
-        Some((c, _, rest)) if letter(c) => read_end_tag_named(alloc, total, place, c, rest),
+        Some((c, _, rest)) if c.is_ascii_alphabetic() => read_end_tag_named(
+            alloc, total, place, c, rest,
+        ),
         _ => Err(no_tag(place)),
     }
 }

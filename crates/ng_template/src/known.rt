@@ -9,6 +9,7 @@ use indexmap::IndexMap;
 use ng_base::fault::Memory;
 use ng_base::txt::Txt;
 use ng_interp::{Cut, InterpFault, InterpKind, Part, read_hole, read_part};
+use ng_lex::Tokens;
 use ng_parse::Program;
 use std::alloc::Global;
 use std::marker::Model;
@@ -38,6 +39,8 @@ impl Model for Hole {
 pub(crate) struct Known {
     alloc: Global,
     holes: IndexMap<Txt, Hole>,
+    /// The list of tokens that all holes are read through.
+    tokens: Tokens,
 }
 
 /// Memory was refused.
@@ -91,6 +94,7 @@ impl Known {
         Known {
             alloc,
             holes: IndexMap::new(alloc),
+            tokens: Tokens::new(alloc),
         }
     }
 
@@ -140,7 +144,7 @@ impl Known {
         if let Some(hole) = self.find(text) {
             return hole.part(self.alloc);
         }
-        let part = read_hole(self.alloc, place, text)?;
+        let part = read_hole(self.alloc, &mut self.tokens, place, text)?;
         self.keep(text, &part)?;
         Ok(part)
     }
@@ -150,7 +154,7 @@ impl Known {
         ensures { Gives is_free piece_of (piece_at escapes cut.now) result }
     {
         match cut {
-            Cut::Words(_) => read_part(self.alloc, escapes, cut),
+            Cut::Words(_) => read_part(self.alloc, &mut self.tokens, escapes, cut),
             Cut::Hole(place, text) => self.hole(*place, text),
         }
     }

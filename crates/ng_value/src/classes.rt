@@ -8,7 +8,6 @@ ghost use Rattle.ng_base.specs.declared.fault.Memory.TheVariants.{Refused};
 ghost use Rattle.ng_language.specs.Texts.{with_word, words_in, words_of_value, words_of, words_of_all, words_of_names, class_words};
 ghost use Rattle.ng_language.specs.Views.{ViewStands};
 
-use crate::numbers::is_space;
 use crate::operators::truthy;
 use crate::parts::{fields_in, first_field, first_view, views_in};
 use crate::unfolding::unfolded;
@@ -42,7 +41,7 @@ pub fn push_words(alloc: Global, words: &mut Words, t: &Txt) -> Result<(), Memor
     let mut word = Txt::new(alloc);
     let mut reader = Plain::new(t.as_str());
     while let Some(c) = reader.next() {
-        if is_space(c) {
+        if c.is_ascii_whitespace() {
             push_word(words, word)?;
             word = Txt::new(alloc);
         } else {

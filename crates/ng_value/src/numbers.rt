@@ -2,54 +2,18 @@
 ghost use Rattle.std.specs.Prelude.{◌≡◌, ◌<◌, ◌↔◌, IsTrue, pos, int_div, int_rem, Err, if◌then◌else◌, IfSome};
 ghost use Rattle.std.specs.Ordering.{int_eq};
 ghost use Rattle.ng_base.specs.declared.fault.Fault.TheVariants.{NotWhole};
-ghost use Rattle.ng_base.specs.Objects.{is_digit};
 ghost use Rattle.ng_base.specs.ViewOf.{view_of};
-ghost use Rattle.ng_language.specs.Operators.{is_space, only_spaces, past_spaces, digits_behind, digits, positive, negative, signed, number_in, num, view_num, term_num, in_range, sum, difference, product, quotient, remainder};
+ghost use Rattle.ng_language.specs.Operators.{digits_behind, digits, positive, negative, signed, number_in, num, view_num, term_num, in_range, sum, difference, product, quotient, remainder};
 
 use ng_base::fault::Fault;
 use ng_base::reader::Plain;
+use ng_base::trimming::{AsciiSpace, only, past};
 use ng_base::txt::Txt;
 use ng_base::value::Value;
 use ng_base::view::View;
 
 /// The largest number of the language.
 pub(crate) const LARGEST: i64 = 9_007_199_254_740_991;
-
-/// Space, tab, LF, FF, CR.
-pub(crate) fn is_space(c: char) -> bool
-    ensures { result ≡ is_space c }
-{
-    c == ' ' || c == '\t' || c == '\n' || c == '\u{c}' || c == '\r'
-}
-
-fn is_digit(c: char) -> bool
-    ensures { result ≡ is_digit c }
-{
-    '0' <= c && c <= '9'
-}
-
-fn only_spaces(mut reader: Plain<'_>) -> bool
-    ensures { result ≡ only_spaces reader.entry }
-{
-    while let Some(c) = reader.next() {
-        if !is_space(c) {
-            return false;
-        }
-    }
-    true
-}
-
-fn past_spaces(mut reader: Plain<'_>) -> Plain<'_>
-    ensures { result ≡ past_spaces reader.entry }
-{
-    while let Some((c, rest)) = reader.first() {
-        if !is_space(c) {
-            return reader;
-        }
-        reader = rest;
-    }
-    reader
-}
 
 /// Digits behind those that were read, and then white space.
 fn digits_behind(first: u64, mut reader: Plain<'_>) -> Option<u64>
@@ -59,8 +23,12 @@ fn digits_behind(first: u64, mut reader: Plain<'_>) -> Option<u64>
 {
     let mut n = first;
     while let Some((c, rest)) = reader.first() {
-        if !is_digit(c) {
-            return if only_spaces(reader) { Some(n) } else { None };
+        if !c.is_ascii_digit() {
+            return if only::<AsciiSpace>(reader) {
+                Some(n)
+            } else {
+                None
+            };
         }
         let more = 10 * n + (c as u64 - 48);
         if more > LARGEST as u64 {
@@ -77,7 +45,7 @@ fn digits(reader: Plain<'_>) -> Option<u64>
     ensures below { IfSome result (λ n. n < 9007199254740992) }
 {
     let (c, rest) = reader.first()?;
-    if !is_digit(c) {
+    if !c.is_ascii_digit() {
         return None;
     }
     digits_behind(c as u64 - 48, rest)
@@ -123,7 +91,7 @@ fn signed(reader: Plain<'_>) -> Option<i64>
 fn number_in(t: &Txt) -> Option<i64>
     ensures { result ≡ number_in t.now }
 {
-    signed(past_spaces(Plain::new(t.as_str())))
+    signed(past::<AsciiSpace>(Plain::new(t.as_str())))
 }
 
 /// A value as a number; none is NaN.

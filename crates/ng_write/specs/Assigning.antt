@@ -5,7 +5,8 @@ use Rattle.std.specs.Str.{bytes_eq}
 use Rattle.std.specs.Map.{lookup}
 use Rattle.indexmap.specs.IndexMap.{insert_entry}
 use Rattle.ng_base.specs.Codes.{digit_zero}
-use Rattle.ng_base.specs.Objects.{Object, object_at, index_of, is_digit}
+use Rattle.std.specs.Char.{is_ascii_digit}
+use Rattle.ng_base.specs.Objects.{Object, object_at, index_of}
 use Rattle.ng_base.specs.declared.heap.ObjKind.{ObjKind}
 use Rattle.ng_base.specs.declared.heap.ObjKind.TheVariants as kinds
 use Rattle.ng_base.specs.declared.value.Value.{Value}
@@ -45,7 +46,7 @@ is_only_zero (c ∷ cs) = false
 -- digits without a leading zero, as many as there may be
 abbrev pub is_whole_name : List ℕ → Bool
 is_whole_name [] = false
-is_whole_name (c ∷ cs) = if c == digit_zero then is_only_zero cs else list_all is_digit (c ∷ cs)
+is_whole_name (c ∷ cs) = if c == digit_zero then is_only_zero cs else list_all is_ascii_digit (c ∷ cs)
 
 -- a name of an array that is no index: a whole number is above each length, and no other name is assigned to
 abbrev pub beyond : List ℕ → Fault

@@ -3,7 +3,8 @@ ghost use Rattle.std.specs.Prelude.{◌≡◌, ◌<◌, ◌≤◌, ℕ, length, 
 ghost use Rattle.std.specs.List.{list_all};
 ghost use Rattle.ng_base.specs.Faults.{is_memory};
 ghost use Rattle.ng_base.specs.Meets.{Meets};
-ghost use Rattle.ng_base.specs.Objects.{StandsAmong, is_digit};
+ghost use Rattle.std.specs.Char.{is_ascii_digit};
+ghost use Rattle.ng_base.specs.Objects.{StandsAmong};
 ghost use Rattle.ng_language.specs.Objects.{set_name};
 ghost use Rattle.ng_members.specs.Leaves.{LocalsStand};
 ghost use Rattle.ng_write.specs.Assigning.{is_kept_name, scope_assigned, length_assigned, item_assigned, is_whole_name, beyond, indexed, array_assigned, object_assigned, member_assigned, is_local, place_among, locals_after, name_assigned};
@@ -85,7 +86,7 @@ fn assign_index(store: &mut Store, o: Oid, i: u32, v: Value) -> Result<(), Fault
 
 /// Digits alone.
 fn are_digits(mut reader: Plain<'_>) -> bool
-    ensures { result ≡ list_all is_digit reader.entry }
+    ensures { result ≡ list_all is_ascii_digit reader.entry }
 {
     while let Some(c) = reader.next() {
         if !c.is_ascii_digit() {

@@ -11,9 +11,9 @@ returns-in-Err c =
 
 pub returns-in-Err-parse : goal.returns-in-Err-parse
 returns-in-Err-parse c =
-    λ free. parse_is c.args.place c.args.text.now c.utf8.text (tokens_of c.in-Ok.tokens) c.in-Ok.tokens.end (Err c.in-Err-parse.fault) c.in-Ok.ensures.exact c.in-Ok.ensures.end
+    λ free. parse_is c.args.place c.args.text.now c.utf8.text (tokens_of c.lex_into.new.tokens) c.lex_into.new.tokens.end (Err c.in-Err-parse.fault) c.in-Ok.ensures.exact c.in-Ok.ensures.end
     (c.in-Err-parse.ensures.exact (parse_free c.args.place c.in-Err-parse.fault c.of_parser.result c.of_parser.ensures free))
     ∙ ap Err (sym c.of_parser.ensures)
 
-pub returns : goal.returns
-returns c = parse_is c.args.place c.args.text.now c.utf8.text (tokens_of c.in-Ok.tokens) c.in-Ok.tokens.end (Ok (program c.in-Ok-parse.program)) c.in-Ok.ensures.exact c.in-Ok.ensures.end c.in-Ok-parse.ensures.exact
+pub returns-in-Ok-parse : goal.returns-in-Ok-parse
+returns-in-Ok-parse c = parse_is c.args.place c.args.text.now c.utf8.text (tokens_of c.lex_into.new.tokens) c.lex_into.new.tokens.end (Ok (program c.in-Ok-parse.program)) c.in-Ok.ensures.exact c.in-Ok.ensures.end c.in-Ok-parse.ensures.exact

@@ -11,20 +11,20 @@ use Rattle.ng_lex.proofs.lexing.read_tokens.Goals as goal
 pub returns-in_err-token-clause-exact : goal.returns-in_err-token-clause-exact
 returns-in_err-token-clause-exact c =
     let total = length c.args.text.now in
-    let whole : Result (List Token × List ℕ) LexFault = lexes total (suc (length c.new-reader.result)) c.new-tokens.result.items c.new-places.result.items c.new-reader.result in
+    let whole : Result (List Token × List ℕ) LexFault = lexes total (suc (length c.new-reader.result)) c.args.tokens.items c.args.places.items c.new-reader.result in
     let room : LexRoom total c.loop-c.tokens.items c.loop-c.places.items (c.in-Some.c ∷ c.in-Some.rest) whole = subst (λ (cs : List ℕ). LexRoom total c.loop-c.tokens.items c.loop-c.places.items cs whole) c.in-Some.ensures c.loop-c.invariant in
     let no : is_space c.in-Some.c ≡ false = sym c.if-space.ensures in
     let at : c.place_of-place.result ≡ place total (c.in-Some.c ∷ c.in-Some.rest) = c.place_of-place.ensures ∙ ap (place total) c.in-Some.ensures in
     let fact : is_free c.in_err-token.field-0.0 ≡ false → whole ≡ Err c.in_err-token.field-0.0 =
     λ free. token_err total c.loop-c.tokens.items c.loop-c.places.items c.in-Some.c c.in-Some.rest c.in_err-token.field-0.0 whole room no
     (ap (λ (p : ℕ). token_at total p c.in-Some.c c.in-Some.rest) (sym at) ∙ c.in_err-token.ensures.read free) in
-    let same : whole ≡ lexed total c.new-reader.result = rw (c.new-tokens.ensures.items, c.new-places.ensures.items) in
+    let same : whole ≡ lexed total c.new-reader.result = rw (c.requires.tokens, c.requires.places) in
     rw (← c.new-reader.ensures) (search (rules, λ (free : is_free c.in_err-token.field-0.0 ≡ false). sym same ∙ fact free))
 
 pub loop-c-preserved : goal.loop-c-preserved
 loop-c-preserved c =
     let total = length c.args.text.now in
-    let whole : Result (List Token × List ℕ) LexFault = lexes total (suc (length c.new-reader.result)) c.new-tokens.result.items c.new-places.result.items c.new-reader.result in
+    let whole : Result (List Token × List ℕ) LexFault = lexes total (suc (length c.new-reader.result)) c.args.tokens.items c.args.places.items c.new-reader.result in
     let room : LexRoom total c.loop-c.tokens.items c.loop-c.places.items (c.in-Some.c ∷ c.in-Some.rest) whole = subst (λ (cs : List ℕ). LexRoom total c.loop-c.tokens.items c.loop-c.places.items cs whole) c.in-Some.ensures c.loop-c.invariant in
     let no : is_space c.in-Some.c ≡ false = sym c.if-space.ensures in
     let at : c.place_of-place.result ≡ place total (c.in-Some.c ∷ c.in-Some.rest) = c.place_of-place.ensures ∙ ap (place total) c.in-Some.ensures in
