@@ -12,9 +12,14 @@ use Rattle.ng_events.specs.Stands.{Table, Begins, lists_of}
 use Rattle.ng_events.specs.declared.stands.EventWalk.{EventWalk}
 use Rattle.ng_language.specs.Trees.{Trees}
 use Rattle.ng_members.specs.Leaves.{Local}
-use Rattle.ng_act.specs.Actions.{Doing, Asked, a_body, an_emit, a_broadcast, Event, announced, finished, emitted, broadcasted, rises, sweeps, visits, visited, many, programmed, body_run, done, does}
-use Rattle.ng_act.specs.Frames.{Acts}
-use Rattle.ng_act.specs.State.{State, Run, with_locals, with_body}
+use Rattle.ng_core.specs.Burying.{many}
+use Rattle.ng_core.specs.Events.{Event, announced, finished}
+use Rattle.ng_act.specs.Asked.{Doing, Asked, a_body, an_emit, a_broadcast}
+use Rattle.ng_act.specs.Expressions.{programmed}
+use Rattle.ng_act.specs.Emitting.{rises, sweeps, visits, visited}
+use Rattle.ng_act.specs.Actions.{emitted, broadcasted, body_run, done, does}
+use Rattle.ng_core.specs.Frames.{Acts}
+use Rattle.ng_core.specs.State.{State, Run, with_locals, with_body}
 use Rattle.ng_act.specs.Turns.{walk_turns}
 use Rattle.ng_act.proofs.Turns.{walk_begun}
 

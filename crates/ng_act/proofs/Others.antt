@@ -8,10 +8,11 @@ use Rattle.ng_parse.specs.declared.tree.Expr.TheVariants as exprs
 use Rattle.ng_parse.specs.declared.tree.Expr.TheOpen.{Expr-F}
 use Rattle.ng_parse.specs.declared.tree.Expr.TheViews.{out-Expr}
 use Rattle.ng_parse.specs.declared.tree.Expr.TheFolds.{fold_out-Expr}
-use Rattle.ng_act.specs.Actions.{Doing, made, reached, whole_reached}
-use Rattle.ng_act.specs.Calling.{value_called}
-use Rattle.ng_act.specs.State.{State, Run}
-use Rattle.ng_act.specs.declared.called.Called.{Called}
+use Rattle.ng_act.specs.Asked.{Doing}
+use Rattle.ng_act.specs.Expressions.{made, reached, whole_reached}
+use Rattle.ng_core.specs.Calling.{value_called}
+use Rattle.ng_core.specs.State.{State, Run}
+use Rattle.ng_core.specs.declared.called.Called.{Called}
 
 pub tree_member : (t : _) (n : List ℕ) → tree (exprs.Member t n) ≡ member_of (tree t.value) n
 unfolding out-Expr denote.Hole.Carrier.out

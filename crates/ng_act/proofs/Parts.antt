@@ -17,18 +17,22 @@ use Rattle.ng_parse.specs.declared.tree.Pair.{Pair}
 use Rattle.ng_store.proofs.Sound.{all_through, all_append}
 use Rattle.ng_members.specs.Leaves.{Field, FieldsAllStand}
 use Rattle.ng_write.proofs.More.{view_more}
-use Rattle.ng_act.specs.Actions.{Doing, Place, within, acted, acted_all, acted_pair, acted_pairs, reached, left, made, makes_member, index_name, does}
-use Rattle.ng_act.specs.Calling.{is_nothing}
+use Rattle.ng_core.specs.Keeping.{makes_member}
+use Rattle.ng_core.specs.Places.{Place, within, index_name}
+use Rattle.ng_act.specs.Asked.{Doing}
+use Rattle.ng_act.specs.Expressions.{acted, acted_all, acted_pair, acted_pairs, reached, left, made}
+use Rattle.ng_act.specs.Actions.{does}
+use Rattle.ng_core.specs.Calling.{is_nothing}
 use Rattle.ng_chain.specs.declared.chain.Span.{Span}
 use Rattle.ng_events.specs.Stands.{walks_at, open_of}
-use Rattle.ng_act.specs.declared.core_state.Core.{Core}
-use Rattle.ng_act.specs.Frames.{Acts, Held, held}
-use Rattle.ng_act.specs.PlaceOf.{PlaceStands, TargetStands, place_of}
-use Rattle.ng_act.specs.State.{State, Run}
-use Rattle.ng_act.specs.declared.called.Called.{Called}
-use Rattle.ng_act.specs.declared.called.Called.TheVariants as calls
-use Rattle.ng_act.specs.declared.places.Place.{Place as Written}
-use Rattle.ng_act.specs.declared.places.Place.TheVariants as places
+use Rattle.ng_core.specs.declared.core_state.Core.{Core}
+use Rattle.ng_core.specs.Frames.{Acts, Held, held}
+use Rattle.ng_core.specs.PlaceOf.{PlaceStands, TargetStands, place_of}
+use Rattle.ng_core.specs.State.{State, Run}
+use Rattle.ng_core.specs.declared.called.Called.{Called}
+use Rattle.ng_core.specs.declared.called.Called.TheVariants as calls
+use Rattle.ng_core.specs.declared.places.Place.{Place as Written}
+use Rattle.ng_core.specs.declared.places.Place.TheVariants as places
 use Rattle.ng_act.proofs.Steps.{drop_expr, drop_pair, all_kept, pairs_kept}
 
 -- a call that left a fault

@@ -28,14 +28,23 @@ use Rattle.ng_write.specs.Making.{value_in, made_member}
 use Rattle.ng_write.specs.Written.{Written}
 use Rattle.ng_write.specs.declared.events.EventCall.{EventCall}
 use Rattle.ng_write.specs.declared.events.EventCall.TheVariants as event_calls
-use Rattle.ng_act.specs.Calling.{called_on, value_called, is_nothing, outlives, program_given, watch_given, watch_kind, Found, no_function, takes, unwatches, opens, found_in}
-use Rattle.ng_act.specs.State.{written, State, Run, ◌>>=◌, given, with_objects, with_locals, with_body, with_task, with_heard, with_fault, handed, first_or, is_stopped}
-use Rattle.ng_act.specs.declared.called.Called.{Called}
-use Rattle.ng_act.specs.declared.called.Called.TheVariants as calls
-use Rattle.ng_act.specs.declared.called.ScopeMethod.{ScopeMethod}
-use Rattle.ng_act.specs.declared.called.ScopeMethod.TheVariants as methods
-use Rattle.ng_act.specs.Actions.{as_view_run, watches, with_event, Doing, a_body, an_emit, a_broadcast, Event, Place, bare, within, nothing, stores, stores_result, filter_result, assigns, assigns_name, makes_name, makes_member, is_missing, index_name, item_called, found_run, ons, listens, declares, defers, method_run, scope_run, event_run, runs, acted, reached, whole_reached, left, made, acted_all, acted_pair, acted_pairs, statements, programmed, announced, finished, rises, sweeps, visits, many, body_run, done, does, Asked, turned, takes_turn, turns, upfrom, visited, shows_current, event_locals, object_value, listener_at, next_then, buried, destroys, ended}
-use Rattle.ng_act.proofs.Grows.{named-grows, stored-grows, called-grows, assigned_name-grows, assigned-grows, made-grows, changed-grows, event-grows}
+use Rattle.ng_core.specs.Calling.{called_on, value_called, is_nothing, outlives, program_given, watch_given, watch_kind, Found, no_function, takes, unwatches, opens, found_in}
+use Rattle.ng_core.specs.State.{written, State, Run, ◌>>=◌, given, with_objects, with_locals, with_body, with_task, with_heard, with_fault, handed, first_or, is_stopped}
+use Rattle.ng_core.specs.declared.called.Called.{Called}
+use Rattle.ng_core.specs.declared.called.Called.TheVariants as calls
+use Rattle.ng_core.specs.declared.called.ScopeMethod.{ScopeMethod}
+use Rattle.ng_core.specs.declared.called.ScopeMethod.TheVariants as methods
+use Rattle.ng_core.specs.Keeping.{as_view_run, nothing, stores, stores_result, filter_result, assigns_name, makes_name, makes_member, is_missing}
+use Rattle.ng_core.specs.Places.{Place, bare, within, assigns, index_name, item_called}
+use Rattle.ng_core.specs.ScopeCalls.{watches, ons, listens, declares, defers, event_run}
+use Rattle.ng_core.specs.Burying.{many, next_then, buried}
+use Rattle.ng_core.specs.Events.{with_event, Event, announced, finished, shows_current, event_locals, object_value, ended}
+use Rattle.ng_act.specs.Asked.{Doing, a_body, an_emit, a_broadcast, Asked}
+use Rattle.ng_act.specs.Calls.{found_run, method_run, scope_run, runs, destroys}
+use Rattle.ng_act.specs.Expressions.{acted, reached, whole_reached, left, made, acted_all, acted_pair, acted_pairs, statements, programmed}
+use Rattle.ng_act.specs.Emitting.{rises, sweeps, visits, turned, takes_turn, turns, upfrom, visited, listener_at}
+use Rattle.ng_act.specs.Actions.{body_run, done, does}
+use Rattle.ng_core.proofs.Grows.{named-grows, stored-grows, called-grows, assigned_name-grows, assigned-grows, made-grows, changed-grows, event-grows}
 
 -- a relation of two states that holds of each step
 pub record Steps (R : State → State → Type 0) : Type 0 where

@@ -9,8 +9,13 @@ use Rattle.ng_parse.specs.declared.tree.Expr.{Expr}
 use Rattle.ng_parse.specs.declared.tree.Pair.{Pair}
 use Rattle.ng_members.specs.Leaves.{Field}
 use Rattle.ng_behaviour.specs.Scopes.{parent_at, path_at, next_scope}
-use Rattle.ng_act.specs.Actions.{Doing, Event, acted, acted_all, acted_pair, acted_pairs, statements, does, rises, sweeps, visits, hushes, hushed}
-use Rattle.ng_act.specs.State.{State, Run, is_stopped}
+use Rattle.ng_core.specs.Burying.{hushes, hushed}
+use Rattle.ng_core.specs.Events.{Event}
+use Rattle.ng_act.specs.Asked.{Doing}
+use Rattle.ng_act.specs.Expressions.{acted, acted_all, acted_pair, acted_pairs, statements}
+use Rattle.ng_act.specs.Emitting.{rises, sweeps, visits}
+use Rattle.ng_act.specs.Actions.{does}
+use Rattle.ng_core.specs.State.{State, Run, is_stopped}
 
 pub drop_expr : (ps : List Expr) (i : ℕ) (p : Expr) → i < length ps → p ≡ get_or ps i p → drop i ps ≡ p ∷ drop (suc i) ps
 drop_expr [] i p h e = absurd (omega arith)

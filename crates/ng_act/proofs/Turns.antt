@@ -11,8 +11,11 @@ use Rattle.ng_chain.specs.declared.chain.Span.{Span}
 use Rattle.ng_events.specs.Stands.{Table, IsOpen, Begins, Goes, Ends, Hears, lists_of, walks_at, put_walk, is_at}
 use Rattle.ng_events.specs.declared.stands.EventWalk.{EventWalk}
 use Rattle.ng_events.specs.declared.stands.EventWalk.TheVariants.{Bare, On}
-use Rattle.ng_act.specs.Actions.{Doing, Event, turned, takes_turn, turns, upfrom, visited, does}
-use Rattle.ng_act.specs.State.{State, with_heard}
+use Rattle.ng_core.specs.Events.{Event}
+use Rattle.ng_act.specs.Asked.{Doing}
+use Rattle.ng_act.specs.Emitting.{turned, takes_turn, turns, upfrom, visited}
+use Rattle.ng_act.specs.Actions.{does}
+use Rattle.ng_core.specs.State.{State, with_heard}
 use Rattle.ng_act.specs.Turns.{left_turns, walk_turns, closed, left_of, ahead_of}
 
 -- opening, moving and closing a walk

@@ -1,11 +1,7 @@
-pub mod State
-pub mod Calling
+pub mod Asked
+pub mod Calls
+pub mod Expressions
+pub mod Emitting
 pub mod Actions
-pub mod Frames
-pub mod EventOf
-pub mod PlaceOf
 pub mod Turns
-pub mod Beginning
-pub mod CalleeOf
 pub mod Running
-pub mod Laws

@@ -5,8 +5,9 @@ use Rattle.ng_base.specs.declared.value.Value.{Value}
 use Rattle.ng_language.specs.Trees.{Trees}
 use Rattle.ng_members.specs.Leaves.{Local}
 use Rattle.ng_write.specs.Making.{value_in}
-use Rattle.ng_act.specs.Actions.{does, programmed}
-use Rattle.ng_act.specs.State.{State, Run, ◌>>=◌, with_locals}
+use Rattle.ng_act.specs.Expressions.{programmed}
+use Rattle.ng_act.specs.Actions.{does}
+use Rattle.ng_core.specs.State.{State, Run, ◌>>=◌, with_locals}
 
 -- what an action gives is a value, since each fresh list and record has become an object
 abbrev pub as_value_run : Run ViewTree → Run Value

@@ -5,8 +5,10 @@ use Rattle.ng_chain.specs.declared.chain.Span.{Span}
 use Rattle.ng_events.specs.Stands.{Table, walks_at, put_walk}
 use Rattle.ng_events.specs.declared.stands.EventWalk.{EventWalk}
 use Rattle.ng_events.specs.declared.stands.EventWalk.TheVariants.{Bare, On}
-use Rattle.ng_act.specs.Actions.{Doing, Event, turns, upfrom}
-use Rattle.ng_act.specs.State.{State}
+use Rattle.ng_core.specs.Events.{Event}
+use Rattle.ng_act.specs.Asked.{Doing}
+use Rattle.ng_act.specs.Emitting.{turns, upfrom}
+use Rattle.ng_core.specs.State.{State}
 
 -- the turns that a walk has left
 abbrev pub left_turns : Doing → Event → ℕ → ℕ → Option Span → State → State

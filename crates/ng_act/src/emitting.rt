@@ -4,21 +4,25 @@ ghost use Rattle.std.specs.List.{AllByRecursion};
 ghost use Rattle.ng_base.specs.Views.{views_list};
 ghost use Rattle.ng_base.specs.ViewOf.{view_of, views_of};
 ghost use Rattle.ng_language.specs.Views.{ViewStands};
-ghost use Rattle.ng_act.specs.Actions.{an_emit, a_broadcast, does, destroys, emitted, broadcasted, rises, sweeps, visits, many};
-ghost use Rattle.ng_act.specs.EventOf.{event_of};
-ghost use Rattle.ng_act.specs.Frames.{state_of, held, IsSound, Acts};
-ghost use Rattle.ng_act.specs.State.{handed};
+ghost use Rattle.ng_core.specs.Burying.{many};
+ghost use Rattle.ng_act.specs.Asked.{an_emit, a_broadcast};
+ghost use Rattle.ng_act.specs.Calls.{destroys};
+ghost use Rattle.ng_act.specs.Emitting.{rises, sweeps, visits};
+ghost use Rattle.ng_act.specs.Actions.{does, emitted, broadcasted};
+ghost use Rattle.ng_core.specs.EventOf.{event_of};
+ghost use Rattle.ng_core.specs.Frames.{state_of, held, IsSound, Acts};
+ghost use Rattle.ng_core.specs.State.{handed};
 ghost use Rattle.ng_events.specs.Stands.{open_of};
 
-use crate::burying::{bury, next_below, parent_of};
-use crate::core_state::Core;
-use crate::event_objects::{Event, announce, finish, is_stopped};
-use crate::opening::{ROOM, close_event, open_event};
 use crate::visiting::visit;
 use ng_base::fault::{Fault, Memory};
 use ng_base::name::ScopeId;
 use ng_base::txt::Txt;
 use ng_base::view::{View, Views};
+use ng_core::burying::{bury, next_below, parent_of};
+use ng_core::core_state::Core;
+use ng_core::event_objects::{Event, announce, finish, is_stopped};
+use ng_core::opening::{ROOM, close_event, open_event};
 use std::alloc::Global;
 
 /// A scope and all below it die (API: `$rootScope.Scope`, `$destroy`).

@@ -2,21 +2,22 @@
 ghost use Rattle.std.specs.Prelude.{◌≡◌, ◌<◌, ◌≤◌, ◌-◌, length, OnOk};
 ghost use Rattle.ng_base.specs.ViewOf.{view_of};
 ghost use Rattle.ng_language.specs.Views.{ViewStands};
-ghost use Rattle.ng_act.specs.Actions.{does, visits, visited, turned};
-ghost use Rattle.ng_act.specs.EventOf.{event_of};
-ghost use Rattle.ng_act.specs.Frames.{state_of, held, IsSound};
+ghost use Rattle.ng_act.specs.Emitting.{visits, visited, turned};
+ghost use Rattle.ng_act.specs.Actions.{does};
+ghost use Rattle.ng_core.specs.EventOf.{event_of};
+ghost use Rattle.ng_core.specs.Frames.{state_of, held, IsSound};
 ghost use Rattle.ng_act.specs.Turns.{closed, walk_turns};
 ghost use Rattle.ng_behaviour.specs.Listeners.{called, place_of};
 ghost use Rattle.ng_behaviour.specs.Scopes.{live_at};
 ghost use Rattle.ng_events.specs.Stands.{lists_of, open_of, IsOpen};
 
 use crate::calling::run_body;
-use crate::core_state::Core;
-use crate::event_objects::{Event, locals_of, show_current};
-use crate::opening::{begin_walk, end_walk, next_turn};
 use ng_base::fault::{Fault, Memory};
 use ng_base::name::{FunId, ScopeId};
 use ng_base::value::Value;
+use ng_core::core_state::Core;
+use ng_core::event_objects::{Event, locals_of, show_current};
+use ng_core::opening::{begin_walk, end_walk, next_turn};
 use ng_events::listeners::EventWalk;
 use std::alloc::Global;
 

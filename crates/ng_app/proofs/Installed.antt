@@ -1,9 +1,9 @@
 -- What holds of a core holds once a function is installed.
 use Rattle.std.proofs.Common.{◌≡◌, ℕ, List, [], ◌∷◌, ◌++◌, map, length}
 use Rattle.std.specs.List.{AllByRecursion}
-use Rattle.ng_act.specs.Frames.{IsSound, FunStands, fun_of}
-use Rattle.ng_act.specs.declared.core_state.Core.{Core}
-use Rattle.ng_act.specs.declared.core_state.Function.{Function}
+use Rattle.ng_core.specs.Frames.{IsSound, FunStands, fun_of}
+use Rattle.ng_core.specs.declared.core_state.Core.{Core}
+use Rattle.ng_core.specs.declared.core_state.Function.{Function}
 
 pub one_more : (n : ℕ) (fs : List Function) (f : Function) → AllByRecursion (FunStands n) (map fun_of fs) → FunStands n (fun_of f) → AllByRecursion (FunStands n) (map fun_of (fs ++ f ∷ []))
 one_more n [] f h g = (g, tt)

@@ -4,8 +4,8 @@ use Rattle.std.specs.Str.{bytes_eq, is_utf8}
 use Rattle.serde_json.specs.Data.{Data, object, Members, no_members, member}
 use Rattle.serde_json.specs.Read.{read}
 use Rattle.serde_json.specs.Find.{as_number, as_u64, as_object, get_member}
-use Rattle.ng_act.specs.Beginning.{first_objects, first_state}
-use Rattle.ng_act.specs.State as act
+use Rattle.ng_core.specs.Beginning.{first_objects, first_state}
+use Rattle.ng_core.specs.State as act
 use Rattle.ng_base.specs.Meets.{◌>>=◌}
 use Rattle.ng_base.specs.Objects.{Object}
 use Rattle.ng_language.specs.Trees.{Trees}

@@ -1,6 +1,6 @@
 -- What an application that was read stands for.
 use Rattle.std.specs.Prelude.{map}
-use Rattle.ng_act.specs.Frames.{state_of}
+use Rattle.ng_core.specs.Frames.{state_of}
 use Rattle.ng_parse.specs.ProgramOf.{program}
 use Rattle.ng_app.specs.App.{Facts}
 use Rattle.ng_app.specs.ProgramsOf.{function_of, watch_of, listener_of}

@@ -1,7 +1,7 @@
 -- A core that a page begins with.
 use Rattle.std.specs.Prelude.{◌≡◌, length}
-use Rattle.ng_act.specs.Frames.{HaveParents}
-use Rattle.ng_act.specs.declared.core_state.Core.{Core}
+use Rattle.ng_core.specs.Frames.{HaveParents}
+use Rattle.ng_core.specs.declared.core_state.Core.{Core}
 use Rattle.ng_behaviour.specs.ScopeObjects.{AreAmong}
 use Rattle.ng_events.specs.Stands.{open_of}
 

@@ -1,7 +1,7 @@
 -- What is installed and registered on the root scope before its program runs.
 use Rattle.std.specs.Prelude.{ℕ, List, [], ◌∷◌, ◌++◌, length}
-use Rattle.ng_act.specs.Actions.{listens, watches}
-use Rattle.ng_act.specs.State.{State, a_declared, with_funs, with_objects}
+use Rattle.ng_core.specs.ScopeCalls.{listens, watches}
+use Rattle.ng_core.specs.State.{State, a_declared, with_funs, with_objects}
 use Rattle.ng_base.specs.declared.value.Value.TheVariants as value
 use Rattle.ng_behaviour.specs.Scopes.{object_at}
 use Rattle.ng_language.specs.Objects.{set_name}

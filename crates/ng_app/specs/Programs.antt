@@ -1,6 +1,6 @@
 -- The programs of an application: what its entries spell.
 use Rattle.std.specs.Prelude.{ℕ, List, [], ◌∷◌, ◌++◌, length, Result, Ok, Err, if◌then◌else◌}
-use Rattle.ng_act.specs.Calling.{text_program}
+use Rattle.ng_core.specs.Calling.{text_program}
 use Rattle.ng_base.specs.Meets.{◌>>=◌}
 use Rattle.ng_base.specs.declared.fault.Fault.{Fault}
 use Rattle.ng_language.specs.Trees.{Trees}

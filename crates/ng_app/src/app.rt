@@ -3,8 +3,8 @@ ghost use Rattle.std.specs.Prelude.{◌≡◌, length};
 ghost use Rattle.ng_app.specs.Fresh.{IsFresh};
 
 use crate::items::{AppFunction, AppListener, AppWatch};
-use ng_act::core_state::Core;
 use ng_collect::Registry;
+use ng_core::core_state::Core;
 use ng_parse::Program;
 
 /// An application that was read: the core that its page begins with, what is to be installed and registered there, the

@@ -1,17 +1,17 @@
 //! What is installed and registered on the root scope before the application's program runs.
 ghost use Rattle.std.specs.Prelude.{◌≡◌, ◌<◌, length, map, IfOk, OnOk, IsOk};
-ghost use Rattle.ng_act.specs.Frames.{state_of, IsSound};
+ghost use Rattle.ng_core.specs.Frames.{state_of, IsSound};
 ghost use Rattle.ng_app.specs.Installing.{installs, declares, registers, installs_all, declares_all, registers_all};
 ghost use Rattle.ng_app.specs.ProgramsOf.{function_of, watch_of, listener_of};
 
 use crate::app::App;
 use crate::items::{AppFunction, AppListener, AppWatch};
-use ng_act::core_state::{Core, Function};
-use ng_act::scope_calls::{listen, watch_declared};
 use ng_base::fault::{Fault, Memory};
 use ng_base::name::{FunId, ScopeId};
 use ng_base::value::Value;
 use ng_base::view::View;
+use ng_core::core_state::{Core, Function};
+use ng_core::scope_calls::{listen, watch_declared};
 use ng_parse::Program;
 
 /// Registering asks for memory alone.

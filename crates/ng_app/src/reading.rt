@@ -3,7 +3,7 @@ ghost use Rattle.std.specs.Prelude.{◌≡◌, [], codes, length, Some, None, op
 ghost use Rattle.serde_json.specs.Data.{object, no_members};
 ghost use Rattle.serde_json.specs.Find.{as_object, get_member};
 ghost use Rattle.serde_json.specs.View.{view, members_view};
-ghost use Rattle.ng_act.specs.Frames.{state_of};
+ghost use Rattle.ng_core.specs.Frames.{state_of};
 ghost use Rattle.ng_base.specs.Meets.{Gives};
 ghost use Rattle.ng_app.specs.App.{member_named, are_known, first_later, is_one as is_one_of, is_format, is_data as is_data_of, data_given, data_fault as data_refused, core_with, written as written_in, facts_with, facts_of_format, facts_of_object, facts_of};
 ghost use Rattle.ng_app.specs.AppOf.{facts};
@@ -19,10 +19,10 @@ use crate::entries::{
 use crate::fault::{AppFault, AppKind, Member};
 use crate::members::{fault, is_there, member};
 use crate::programs::{functions_read, listeners_read, program_at, watches_read};
-use ng_act::core_state::Core;
 use ng_base::fault::Memory;
 use ng_base::txt::Txt;
 use ng_collect::Registry;
+use ng_core::core_state::Core;
 use ng_store::json::JsonFault;
 use serde_json::{Map, Value as Json};
 use std::alloc::Global;

@@ -1,16 +1,16 @@
 //! Events with many listeners, calls of a function, and scopes that are destroyed.
 ghost use Rattle.std.specs.Prelude.{◌≡◌, ◌<◌, length, IfSome};
-ghost use Rattle.ng_act.specs.Frames.{IsSound};
+ghost use Rattle.ng_core.specs.Frames.{IsSound};
 
-use ng_act::burying::next_below;
-use ng_act::core_state::Core;
 use ng_act::running::{act, broadcast, destroy, emit};
-use ng_act::scope_calls::listen;
 use ng_app::App;
 use ng_base::lists::Values;
 use ng_base::locals::Locals;
 use ng_base::name::ScopeId;
 use ng_base::txt::Txt;
+use ng_core::burying::next_below;
+use ng_core::core_state::Core;
+use ng_core::scope_calls::listen;
 use ng_lex::lex;
 use ng_parse::{Program, parse};
 use std::alloc::Global;

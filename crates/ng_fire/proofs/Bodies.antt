@@ -1,8 +1,8 @@
 -- What the steps of a block's fire leave.
 use Rattle.std.proofs.Common.{◌≡◌, ◌∙◌, ◌<◌, ℕ, zero, suc, Bool, true, false, List, [], ◌∷◌, length, Option, Some, None, refl, ap, sym, subst, arith, if◌then◌else◌}
 use Rattle.std.specs.Prelude.{◌&&◌, Result, Ok, Err, IsSome, nat_lt, slice_get}
-use Rattle.ng_act.specs.Actions.{buried}
-use Rattle.ng_act.specs.State as act
+use Rattle.ng_core.specs.Burying.{buried}
+use Rattle.ng_core.specs.State as act
 use Rattle.ng_base.specs.Objects.{Object}
 use Rattle.ng_base.specs.declared.fault.Memory.{Memory}
 use Rattle.ng_base.specs.declared.fault.Memory.TheVariants.{Worn}

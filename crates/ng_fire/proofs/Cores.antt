@@ -2,9 +2,9 @@
 use Rattle.std.proofs.Common.{◌≡◌, ℕ, List, ◌++◌, map, length, Option, Some, None}
 use Rattle.std.specs.List.{AllByRecursion}
 use Rattle.std.specs.Option.{option_to_list}
-use Rattle.ng_act.specs.Frames.{IsSound, fun_of, task_of, change_of, TaskStands, ChangeStands}
-use Rattle.ng_act.specs.declared.core_state.Core.{Core}
-use Rattle.ng_act.specs.declared.pending.Task.{Task as Waiting}
+use Rattle.ng_core.specs.Frames.{IsSound, fun_of, task_of, change_of, TaskStands, ChangeStands}
+use Rattle.ng_core.specs.declared.core_state.Core.{Core}
+use Rattle.ng_core.specs.declared.pending.Task.{Task as Waiting}
 use Rattle.ng_events.specs.Stands.{open_of}
 
 pub sound_left : (c d : Core) → IsSound c → d.store ≡ c.store → d.scopes ≡ c.scopes → d.locals ≡ c.locals → map fun_of d.funs.items ≡ map fun_of c.funs.items → AllByRecursion (TaskStands (length c.scopes)) (map task_of d.tasks.items) → AllByRecursion (ChangeStands (length c.scopes)) (map change_of d.changes.items) → d.depth ≡ c.depth → open_of d.listeners ≡ open_of c.listeners → IsSound d

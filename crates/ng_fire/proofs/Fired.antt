@@ -3,9 +3,10 @@ use Rattle.std.proofs.Common.{◌≡◌, ◌∙◌, ◌<◌, ℕ, Bool, true, fa
 use Rattle.std.specs.Prelude.{Ok, Err, option_map}
 use Rattle.std.specs.Map.{lookup}
 use Rattle.std.specs.Option.{ForSome}
-use Rattle.ng_act.specs.Actions.{a_body, stores}
-use Rattle.ng_act.specs.State as act
-use Rattle.ng_act.specs.State.{Run, ◌>>=◌}
+use Rattle.ng_core.specs.Keeping.{stores}
+use Rattle.ng_act.specs.Asked.{a_body}
+use Rattle.ng_core.specs.State as act
+use Rattle.ng_core.specs.State.{Run, ◌>>=◌}
 use Rattle.ng_base.specs.Objects.{Object}
 use Rattle.ng_base.specs.Views.{ViewTree}
 use Rattle.ng_base.specs.declared.fault.Fault.{Fault}

@@ -6,8 +6,8 @@ use Rattle.std.specs.List.Sorted.{IsStrictlySortedBy}
 use Rattle.std.specs.Ordering.{nat_cmp}
 use Rattle.std.specs.declared.cmp.Ordering.TheVariants.{Less}
 use Rattle.std.proofs.lemmas.Bool.Decides.{nat_tests}
-use Rattle.ng_act.specs.State as act
-use Rattle.ng_act.specs.State.{Change, Run, adds, removes, leaves, handed}
+use Rattle.ng_core.specs.State as act
+use Rattle.ng_core.specs.State.{Change, Run, adds, removes, leaves, handed}
 use Rattle.ng_base.specs.declared.fault.Fault.{Fault}
 use Rattle.ng_fire.proofs.Runs.{program_rises}
 use Rattle.ng_fire.proofs.Rising.{Mark, mark, Rises, rises-refl, rises-trans}

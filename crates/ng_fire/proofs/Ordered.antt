@@ -4,14 +4,14 @@ use Rattle.std.specs.BTreeMap.{insert_entry}
 use Rattle.std.specs.List.Sorted.{IsStrictlySortedBy}
 use Rattle.std.specs.Map.{keys_of, remove_entry}
 use Rattle.std.specs.Prelude.{ℕ, ◌&&◌, not, None, Result, Ok, Err}
-use Rattle.ng_act.specs.State.{Run, Change, adds, removes, leaves, handed}
+use Rattle.ng_core.specs.State.{Run, Change, adds, removes, leaves, handed}
 use Rattle.ng_base.specs.declared.fault.Fault.{Fault}
 use Rattle.ng_base.specs.declared.path.Key.{Key}
 use Rattle.ng_behaviour.specs.Scopes.{path_at, object_at, live_at}
 use Rattle.ng_drawing.specs.Nodes.{node_limit}
 use Rattle.ng_base.specs.Views.{ViewTree}
-use Rattle.ng_act.specs.Actions.{buried}
-use Rattle.ng_act.specs.State as act
+use Rattle.ng_core.specs.Burying.{buried}
+use Rattle.ng_core.specs.State as act
 use Rattle.ng_drawing.specs.Cases.{Case}
 use Rattle.ng_drawing.specs.Template.{Fragment, Site}
 use Rattle.ng_template.specs.Kept.{fragments_in}

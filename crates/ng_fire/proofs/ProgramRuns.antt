@@ -1,8 +1,8 @@
 -- Running a program on a core, as it is called.
 use Rattle.std.proofs.Common.{◌≡◌, ◌-◌, ℕ, List, [], Result, Ok, Err, ap, sym, subst, ◌∙◌}
-use Rattle.ng_act.specs.Frames.{Acts}
+use Rattle.ng_core.specs.Frames.{Acts}
 use Rattle.ng_act.specs.Running.{act_run, same}
-use Rattle.ng_act.specs.State.{State, Run, with_locals}
+use Rattle.ng_core.specs.State.{State, Run, with_locals}
 use Rattle.ng_base.specs.declared.fault.Fault.{Fault}
 use Rattle.ng_base.specs.declared.value.Value.{Value}
 use Rattle.ng_fire.specs.Runs.{back, program_run}

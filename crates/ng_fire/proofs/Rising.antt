@@ -1,9 +1,9 @@
 -- No action lowers the next number of registration, or changes the path of a scope.
 use Rattle.std.proofs.Common.{◌≡◌, ◌≤◌, ◌∙◌, ℕ, List, refl, ap, arith}
 use Rattle.ng_behaviour.specs.Scopes.{path_at}
-use Rattle.ng_act.specs.Actions.{buried}
-use Rattle.ng_act.specs.State.{State}
-use Rattle.ng_act.proofs.Buried.{buried_scopes, buried_serial}
+use Rattle.ng_core.specs.Burying.{buried}
+use Rattle.ng_core.specs.State.{State}
+use Rattle.ng_core.proofs.Buried.{buried_scopes, buried_serial}
 use Rattle.ng_act.proofs.Programs.{Steps}
 use Rattle.ng_fire.proofs.ScopePaths.{paths_of, dead_paths, same_count}
 

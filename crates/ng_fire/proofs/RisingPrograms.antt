@@ -3,8 +3,12 @@ use Rattle.std.proofs.Common.{◌≡◌, ℕ, Result, Ok, Err}
 use Rattle.ng_base.specs.Views.{ViewTree}
 use Rattle.ng_base.specs.declared.fault.Fault.{Fault}
 use Rattle.ng_language.specs.Trees.{Trees}
-use Rattle.ng_act.specs.Actions.{Asked, destroys, does, statements, stores}
-use Rattle.ng_act.specs.State.{State, Run, ◌>>=◌}
+use Rattle.ng_core.specs.Keeping.{stores}
+use Rattle.ng_act.specs.Asked.{Asked}
+use Rattle.ng_act.specs.Calls.{destroys}
+use Rattle.ng_act.specs.Expressions.{statements}
+use Rattle.ng_act.specs.Actions.{does}
+use Rattle.ng_core.specs.State.{State, Run, ◌>>=◌}
 use Rattle.ng_act.proofs.Programs.{does-kept, statements-kept, destroys-kept, stores-kept}
 use Rattle.ng_fire.proofs.Rising.{Mark, mark, Rises, rises-trans, Raised, rising}
 

@@ -1,9 +1,13 @@
 -- What a run as a value leaves, and what it comes to.
 use Rattle.std.proofs.Common.{◌≡◌, ◌-◌, ℕ, [], refl, sym, subst}
 use Rattle.std.specs.Prelude.{Result, Ok, Err, is_err}
-use Rattle.ng_act.specs.Actions.{Asked, destroys, does, nothing, programmed}
+use Rattle.ng_core.specs.Keeping.{nothing}
+use Rattle.ng_act.specs.Asked.{Asked}
+use Rattle.ng_act.specs.Calls.{destroys}
+use Rattle.ng_act.specs.Expressions.{programmed}
+use Rattle.ng_act.specs.Actions.{does}
 use Rattle.ng_act.specs.Running.{as_value_run}
-use Rattle.ng_act.specs.State.{State, Run, handed, with_locals}
+use Rattle.ng_core.specs.State.{State, Run, handed, with_locals}
 use Rattle.ng_base.specs.Views.{ViewTree}
 use Rattle.ng_base.specs.declared.fault.Fault.{Fault}
 use Rattle.ng_language.specs.Trees.{Trees}

@@ -1,12 +1,12 @@
 -- What holds of the works of a page holds after the calls on them.
 use Rattle.std.proofs.Common.{◌≡◌, ◌∙◌, ◌≤◌, ◌<◌, ℕ, Bool, true, false, List, [], ◌∷◌, length, Some, None, refl, sym, ap, subst, if◌then◌else◌, arith}
 use Rattle.std.specs.Prelude.{not, Result, Ok, Err}
-use Rattle.ng_act.specs.Frames as cores
-use Rattle.ng_act.specs.Frames.{Acts, IsSound, ChangeStands}
+use Rattle.ng_core.specs.Frames as cores
+use Rattle.ng_core.specs.Frames.{Acts, IsSound, ChangeStands}
 use Rattle.ng_act.specs.Running.{as_value_run, same}
-use Rattle.ng_act.specs.State as act
-use Rattle.ng_act.specs.State.{Change, Run, adds, removes, leaves}
-use Rattle.ng_act.specs.declared.core_state.Core.{Core}
+use Rattle.ng_core.specs.State as act
+use Rattle.ng_core.specs.State.{Change, Run, adds, removes, leaves}
+use Rattle.ng_core.specs.declared.core_state.Core.{Core}
 use Rattle.ng_base.specs.Views.{ViewTree}
 use Rattle.ng_base.specs.declared.fault.Fault.{Fault}
 use Rattle.ng_base.specs.declared.path.Key.{Key}
@@ -31,7 +31,7 @@ use Rattle.ng_watch.specs.Ended.{is_over}
 use Rattle.ng_watch.specs.Keys.{begins, is_key, key_cmp}
 use Rattle.ng_watch.specs.Seen.{Watching, Watcher}
 use Rattle.ng_watch.specs.Table.{with_kept, with_watch, without_watch}
-use Rattle.ng_act.specs.State.{handed}
+use Rattle.ng_core.specs.State.{handed}
 use Rattle.std.specs.BTreeMap.{insert_entry}
 use Rattle.std.specs.Map.{remove_entry}
 

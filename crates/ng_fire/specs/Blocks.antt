@@ -2,9 +2,9 @@
 -- before its body is gone. Then, where a body is called for that doesn't stand, a child scope is made and the body is linked on it, up to the
 -- first fault.
 use Rattle.std.specs.Prelude.{ℕ, ◌||◌, ◌&&◌, not, ◌++◌, Bool, true, false, List, [], ◌∷◌, length, nat_lt, Option, Some, Result, Ok, Err, if◌then◌else◌}
-use Rattle.ng_act.specs.Actions.{buried}
-use Rattle.ng_act.specs.State as act
-use Rattle.ng_act.specs.State.{Run, with_fault, with_objects, with_scopes}
+use Rattle.ng_core.specs.Burying.{buried}
+use Rattle.ng_core.specs.State as act
+use Rattle.ng_core.specs.State.{Run, with_fault, with_objects, with_scopes}
 use Rattle.ng_base.specs.Views.{ViewTree}
 use Rattle.ng_base.specs.declared.fault.Fault.{Fault}
 use Rattle.ng_base.specs.declared.fault.Fault.TheVariants.{StoreFull}

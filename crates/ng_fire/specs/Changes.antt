@@ -1,8 +1,8 @@
 -- What programs have left for the watchers to become is done, in order (API: `$rootScope.Scope`, `$watch`, `$destroy`).
 use Rattle.std.specs.Prelude.{ℕ, Bool, true, false, List, [], ◌∷◌}
 use Rattle.std.specs.List.{list_any}
-use Rattle.ng_act.specs.State as act
-use Rattle.ng_act.specs.State.{Change, adds, removes, leaves}
+use Rattle.ng_core.specs.State as act
+use Rattle.ng_core.specs.State.{Change, adds, removes, leaves}
 use Rattle.ng_base.specs.declared.path.Key.{Key}
 use Rattle.ng_behaviour.specs.Scopes.{path_at, object_at}
 use Rattle.ng_language.specs.declared.snapshots.SnapKind.{SnapKind}

@@ -1,7 +1,7 @@
 -- What the fire of a block in the code stands for.
 use Rattle.std.specs.Prelude.{ℕ, List, map, Option, None, Some, Ok, Err}
-use Rattle.ng_act.specs.State as act
-use Rattle.ng_act.specs.State.{Run}
+use Rattle.ng_core.specs.State as act
+use Rattle.ng_core.specs.State.{Run}
 use Rattle.ng_base.specs.declared.fault.Fault.TheVariants.{StoreFull}
 use Rattle.ng_base.specs.declared.name.ScopeId.{ScopeId}
 use Rattle.ng_fire.specs.Blocks.{Firing}

@@ -2,7 +2,7 @@
 -- a program runs, its fault is handed over, what it left for the watchers is done, and the linking goes on; a site gets the next
 -- number of registration. Nothing is tested meanwhile, so the sites are watched, and the nodes stand, once all else is done.
 use Rattle.std.specs.Prelude.{ℕ, ◌-◌, ◌&&◌, ◌||◌, Bool, true, false, List, [], ◌∷◌, ◌++◌, Result, Ok, Err, if◌then◌else◌}
-use Rattle.ng_act.specs.State.{with_serial, Run}
+use Rattle.ng_core.specs.State.{with_serial, Run}
 use Rattle.ng_base.specs.declared.fault.Fault.{Fault}
 use Rattle.ng_behaviour.specs.Scopes.{path_at, live_at}
 use Rattle.ng_drawing.specs.Nodes.{node_limit}

@@ -1,9 +1,11 @@
 -- Programs that run while no body and no event is open: that of a declared watch, of a task, of a command.
 use Rattle.std.specs.Prelude.{ℕ, Bool, true, false, List, [], ◌∷◌, Ok}
-use Rattle.ng_act.specs.Actions.{Asked, a_body, does, destroys}
-use Rattle.ng_act.specs.State as act
+use Rattle.ng_act.specs.Asked.{Asked, a_body}
+use Rattle.ng_act.specs.Calls.{destroys}
+use Rattle.ng_act.specs.Actions.{does}
+use Rattle.ng_core.specs.State as act
 use Rattle.ng_act.specs.Running.{act_run}
-use Rattle.ng_act.specs.State.{Run, Task, handed, with_locals}
+use Rattle.ng_core.specs.State.{Run, Task, handed, with_locals}
 use Rattle.ng_base.specs.Views.{ViewTree}
 use Rattle.ng_base.specs.declared.value.Value.{Value}
 use Rattle.ng_fire.specs.Changes.{changed}

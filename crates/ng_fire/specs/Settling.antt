@@ -1,7 +1,7 @@
 -- What comes once the rounds have settled, in this order: each watcher whose fire faulted keeps nothing; each one-time binding
 -- whose value is there ends; the probes are evaluated (guide: Expressions, "One-time binding").
 use Rattle.std.specs.Prelude.{ℕ, ◌&&◌, Bool, List, [], ◌∷◌, ◌++◌, map, codes, Result, Ok, Err, if◌then◌else◌}
-use Rattle.ng_act.specs.State as act
+use Rattle.ng_core.specs.State as act
 use Rattle.ng_base.specs.Faults.{fault_name}
 use Rattle.ng_base.specs.Objects.{Object}
 use Rattle.ng_base.specs.declared.fault.Fault.{Fault}

@@ -1,7 +1,7 @@
 -- What holds of the works of a page between two calls.
 use Rattle.std.specs.Prelude.{ℕ, ◌<◌, ◌≡◌, Bool, true, false, List, length, Option, Some, None, IsSome, Result, Ok, Err}
 use Rattle.std.specs.List.{AllByRecursion}
-use Rattle.ng_act.specs.Frames.{IsSound}
+use Rattle.ng_core.specs.Frames.{IsSound}
 use Rattle.ng_base.specs.Faults.{is_memory}
 use Rattle.ng_base.specs.Views.{ViewTree}
 use Rattle.ng_base.specs.declared.fault.Fault.{Fault}

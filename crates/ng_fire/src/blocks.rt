@@ -1,7 +1,7 @@
 //! The fire of a site that fills outlets (API: ngIf, ngSwitch): bodies go, and bodies are made.
 ghost use Rattle.std.specs.Prelude.{[], ◌∷◌, ◌≡◌, ◌&&◌, ◌<◌, ◌≤◌, length, map, None, Some, IsSome, IfSome, IfOk, OnOk};
-ghost use Rattle.ng_act.specs.Frames as cores;
-ghost use Rattle.ng_act.specs.Frames.{IsSound};
+ghost use Rattle.ng_core.specs.Frames as cores;
+ghost use Rattle.ng_core.specs.Frames.{IsSound};
 ghost use Rattle.ng_behaviour.specs.Scopes.{path_at};
 ghost use Rattle.std.specs.List.{AllByRecursion, list_any};
 ghost use Rattle.ng_blocks.specs.Switching.{matches};
@@ -28,13 +28,13 @@ ghost use Rattle.ng_value.specs.Snaps.{snap_of};
 use crate::changing::apply_changes;
 use crate::following::Followed;
 use crate::linking::{Built, link_at};
-use ng_act::burying::bury;
-use ng_act::core_state::Core;
 use ng_act::running::destroy;
 use ng_base::fault::{Fault, Memory};
 use ng_base::name::{ScopeId, TplId};
 use ng_base::path::Path;
 use ng_base::txt::Txt;
+use ng_core::burying::bury;
+use ng_core::core_state::Core;
 use ng_drawing::cases::{has_text, kept_as_text};
 use ng_link::filling::Due;
 use ng_link::linking::Place;

@@ -1,19 +1,19 @@
 //! What programs have left for the watchers to become is done.
 ghost use Rattle.std.specs.Prelude.{◌≡◌, ◌<◌, length, map, IfOk, OnOk};
 ghost use Rattle.std.specs.List.{AllByRecursion};
-ghost use Rattle.ng_act.specs.Frames.{change_of, declared_of, ChangeStands};
+ghost use Rattle.ng_core.specs.Frames.{change_of, declared_of, ChangeStands};
 ghost use Rattle.ng_behaviour.specs.Scopes.{path_at};
 ghost use Rattle.ng_fire.specs.Changes.{kind_of, applied, applied_all, changed, without_changes, has_additions};
 ghost use Rattle.ng_fire.specs.Whole.{IsWhole};
-ghost use Rattle.ng_act.specs.State.{adds};
+ghost use Rattle.ng_core.specs.State.{adds};
 ghost use Rattle.ng_link.specs.Shape.{key_on};
 ghost use Rattle.ng_link.specs.State.{state_of, templates_of};
 
-use ng_act::core_state::Core;
-use ng_act::pending::{DeclaredWatch, WatchChange};
 use ng_base::fault::Memory;
 use ng_base::name::{ScopeId, Serial};
 use ng_base::path::Key;
+use ng_core::core_state::Core;
+use ng_core::pending::{DeclaredWatch, WatchChange};
 use ng_language::snapshots::SnapKind;
 use ng_link::works::{Listener, Works};
 use ng_watch::watch::{Watch, WatchKind};

@@ -1,16 +1,16 @@
 //! What comes after a program that ran: its fault is handed over, and what it left for the watchers is done.
 ghost use Rattle.std.specs.Prelude.{◌≡◌, IfOk, OnOk, is_err};
-ghost use Rattle.ng_act.specs.Frames as cores;
-ghost use Rattle.ng_act.specs.Frames.{Acts};
+ghost use Rattle.ng_core.specs.Frames as cores;
+ghost use Rattle.ng_core.specs.Frames.{Acts};
 ghost use Rattle.ng_act.specs.Running.{same};
-ghost use Rattle.ng_act.specs.State.{Run};
+ghost use Rattle.ng_core.specs.State.{Run};
 ghost use Rattle.ng_base.specs.declared.value.Value.{Value as Given};
 ghost use Rattle.ng_fire.specs.Changes.{changed, has_additions};
 ghost use Rattle.ng_fire.specs.Runs.{followed};
 ghost use Rattle.ng_fire.specs.Whole.{IsWhole, Unless};
 ghost use Rattle.ng_link.specs.Calls.{with_core};
 ghost use Rattle.ng_link.specs.State.{state_of, templates_of};
-ghost use Rattle.ng_act.specs.State.{with_fault};
+ghost use Rattle.ng_core.specs.State.{with_fault};
 
 use crate::changing::apply_changes;
 use ng_base::fault::{Fault, Memory};

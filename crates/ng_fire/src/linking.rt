@@ -1,6 +1,6 @@
 //! A fragment is linked: its steps are done in link order, and then it stands.
 ghost use Rattle.std.specs.Prelude.{◌≡◌, ◌<◌, ◌-◌, length, map, is_ok, Ok, Some, true, IfErr, IfOk, IsSome, OnOk};
-ghost use Rattle.ng_act.specs.State.{with_serial};
+ghost use Rattle.ng_core.specs.State.{with_serial};
 ghost use Rattle.ng_base.specs.Faults.{is_memory};
 ghost use Rattle.ng_behaviour.specs.Scopes.{path_at};
 ghost use Rattle.ng_drawing.specs.Nodes.{node_limit};

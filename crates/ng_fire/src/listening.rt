@@ -1,6 +1,6 @@
 //! The program of a declared watch is run.
 ghost use Rattle.std.specs.Prelude.{◌≡◌, ◌<◌, ◌≤◌, ℕ, length, option_map, IfOk};
-ghost use Rattle.ng_act.specs.Frames.{state_of, IsSound, Acts};
+ghost use Rattle.ng_core.specs.Frames.{state_of, IsSound, Acts};
 ghost use Rattle.ng_act.specs.Running.{as_value_run, same};
 ghost use Rattle.ng_base.specs.ViewOf.{view_of};
 ghost use Rattle.ng_fire.specs.Fires.{former_value, listener_locals, listener_run};
@@ -11,15 +11,15 @@ ghost use Rattle.ng_value.specs.Snaps.{snap_of};
 ghost use Rattle.ng_members.specs.Leaves.{LocalsStand};
 
 use crate::tasks::run_first;
-use ng_act::binding::value_in;
-use ng_act::core_state::Core;
-use ng_act::keeping::keep;
 use ng_act::running::act_body;
 use ng_base::fault::Fault;
 use ng_base::locals::Locals;
 use ng_base::txt::Txt;
 use ng_base::value::Value;
 use ng_base::view::View;
+use ng_core::binding::value_in;
+use ng_core::core_state::Core;
+use ng_core::keeping::keep;
 use ng_link::works::Listener;
 use ng_value::copies::copied;
 use ng_value::snapshot::Snap;

@@ -1,17 +1,17 @@
 //! A program that a command, or `ng-init`, runs on a scope.
 ghost use Rattle.std.specs.Prelude.{◌≡◌, ◌<◌, ◌≤◌, length};
-ghost use Rattle.ng_act.specs.Frames as cores;
-ghost use Rattle.ng_act.specs.Frames.{IsSound, Acts};
+ghost use Rattle.ng_core.specs.Frames as cores;
+ghost use Rattle.ng_core.specs.Frames.{IsSound, Acts};
 ghost use Rattle.ng_act.specs.Running.{same};
 ghost use Rattle.ng_fire.specs.Runs.{program_run};
 ghost use Rattle.ng_parse.specs.ProgramOf.{program};
 
-use ng_act::core_state::Core;
 use ng_act::running::act;
 use ng_base::fault::Fault;
 use ng_base::locals::Locals;
 use ng_base::name::ScopeId;
 use ng_base::value::Value;
+use ng_core::core_state::Core;
 use ng_parse::Program;
 use std::alloc::Global;
 

@@ -1,7 +1,7 @@
 //! What comes once the rounds are over.
 ghost use Rattle.std.specs.Prelude.{◌≡◌, ◌<◌, ◌&&◌, ◌++◌, ◌∷◌, [], length, map, true, IfOk, OnOk};
-ghost use Rattle.ng_act.specs.Frames as cores;
-ghost use Rattle.ng_act.specs.Frames.{IsSound};
+ghost use Rattle.ng_core.specs.Frames as cores;
+ghost use Rattle.ng_core.specs.Frames.{IsSound};
 ghost use Rattle.ng_base.specs.Faults.{is_memory};
 ghost use Rattle.ng_base.specs.Meets.{Meets};
 ghost use Rattle.ng_base.specs.declared.fault.Fault.{Fault as AFault};
@@ -13,13 +13,13 @@ ghost use Rattle.ng_link.specs.State.{state_of, templates_of};
 ghost use Rattle.ng_parse.specs.ProgramOf.{program as trees_of};
 ghost use Rattle.std.specs.Prelude.{Err};
 
-use ng_act::core_state::Core;
 use ng_base::fault::{Fault, Memory};
 use ng_base::lists::Words;
 use ng_base::locals::Locals;
 use ng_base::name::{Oid, ScopeId};
 use ng_base::path::Key;
 use ng_base::txt::Txt;
+use ng_core::core_state::Core;
 use ng_link::works::Works;
 use ng_parse::Program;
 use ng_store::store::Store;

@@ -1,8 +1,8 @@
 //! Programs that run while no other is open, and the tasks among them.
 ghost use Rattle.std.specs.Prelude.{◌≡◌, ◌<◌, ◌≤◌, ◌∷◌, [], length, IfOk, OnOk, IfSome, IfNone};
-ghost use Rattle.ng_act.specs.Actions.{a_body};
-ghost use Rattle.ng_act.specs.Frames as cores;
-ghost use Rattle.ng_act.specs.Frames.{IsSound, Acts, task_of};
+ghost use Rattle.ng_act.specs.Asked.{a_body};
+ghost use Rattle.ng_core.specs.Frames as cores;
+ghost use Rattle.ng_core.specs.Frames.{IsSound, Acts, task_of};
 ghost use Rattle.ng_act.specs.Running.{as_value_run, same};
 ghost use Rattle.ng_fire.specs.Runs.{any_waits, asked_first, followed, ran, without_task};
 ghost use Rattle.ng_fire.specs.Whole.{IsWhole};
@@ -12,13 +12,13 @@ ghost use Rattle.ng_parse.specs.ProgramOf.{program};
 ghost use Rattle.ng_members.specs.Leaves.{LocalsStand};
 
 use crate::following::{Followed, follow};
-use ng_act::core_state::Core;
-use ng_act::pending::Task;
 use ng_act::running::act_body;
 use ng_base::fault::{Fault, Memory};
 use ng_base::locals::Locals;
 use ng_base::name::ScopeId;
 use ng_base::value::Value;
+use ng_core::core_state::Core;
+use ng_core::pending::Task;
 use ng_link::works::Works;
 use ng_parse::Program;
 use std::alloc::Global;

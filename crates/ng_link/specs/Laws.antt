@@ -2,7 +2,7 @@
 use Rattle.std.specs.Prelude.{ℕ, ◌≡◌, ◌≤◌, List, Option, Some, length, slice_get}
 use Rattle.std.specs.List.Sorted.{IsStrictlySortedBy}
 use Rattle.std.specs.Map.{keys_of as map_keys}
-use Rattle.ng_act.specs.declared.core_state.Core.{Core}
+use Rattle.ng_core.specs.declared.core_state.Core.{Core}
 use Rattle.ng_base.specs.Order.{path_cmp}
 use Rattle.ng_base.specs.Views.{ViewTree}
 use Rattle.ng_base.specs.declared.path.Key.{Key}

@@ -1,6 +1,6 @@
 -- The core before a digest.
 use Rattle.std.specs.Prelude.{None}
-use Rattle.ng_act.specs.State.{State}
+use Rattle.ng_core.specs.State.{State}
 
 -- no fault was handed over yet
 abbrev pub untroubled : State → State

@@ -1,8 +1,8 @@
 //! The works of a page: the core, the templates, what stands of them, and the watchers.
 ghost use Rattle.std.specs.Prelude.{◌≡◌, None, option_map};
 ghost use Rattle.std.specs.Map.{lookup};
-ghost use Rattle.ng_act.specs.Frames.{state_of as core_state, held, IsSound};
-ghost use Rattle.ng_act.specs.State.{with_fault};
+ghost use Rattle.ng_core.specs.Frames.{state_of as core_state, held, IsSound};
+ghost use Rattle.ng_core.specs.State.{with_fault};
 ghost use Rattle.ng_watch.specs.Keys.{is_key};
 ghost use Rattle.ng_link.specs.Calls.{blank, with_core};
 ghost use Rattle.ng_link.specs.Instances.{is_site};
@@ -13,10 +13,10 @@ ghost use Rattle.ng_dom.specs.Drawing.{Stands, none_stand};
 ghost use Rattle.ng_template.specs.Kept.{templates_of as kept_templates};
 
 use crate::placing::is_site;
-use ng_act::core_state::{Core, Handed};
 use ng_base::fault::Fault;
 use ng_base::name::{ScopeId, TplId};
 use ng_base::path::{Key, Path};
+use ng_core::core_state::{Core, Handed};
 use ng_dom::dom::Dom;
 use ng_parse::Program;
 use ng_template::acts::Handler;

@@ -5,10 +5,10 @@ use Rattle.std.specs.Prelude.{is_some}
 use Rattle.ng_base.specs.declared.fault.Fault.{Fault}
 use Rattle.ng_base.specs.Objects.{Object}
 use Rattle.ng_behaviour.specs.Scopes.{Scope}
-use Rattle.ng_act.specs.Actions.{buried}
-use Rattle.ng_act.specs.State.{State, handed_over}
-use Rattle.ng_act.specs.declared.core_state.Handed.{Handed}
-use Rattle.ng_act.proofs.Buried.{buried_scopes, buried_objects, buried_serial, buried_handed}
+use Rattle.ng_core.specs.Burying.{buried}
+use Rattle.ng_core.specs.State.{State, handed_over}
+use Rattle.ng_core.specs.declared.core_state.Handed.{Handed}
+use Rattle.ng_core.proofs.Buried.{buried_scopes, buried_objects, buried_serial, buried_handed}
 use Rattle.ng_act.proofs.Programs.{some_first}
 use Rattle.ng_page.proofs.ScopesStay.{ScopesStay, scopes_refl, scopes_trans, scopes_die}
 

@@ -1,10 +1,10 @@
 -- What a fire leaves of the core, and that the fault of a fire was handed over.
 use Rattle.std.proofs.Common.{◌≡◌, ◌≤◌, ◌+◌, ◌-◌, ℕ, Bool, true, false, List, [], ◌∷◌, ◌++◌, length, length-append, cond, Option, Some, Result, Ok, Err, refl, arith}
 use Rattle.std.specs.Prelude.{◌&&◌, not, is_some, nat_lt, pos}
-use Rattle.ng_act.specs.Actions.{buried}
-use Rattle.ng_act.specs.State as act
-use Rattle.ng_act.specs.State.{Run, with_fault, with_objects, with_scopes, with_serial}
-use Rattle.ng_act.proofs.Grows.{named-grows}
+use Rattle.ng_core.specs.Burying.{buried}
+use Rattle.ng_core.specs.State as act
+use Rattle.ng_core.specs.State.{Run, with_fault, with_objects, with_scopes, with_serial}
+use Rattle.ng_core.proofs.Grows.{named-grows}
 use Rattle.ng_base.specs.Objects.{Object}
 use Rattle.ng_base.specs.Views.{ViewTree}
 use Rattle.ng_base.specs.declared.fault.Fault.{Fault}

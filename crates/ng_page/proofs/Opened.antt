@@ -4,7 +4,7 @@ use Rattle.std.specs.Prelude.{option_map, option_and_then, is_ok, nat_lt, IsSome
 use Rattle.std.specs.List.{AllByRecursion}
 use Rattle.std.specs.List.Sorted.{IsStrictlySortedBy}
 use Rattle.std.specs.Map.{keys_of}
-use Rattle.ng_act.specs.State as act
+use Rattle.ng_core.specs.State as act
 use Rattle.ng_base.specs.Order.{path_cmp}
 use Rattle.ng_base.specs.declared.fault.Fault.{Fault}
 use Rattle.ng_base.specs.declared.fault.Fault.TheVariants.{NodeLimit}

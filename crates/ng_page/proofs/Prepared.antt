@@ -1,7 +1,7 @@
 -- How a page is opened, step by step.
 use Rattle.std.proofs.Common.{◌≡◌, ◌<◌, ℕ, OnOk, List, [], ◌∷◌, length, None, Result, Ok, Err, ap, sym, subst, ◌∙◌}
-use Rattle.ng_act.specs.Frames.{IsSound}
-use Rattle.ng_act.specs.State as act
+use Rattle.ng_core.specs.Frames.{IsSound}
+use Rattle.ng_core.specs.State as act
 use Rattle.ng_app.specs.App.{Facts}
 use Rattle.ng_app.specs.Installing.{installed}
 use Rattle.ng_base.specs.declared.fault.Fault.{Fault}

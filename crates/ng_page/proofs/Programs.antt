@@ -2,10 +2,13 @@
 use Rattle.std.proofs.Common.{◌≡◌, ◌-◌, ℕ, List, [], ◌∷◌, map, Result, Ok, Err, ap, sym, subst}
 use Rattle.std.specs.Prelude.{codes}
 use Rattle.serde_json.specs.Data.{Data}
-use Rattle.ng_act.specs.Actions.{Asked, does, destroys, object_value}
-use Rattle.ng_act.specs.Frames.{Acts}
+use Rattle.ng_core.specs.Events.{object_value}
+use Rattle.ng_act.specs.Asked.{Asked}
+use Rattle.ng_act.specs.Calls.{destroys}
+use Rattle.ng_act.specs.Actions.{does}
+use Rattle.ng_core.specs.Frames.{Acts}
 use Rattle.ng_act.specs.Running.{act_run, as_value_run, same}
-use Rattle.ng_act.specs.State.{State, Run, ◌>>=◌, with_locals}
+use Rattle.ng_core.specs.State.{State, Run, ◌>>=◌, with_locals}
 use Rattle.ng_base.specs.Views.{ViewTree, prim}
 use Rattle.ng_base.specs.declared.fault.Fault.{Fault}
 use Rattle.ng_base.specs.declared.value.Value.{Value}

@@ -5,9 +5,13 @@ use Rattle.ng_base.specs.declared.fault.Fault.{Fault}
 use Rattle.ng_behaviour.specs.Scopes.{Scope, path_at}
 use Rattle.ng_behaviour.proofs.Dying.{dead-length}
 use Rattle.ng_language.specs.Trees.{Trees}
-use Rattle.ng_act.specs.Actions.{Asked, destroys, does, statements, stores}
-use Rattle.ng_act.specs.State.{State, Run, ◌>>=◌}
-use Rattle.ng_act.proofs.Buried.{buried_scopes}
+use Rattle.ng_core.specs.Keeping.{stores}
+use Rattle.ng_act.specs.Asked.{Asked}
+use Rattle.ng_act.specs.Calls.{destroys}
+use Rattle.ng_act.specs.Expressions.{statements}
+use Rattle.ng_act.specs.Actions.{does}
+use Rattle.ng_core.specs.State.{State, Run, ◌>>=◌}
+use Rattle.ng_core.proofs.Buried.{buried_scopes}
 use Rattle.ng_act.proofs.Programs.{Steps, does-kept, statements-kept, destroys-kept, stores-kept}
 use Rattle.ng_page.proofs.EventsStay.{Part, part, Stays, stays_refl, stays_trans, buried_stay}
 use Rattle.ng_page.proofs.ScopesStay.{scopes_refl}

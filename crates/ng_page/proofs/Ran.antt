@@ -1,10 +1,10 @@
 -- What holds of a page after a program ran on its core.
 use Rattle.std.proofs.Common.{◌≡◌, ◌≤◌, ◌<◌, [], length, Result, Ok, Err, ap, sym, subst}
-use Rattle.ng_act.specs.Frames as cores
-use Rattle.ng_act.specs.Frames.{IsSound, Acts}
+use Rattle.ng_core.specs.Frames as cores
+use Rattle.ng_core.specs.Frames.{IsSound, Acts}
 use Rattle.ng_act.specs.Running.{same}
-use Rattle.ng_act.specs.State.{State, Run}
-use Rattle.ng_act.specs.declared.core_state.Core.{Core}
+use Rattle.ng_core.specs.State.{State, Run}
+use Rattle.ng_core.specs.declared.core_state.Core.{Core}
 use Rattle.ng_base.specs.declared.fault.Fault.{Fault}
 use Rattle.ng_base.specs.declared.value.Value.{Value}
 use Rattle.ng_fire.specs.Whole.{IsWhole, Unless}

@@ -4,7 +4,7 @@ use Rattle.std.specs.BTreeMap.{insert_entry}
 use Rattle.std.specs.List.{filter}
 use Rattle.std.specs.List.Sorted.{IsStrictlySortedBy}
 use Rattle.std.specs.Map.{keys_of, remove_entry}
-use Rattle.ng_act.specs.State as act
+use Rattle.ng_core.specs.State as act
 use Rattle.ng_base.specs.declared.path.Key.{Key}
 use Rattle.ng_link.specs.Calls.{with_core, declared_at, undeclared_at, left_at, ended_at}
 use Rattle.ng_link.specs.Instances.{Instances, is_site}

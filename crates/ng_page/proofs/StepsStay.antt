@@ -2,10 +2,13 @@
 use Rattle.std.proofs.Common.{◌≡◌, ◌≤◌, ℕ, true, sym, subst, List, [], ◌∷◌, length, map, length-append, arith, Option, Some, None, Result, Ok, Err}
 use Rattle.std.specs.Prelude.{is_some, is_err}
 use Rattle.serde_json.specs.Data.{Data}
-use Rattle.ng_act.specs.Actions.{Asked, a_body, an_emit, a_broadcast, does, programmed, stores, nothing}
+use Rattle.ng_core.specs.Keeping.{stores, nothing}
+use Rattle.ng_act.specs.Asked.{Asked, a_body, an_emit, a_broadcast}
+use Rattle.ng_act.specs.Expressions.{programmed}
+use Rattle.ng_act.specs.Actions.{does}
 use Rattle.ng_act.specs.Running.{as_value_run}
-use Rattle.ng_act.specs.State as act
-use Rattle.ng_act.specs.State.{Change, adds, removes, leaves, Run, Task, ◌>>=◌, handed, with_locals}
+use Rattle.ng_core.specs.State as act
+use Rattle.ng_core.specs.State.{Change, adds, removes, leaves, Run, Task, ◌>>=◌, handed, with_locals}
 use Rattle.ng_base.specs.Objects.{Object}
 use Rattle.ng_base.specs.Views.{ViewTree, prim}
 use Rattle.ng_base.specs.declared.fault.Fault.{Fault}

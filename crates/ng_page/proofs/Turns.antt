@@ -3,13 +3,16 @@ use Rattle.std.proofs.Common.{◌≡◌, ◌≤◌, ◌<◌, ◌∙◌, ℕ, Boo
 use Rattle.std.specs.Prelude.{codes, is_err, option_map}
 use Rattle.std.specs.Str.{chars}
 use Rattle.serde_json.specs.Data.{Data, Members, no_members, member}
-use Rattle.ng_act.proofs.Grows.{named-grows}
-use Rattle.ng_act.specs.Actions.{does, programmed, nothing, object_value}
-use Rattle.ng_act.specs.Beginning.{members_in}
-use Rattle.ng_act.specs.Frames.{Acts}
+use Rattle.ng_core.proofs.Grows.{named-grows}
+use Rattle.ng_core.specs.Keeping.{nothing}
+use Rattle.ng_core.specs.Events.{object_value}
+use Rattle.ng_act.specs.Expressions.{programmed}
+use Rattle.ng_act.specs.Actions.{does}
+use Rattle.ng_core.specs.Beginning.{members_in}
+use Rattle.ng_core.specs.Frames.{Acts}
 use Rattle.ng_act.specs.Running.{same}
-use Rattle.ng_act.specs.State as act
-use Rattle.ng_act.specs.State.{Run, handed, with_locals}
+use Rattle.ng_core.specs.State as act
+use Rattle.ng_core.specs.State.{Run, handed, with_locals}
 use Rattle.ng_base.specs.Faults.{is_memory}
 use Rattle.ng_base.specs.Objects.{Object}
 use Rattle.ng_base.specs.declared.fault.Fault.{Fault}

@@ -1,12 +1,12 @@
 -- What holds of works stays where no program ran: where faults are handed over or forgotten, and where a task or a probe is added.
 use Rattle.std.proofs.Common.{◌≡◌, ◌<◌, ℕ, List, [], ◌∷◌, ◌++◌, map, length, None, refl, ap, sym, subst, ◌∙◌, arith}
 use Rattle.std.specs.List.{AllByRecursion}
-use Rattle.ng_act.specs.Frames as cores
-use Rattle.ng_act.specs.Frames.{IsSound, TaskStands, task_of}
-use Rattle.ng_act.specs.declared.core_state.Core.{Core}
-use Rattle.ng_act.specs.declared.core_state.Handed.{Handed}
-use Rattle.ng_act.specs.declared.pending.Task.{Task}
-use Rattle.ng_act.specs.State as act
+use Rattle.ng_core.specs.Frames as cores
+use Rattle.ng_core.specs.Frames.{IsSound, TaskStands, task_of}
+use Rattle.ng_core.specs.declared.core_state.Core.{Core}
+use Rattle.ng_core.specs.declared.core_state.Handed.{Handed}
+use Rattle.ng_core.specs.declared.pending.Task.{Task}
+use Rattle.ng_core.specs.State as act
 use Rattle.ng_base.specs.Objects.{Object}
 use Rattle.ng_behaviour.specs.Scopes.{Scope}
 use Rattle.ng_dom.specs.Document.{Shows}

@@ -1,10 +1,10 @@
 -- What a command does to a page before its digest (guide: Scopes, "Integration with the browser event loop"; API: `$apply`).
 use Rattle.std.specs.Prelude.{ℕ, ◌||◌, not, Bool, List, [], ◌∷◌, ◌++◌, map, None, Result, Ok, Err}
 use Rattle.serde_json.specs.Data.{Data}
-use Rattle.ng_act.specs.Actions.{an_emit, a_broadcast}
+use Rattle.ng_act.specs.Asked.{an_emit, a_broadcast}
 use Rattle.ng_act.specs.Running.{as_value_run}
-use Rattle.ng_act.specs.State as act
-use Rattle.ng_act.specs.State.{Run, ◌>>=◌, with_task, with_objects}
+use Rattle.ng_core.specs.State as act
+use Rattle.ng_core.specs.State.{Run, ◌>>=◌, with_task, with_objects}
 use Rattle.ng_base.specs.Objects.{Object}
 use Rattle.ng_base.specs.Views.{prim}
 use Rattle.ng_base.specs.declared.fault.Fault.{Fault}

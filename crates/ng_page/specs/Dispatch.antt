@@ -5,10 +5,10 @@ use Rattle.std.specs.List.{list_any}
 use Rattle.std.specs.Option.{option_or}
 use Rattle.std.specs.Str.{bytes_eq}
 use Rattle.serde_json.specs.Data.{Data}
-use Rattle.ng_act.specs.Actions.{object_value}
+use Rattle.ng_core.specs.Events.{object_value}
 use Rattle.ng_act.specs.Running.{act_run}
-use Rattle.ng_act.specs.State as act
-use Rattle.ng_act.specs.State.{Run, ◌>>=◌}
+use Rattle.ng_core.specs.State as act
+use Rattle.ng_core.specs.State.{Run, ◌>>=◌}
 use Rattle.ng_base.specs.declared.fault.Fault.{Fault}
 use Rattle.ng_base.specs.declared.value.Value.{Value}
 use Rattle.ng_behaviour.specs.Scopes.{live_at}

@@ -3,9 +3,9 @@
 use Rattle.std.specs.Prelude.{ℕ, ◌+◌, Bool, false, List, [], ◌∷◌, ◌++◌, length, Option, None, Some, Result, Ok, Err, codes, nat_lt, unwrap_or, option_map, if◌then◌else◌}
 use Rattle.std.specs.Str.{chars}
 use Rattle.serde_json.specs.Data.{Data, Members, no_members, member}
-use Rattle.ng_act.specs.Beginning.{members_in}
-use Rattle.ng_act.specs.State as act
-use Rattle.ng_act.specs.State.{Run, with_objects}
+use Rattle.ng_core.specs.Beginning.{members_in}
+use Rattle.ng_core.specs.State as act
+use Rattle.ng_core.specs.State.{Run, with_objects}
 use Rattle.ng_base.specs.Objects.{Object}
 use Rattle.ng_base.specs.Views.{prim}
 use Rattle.ng_base.specs.declared.fault.Fault.{Fault}

@@ -3,8 +3,10 @@ use Rattle.std.specs.Prelude.{ℕ, ◌+◌, ◌≡◌, ◌≤◌, ◌<◌, List,
 use Rattle.std.specs.List.{AllByRecursion}
 use Rattle.std.specs.List.Sorted.{IsStrictlySortedBy}
 use Rattle.std.specs.Ordering.{nat_cmp}
-use Rattle.ng_act.specs.Actions.{Asked as Opened, does, watches}
-use Rattle.ng_act.specs.State as act
+use Rattle.ng_core.specs.ScopeCalls.{watches}
+use Rattle.ng_act.specs.Asked.{Asked as Opened}
+use Rattle.ng_act.specs.Actions.{does}
+use Rattle.ng_core.specs.State as act
 use Rattle.ng_drawing.specs.Drawing.{shown_as}
 use Rattle.ng_fire.specs.Links.{Linking, begins_linking, steps_linked}
 use Rattle.ng_language.specs.Trees.{Trees}

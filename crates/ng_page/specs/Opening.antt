@@ -1,7 +1,7 @@
 -- How a page is opened: what the application installs and registers, its first program, and its template, which is linked on
 -- the root scope (guide: HTML Compiler; Scopes, "Integration with the browser event loop").
 use Rattle.std.specs.Prelude.{[], ◌∷◌, None, Result, Ok, Err}
-use Rattle.ng_act.specs.State as act
+use Rattle.ng_core.specs.State as act
 use Rattle.ng_app.specs.App.{Facts}
 use Rattle.ng_app.specs.Installing.{installed}
 use Rattle.ng_base.specs.declared.fault.Fault.{Fault}

@@ -3,8 +3,8 @@ use Rattle.std.specs.Prelude.{ℕ, Bool, false, List, [], Option, Some, None, Re
 use Rattle.std.specs.BTreeSet.{insert_key}
 use Rattle.std.specs.List.{list_any}
 use Rattle.std.specs.Map.{keys_of}
-use Rattle.ng_act.specs.State as act
-use Rattle.ng_act.specs.declared.core_state.Handed.{Handed}
+use Rattle.ng_core.specs.State as act
+use Rattle.ng_core.specs.declared.core_state.Handed.{Handed}
 use Rattle.ng_base.specs.Views.{ViewTree}
 use Rattle.ng_base.specs.declared.fault.Fault.{Fault}
 use Rattle.ng_base.specs.declared.path.Key.{Key}

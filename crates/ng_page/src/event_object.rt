@@ -2,22 +2,22 @@
 ghost use Rattle.std.specs.Prelude.{◌≡◌, ◌<◌, ◌≤◌, ◌+◌, length, IfOk, OnOk};
 ghost use Rattle.serde_json.specs.Data.{member, no_members};
 ghost use Rattle.serde_json.specs.View.{view, members_view};
-ghost use Rattle.ng_act.specs.Frames as cores;
-ghost use Rattle.ng_act.specs.Frames.{IsSound, Acts};
-ghost use Rattle.ng_act.specs.Beginning.{members_in};
+ghost use Rattle.ng_core.specs.Frames as cores;
+ghost use Rattle.ng_core.specs.Frames.{IsSound, Acts};
+ghost use Rattle.ng_core.specs.Beginning.{members_in};
 ghost use Rattle.ng_base.specs.Views.{prim};
 ghost use Rattle.ng_language.specs.Operators.{truthy};
 ghost use Rattle.ng_page.specs.EventObject.{extra_set, typed_event, event_objects, event_refusal, event_run, is_set, is_cancelled};
 ghost use Rattle.ng_page.specs.EventSeen.{number};
 
 use crate::counting::{count, is_whole};
-use ng_act::core_state::Core;
 use ng_base::fault::{Fault, Memory};
 use ng_base::heap::ObjKind;
 use ng_base::name::Oid;
 use ng_base::txt::Txt;
 use ng_base::value::Value;
 use ng_base::view::View;
+use ng_core::core_state::Core;
 use ng_store::json::JsonFault;
 use ng_store::store::{Store, StoreFault};
 use ng_value::operators::truthy;

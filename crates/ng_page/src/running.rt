@@ -2,8 +2,8 @@
 ghost use Rattle.std.specs.Prelude.{◌≡◌, ◌<◌, ◌≤◌, length, true, IfOk, OnOk};
 ghost use Rattle.std.specs.List.{AllByRecursion};
 ghost use Rattle.serde_json.specs.View.{view};
-ghost use Rattle.ng_act.specs.Frames as cores;
-ghost use Rattle.ng_act.specs.Frames.{IsSound, Acts};
+ghost use Rattle.ng_core.specs.Frames as cores;
+ghost use Rattle.ng_core.specs.Frames.{IsSound, Acts};
 ghost use Rattle.ng_act.specs.Running.{same};
 ghost use Rattle.ng_base.specs.Objects.{StandsAmong};
 ghost use Rattle.ng_language.specs.Objects.{items_at};
@@ -14,8 +14,6 @@ ghost use Rattle.ng_view.specs.Purity.{are_pure, all_filters_known};
 ghost use Rattle.ng_page.specs.Commands.{begun, json_fault as json_fault_of, items_in, json_run, emit_run, broadcast_run, asked_run, applies, queues, probes, destroys_scope, emits, broadcasts};
 ghost use Rattle.ng_page.specs.PlaceOf.{PageIs};
 
-use ng_act::core_state::{Core, Handed};
-use ng_act::pending::Task;
 use ng_act::running::{broadcast, destroy, emit};
 use ng_base::fault::{Fault, Memory};
 use ng_base::heap::Heap;
@@ -23,6 +21,8 @@ use ng_base::lists::Values;
 use ng_base::name::{Oid, ScopeId};
 use ng_base::txt::Txt;
 use ng_base::value::Value;
+use ng_core::core_state::{Core, Handed};
+use ng_core::pending::Task;
 use ng_fire::changing::apply_changes;
 use ng_fire::following::follow;
 use ng_fire::programs::run_program;

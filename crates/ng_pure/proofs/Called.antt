@@ -11,8 +11,8 @@ use Rattle.ng_behaviour.specs.Scopes.{Scope, of_object}
 use Rattle.ng_members.specs.Names.{is_pure_method}
 use Rattle.ng_write.specs.Changing.{change_named}
 use Rattle.ng_write.specs.Events.{event_call_named}
-use Rattle.ng_act.specs.Calling.{called_on, plainly_called, scope_called, kind_called, of_method, event_or, change_or, scope_method}
-use Rattle.ng_act.specs.declared.called.Called.{Called}
+use Rattle.ng_core.specs.Calling.{called_on, plainly_called, scope_called, kind_called, of_method, event_or, change_or, scope_method}
+use Rattle.ng_core.specs.declared.called.Called.{Called}
 
 record IsPlainly (name : List ℕ) : Type 0 where
   scope : scope_method name ≡ None

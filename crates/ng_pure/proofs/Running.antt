@@ -7,8 +7,8 @@ use Rattle.ng_base.specs.Views.{ViewTree, prim}
 use Rattle.ng_base.specs.declared.value.Value.{Value}
 use Rattle.ng_base.specs.declared.fault.Fault.{Fault}
 use Rattle.ng_base.specs.declared.fault.Fault.TheVariants.{ImpureCall}
-use Rattle.ng_act.specs.Actions.{stores, stores_result}
-use Rattle.ng_act.specs.State.{State, Run, ◌>>=◌, with_objects}
+use Rattle.ng_core.specs.Keeping.{stores, stores_result}
+use Rattle.ng_core.specs.State.{State, Run, ◌>>=◌, with_objects}
 use Rattle.ng_write.specs.Reading.{Extends}
 use Rattle.ng_write.specs.Storing.{stored}
 use Rattle.ng_write.proofs.Extending.{extends_self, extends_on}

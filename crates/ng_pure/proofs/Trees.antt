@@ -29,11 +29,14 @@ use Rattle.ng_members.specs.Methods.{method_value}
 use Rattle.ng_members.specs.Names.{is_pure_method}
 use Rattle.ng_view.specs.Purity.{IsPure, ArePure, IsPurePair, ArePurePairs, count_of, IsKnown, FiltersKnown, IsPairKnown, ArePairsKnown}
 use Rattle.ng_members.specs.declared.methods.Method.{Method}
-use Rattle.ng_act.specs.Actions.{Doing, acted, acted_all, acted_pair, acted_pairs, statements, runs, stores, stores_result, filter_result, nothing}
-use Rattle.ng_act.specs.Calling.{called_on as run_called_on, method_or, value_called, is_nothing as runs_nothing}
-use Rattle.ng_act.specs.State.{State, Run, ◌>>=◌, with_objects, given}
-use Rattle.ng_act.specs.declared.called.Called.{Called}
-use Rattle.ng_act.specs.declared.called.Called.TheVariants as calls
+use Rattle.ng_core.specs.Keeping.{stores, stores_result, filter_result, nothing}
+use Rattle.ng_act.specs.Asked.{Doing}
+use Rattle.ng_act.specs.Calls.{runs}
+use Rattle.ng_act.specs.Expressions.{acted, acted_all, acted_pair, acted_pairs, statements}
+use Rattle.ng_core.specs.Calling.{called_on as run_called_on, method_or, value_called, is_nothing as runs_nothing}
+use Rattle.ng_core.specs.State.{State, Run, ◌>>=◌, with_objects, given}
+use Rattle.ng_core.specs.declared.called.Called.{Called}
+use Rattle.ng_core.specs.declared.called.Called.TheVariants as calls
 use Rattle.ng_write.proofs.Extending.{extends_self}
 use Rattle.ng_pure.specs.Patterns.{HasShortLists, EachFilter, EachFilterOfAll, EachFilterOfPair, EachFilterOfPairs, HasShortPattern}
 use Rattle.ng_pure.proofs.Shown.{Grown, grown_on, Seen, AllSeen, FieldSeen, FieldsSeen, ResultBy, seen_on, all_on, fields_on, one_more, all_length}

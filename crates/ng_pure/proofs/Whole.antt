@@ -5,8 +5,10 @@ use Rattle.ng_base.specs.Objects.{Object}
 use Rattle.ng_base.specs.Views.{ViewTree, prim, list, rec}
 use Rattle.ng_base.specs.declared.fault.Fault.{Fault}
 use Rattle.ng_base.specs.declared.value.Value.{Value}
-use Rattle.ng_act.specs.Actions.{programmed, does, nothing}
-use Rattle.ng_act.specs.State.{State, Run, ◌>>=◌, with_objects, with_locals}
+use Rattle.ng_core.specs.Keeping.{nothing}
+use Rattle.ng_act.specs.Expressions.{programmed}
+use Rattle.ng_act.specs.Actions.{does}
+use Rattle.ng_core.specs.State.{State, Run, ◌>>=◌, with_objects, with_locals}
 use Rattle.ng_write.specs.Making.{value_in}
 use Rattle.ng_behaviour.specs.Scopes.{object_at}
 use Rattle.ng_view.specs.Evaluation.{evaluated_program}

@@ -13,7 +13,7 @@ use Rattle.ng_view.specs.Evaluation.{evaluated_program}
 use Rattle.ng_view.specs.Purity.{ArePure, FiltersKnown}
 use Rattle.ng_write.specs.Reading.{Extends}
 use Rattle.ng_act.specs.Running.{act_run}
-use Rattle.ng_act.specs.State.{State, Run, with_objects, with_locals}
+use Rattle.ng_core.specs.State.{State, Run, with_objects, with_locals}
 use Rattle.ng_pure.specs.Patterns.{HasShortPatterns}
 use Rattle.ng_pure.specs.Showing.{Shows}
 

@@ -1,9 +1,8 @@
 //! Actions through the calls of a core: a program that writes, an event that goes up, one that goes down while a listener
 //! destroys a scope, and the death of a scope.
 ghost use Rattle.std.specs.Prelude.{◌≡◌, ◌<◌, length, IfSome};
-ghost use Rattle.ng_act.specs.Frames.{IsSound};
+ghost use Rattle.ng_core.specs.Frames.{IsSound};
 
-use ng_act::core_state::Core;
 use ng_act::running::{act, broadcast, destroy, emit};
 use ng_base::fault::Fault;
 use ng_base::lists::Values;
@@ -11,6 +10,7 @@ use ng_base::locals::Locals;
 use ng_base::name::ScopeId;
 use ng_base::txt::Txt;
 use ng_base::value::Value;
+use ng_core::core_state::Core;
 use ng_lex::lex;
 use ng_parse::{Program, parse};
 use serde_json::Value as Json;

@@ -9,17 +9,20 @@ use Rattle.ng_language.specs.Trees.{Trees, trees_from, pairs_from}
 use Rattle.ng_parse.specs.ProgramOf.{program}
 use Rattle.ng_parse.specs.TreeOf.{tree, pair_tree}
 use Rattle.ng_write.proofs.More.{view_more}
-use Rattle.ng_act.specs.Actions.{acted, does, an_emit, a_broadcast, programmed, rises, sweeps}
-use Rattle.ng_act.specs.EventOf.{event_of}
-use Rattle.ng_act.specs.Frames.{Acts, state_of}
-use Rattle.ng_act.specs.PlaceOf.{place_of, TargetStands}
-use Rattle.ng_act.specs.State.{with_locals}
+use Rattle.ng_act.specs.Asked.{an_emit, a_broadcast}
+use Rattle.ng_act.specs.Expressions.{acted, programmed}
+use Rattle.ng_act.specs.Emitting.{rises, sweeps}
+use Rattle.ng_act.specs.Actions.{does}
+use Rattle.ng_core.specs.EventOf.{event_of}
+use Rattle.ng_core.specs.Frames.{Acts, state_of}
+use Rattle.ng_core.specs.PlaceOf.{place_of, TargetStands}
+use Rattle.ng_core.specs.State.{with_locals}
 use Rattle.ng_act.specs.Turns.{closed}
 use Rattle.ng_act.proofs.Parts.{all_and, all_ends, all_pushed, call_ends, fields_and, filter_ends, held_same, left_index_ends, left_item_ends, left_member_ends, left_name_ends, made_index_ends, made_item_acts, made_item_ends, made_member_acts, made_member_ends, made_name_ends, ok_then, pairs_end, pairs_put, place_more, bare_kept, entered_less, inside_kept, open_kept, walks_kept, target_more}
 use Rattle.ng_act.proofs.Others.{item_is, made_other, member_is, reached_other, whole_called}
 use Rattle.ng_act.proofs.Opened.{acts_as, body_acts, event_acts, heard_run}
 use Rattle.ng_act.proofs.Steps.{expr_low, pair_low, rise_step, rise_stop, sweep_step}
-use Rattle.ng_act.proofs.Targets.{target_stands, value_target_stands}
+use Rattle.ng_core.proofs.Targets.{target_stands, value_target_stands}
 use Rattle.ng_act.proofs.Turns.{ahead_falls, bare_ended, closed_begun, closed_ended, closed_gone, closed_same, open_same, turn_kept, walk_end}
 use Rattle.ng_act.proofs.+act.Goals as goal
 

@@ -9,9 +9,12 @@ use Rattle.ng_language.specs.Views.{ViewStands}
 use Rattle.ng_parse.specs.TreeOf.{tree, pair_tree}
 use Rattle.ng_members.specs.Leaves.{FieldsAllStand}
 use Rattle.ng_events.specs.Stands.{open_of, IsOpen}
-use Rattle.ng_act.specs.Actions.{acted_all, acted_pairs, statements, programmed, does, rises, sweeps, many}
-use Rattle.ng_act.specs.EventOf.{event_of}
-use Rattle.ng_act.specs.Frames.{state_of, held, IsSound}
+use Rattle.ng_core.specs.Burying.{many}
+use Rattle.ng_act.specs.Expressions.{acted_all, acted_pairs, statements, programmed}
+use Rattle.ng_act.specs.Emitting.{rises, sweeps}
+use Rattle.ng_act.specs.Actions.{does}
+use Rattle.ng_core.specs.EventOf.{event_of}
+use Rattle.ng_core.specs.Frames.{state_of, held, IsSound}
 use Rattle.ng_act.specs.Turns.{closed, walk_turns, ahead_of}
 use Rattle.ng_act.proofs.+act.Given as goal
 

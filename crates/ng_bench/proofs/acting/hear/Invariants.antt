@@ -1,5 +1,5 @@
 use Rattle.std.proofs.Common.{◌≡◌, length}
-use Rattle.ng_act.specs.Frames.{IsSound}
+use Rattle.ng_core.specs.Frames.{IsSound}
 use Rattle.ng_bench.proofs.acting.hear.Given as goal
 
 abbrev pub invariant-loop : goal.invariant-loop

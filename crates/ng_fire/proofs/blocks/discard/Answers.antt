@@ -1,6 +1,6 @@
 use Rattle.std.proofs.Common.{◌∙◌}
-use Rattle.ng_act.specs.Actions.{buried}
-use Rattle.ng_act.specs.Frames as cores
+use Rattle.ng_core.specs.Burying.{buried}
+use Rattle.ng_core.specs.Frames as cores
 use Rattle.ng_fire.proofs.Rising.{buried-rises}
 use Rattle.ng_fire.proofs.Wholes.{whole_left}
 use Rattle.ng_fire.proofs.blocks.discard.Goals as goal

@@ -1,7 +1,7 @@
 use Rattle.std.proofs.Common.{◌≡◌, ◌<◌, ◌∙◌, ℕ, Bool, ap, length, subst, sym}
 use Rattle.std.specs.Prelude.{◌||◌}
-use Rattle.ng_act.specs.Frames as cores
-use Rattle.ng_act.specs.State as act
+use Rattle.ng_core.specs.Frames as cores
+use Rattle.ng_core.specs.State as act
 use Rattle.ng_fire.proofs.Bodies.{scope_stands}
 use Rattle.ng_fire.proofs.Runs.{destroyed_rises}
 use Rattle.ng_fire.proofs.Wholes.{whole_left}

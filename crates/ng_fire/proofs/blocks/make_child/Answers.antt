@@ -1,5 +1,5 @@
 use Rattle.std.proofs.Common.{rules, ◌≡◌, ◌∙◌, ◌≤◌, ℕ, List, None, Some, ap, refl, length, subst, sym, arith}
-use Rattle.ng_act.proofs.MoreScopes.{object_grown, sound_grown}
+use Rattle.ng_core.proofs.MoreScopes.{object_grown, sound_grown}
 use Rattle.ng_base.specs.Objects.{Object}
 use Rattle.ng_behaviour.proofs.Grown.{tree-grows}
 use Rattle.ng_behaviour.proofs.ScopeTree.{grown-length}

@@ -1,5 +1,5 @@
 use Rattle.std.proofs.Common.{◌≡◌, ◌∙◌, [], ◌∷◌, ap, length, subst, sym}
-use Rattle.ng_act.proofs.MoreScopes.{ok_and}
+use Rattle.ng_core.proofs.MoreScopes.{ok_and}
 use Rattle.ng_fire.proofs.Answered.{ok_then}
 use Rattle.ng_fire.proofs.Bodies.{ended_linked}
 use Rattle.ng_fire.proofs.Placed.{unlinked_stays}

@@ -1,7 +1,7 @@
 use Rattle.std.proofs.Common.{◌≡◌, ◌∙◌, ℕ, ap, false, length, subst, sym}
-use Rattle.ng_act.proofs.MoreScopes.{ok_and}
-use Rattle.ng_act.specs.Frames.{declared_of}
-use Rattle.ng_act.specs.State.{adds}
+use Rattle.ng_core.proofs.MoreScopes.{ok_and}
+use Rattle.ng_core.specs.Frames.{declared_of}
+use Rattle.ng_core.specs.State.{adds}
 use Rattle.ng_base.specs.declared.path.Key.{Key}
 use Rattle.ng_fire.specs.Changes.{applied, key_in, kind_of, listening_in}
 use Rattle.ng_fire.proofs.Wholes.{Stays, applied_stays, stays_of, whole_with}

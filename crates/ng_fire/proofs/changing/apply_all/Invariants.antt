@@ -1,6 +1,6 @@
 use Rattle.std.proofs.Common.{◌≡◌, map, length}
 use Rattle.std.specs.List.{AllByRecursion}
-use Rattle.ng_act.specs.Frames.{change_of, ChangeStands}
+use Rattle.ng_core.specs.Frames.{change_of, ChangeStands}
 use Rattle.ng_fire.specs.Changes.{applied_all}
 use Rattle.ng_fire.specs.Whole.{IsWhole}
 use Rattle.ng_link.specs.State.{state_of, templates_of}

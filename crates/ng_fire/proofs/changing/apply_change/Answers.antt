@@ -1,6 +1,6 @@
 use Rattle.std.proofs.Common.{◌≡◌, ◌∙◌, ap, length, subst, sym}
-use Rattle.ng_act.proofs.MoreScopes.{ok_and}
-use Rattle.ng_act.specs.State.{removes, leaves}
+use Rattle.ng_core.proofs.MoreScopes.{ok_and}
+use Rattle.ng_core.specs.State.{removes, leaves}
 use Rattle.ng_base.specs.declared.path.Key.{Key}
 use Rattle.ng_fire.specs.Changes.{applied}
 use Rattle.ng_fire.proofs.Wholes.{Stays, applied_stays, stays_of, whole_with}

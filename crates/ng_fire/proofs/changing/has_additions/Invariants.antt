@@ -1,5 +1,5 @@
 use Rattle.std.proofs.Common.{◌≡◌, drop, map}
-use Rattle.ng_act.specs.Frames.{change_of}
+use Rattle.ng_core.specs.Frames.{change_of}
 use Rattle.ng_fire.specs.Changes.{has_additions}
 use Rattle.ng_fire.proofs.changing.has_additions.Given as goal
 

@@ -1,6 +1,6 @@
 use Rattle.std.proofs.Common.{◌≡◌, ◌∙◌, ◌<◌, ap, length, Some, subst, sym}
 use Rattle.std.specs.Prelude.{option_map}
-use Rattle.ng_act.specs.declared.core_state.Core.{Core}
+use Rattle.ng_core.specs.declared.core_state.Core.{Core}
 use Rattle.ng_fire.proofs.Fired.{listener_scope}
 use Rattle.ng_fire.specs.Fires.{listener_at}
 use Rattle.ng_link.specs.State.{listening_of, state_of}

@@ -1,5 +1,5 @@
 use Rattle.std.proofs.Common.{length, subst, sym, Bool, Option, Some}
-use Rattle.ng_act.proofs.MoreScopes.{ok_and}
+use Rattle.ng_core.proofs.MoreScopes.{ok_and}
 use Rattle.ng_base.specs.Views.{ViewTree}
 use Rattle.ng_fire.proofs.Rows.{if_ok, rows_found}
 use Rattle.ng_fire.proofs.Wholes.{Stays, keeping_stays, stays_of, whole_with}

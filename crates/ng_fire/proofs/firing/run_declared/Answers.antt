@@ -1,8 +1,8 @@
 use Rattle.std.proofs.Common.{◌∙◌, ap}
 use Rattle.std.specs.Prelude.{option_map}
-use Rattle.ng_act.specs.Frames as cores
+use Rattle.ng_core.specs.Frames as cores
 use Rattle.ng_act.specs.Running.{as_value_run}
-use Rattle.ng_act.specs.State as act
+use Rattle.ng_core.specs.State as act
 use Rattle.ng_base.specs.ViewOf.{view_of}
 use Rattle.ng_fire.proofs.Fired.{listener_rises}
 use Rattle.ng_fire.proofs.Rows.{if_ok}

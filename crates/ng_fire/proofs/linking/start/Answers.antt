@@ -1,4 +1,4 @@
-use Rattle.ng_act.specs.Frames as cores
+use Rattle.ng_core.specs.Frames as cores
 use Rattle.ng_parse.specs.ProgramOf.{program}
 use Rattle.ng_fire.proofs.Runs.{program_rises}
 use Rattle.ng_fire.proofs.Wholes.{whole_ran}

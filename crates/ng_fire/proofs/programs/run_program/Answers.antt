@@ -1,8 +1,8 @@
 use Rattle.std.proofs.Common.{◌-◌, subst}
-use Rattle.ng_act.specs.Frames as cores
-use Rattle.ng_act.specs.Frames.{Acts}
+use Rattle.ng_core.specs.Frames as cores
+use Rattle.ng_core.specs.Frames.{Acts}
 use Rattle.ng_act.specs.Running.{act_run, same}
-use Rattle.ng_act.specs.State.{with_locals}
+use Rattle.ng_core.specs.State.{with_locals}
 use Rattle.ng_parse.specs.ProgramOf.{program}
 use Rattle.ng_fire.proofs.ProgramRuns.{program_acts}
 use Rattle.ng_fire.proofs.programs.run_program.Goals as goal

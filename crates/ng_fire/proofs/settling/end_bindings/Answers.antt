@@ -1,5 +1,5 @@
 use Rattle.std.proofs.Common.{length, subst, sym}
-use Rattle.ng_act.proofs.MoreScopes.{ok_and}
+use Rattle.ng_core.proofs.MoreScopes.{ok_and}
 use Rattle.ng_fire.proofs.Wholes.{Stays, ended_stays, stays_of, whole_with}
 use Rattle.ng_link.specs.State.{State, state_of}
 use Rattle.ng_fire.proofs.settling.end_bindings.Goals as goal

@@ -1,7 +1,7 @@
 use Rattle.std.proofs.Common.{List, [], subst}
-use Rattle.ng_act.specs.Actions.{a_body}
-use Rattle.ng_act.specs.Frames as cores
-use Rattle.ng_act.specs.Frames.{Acts}
+use Rattle.ng_act.specs.Asked.{a_body}
+use Rattle.ng_core.specs.Frames as cores
+use Rattle.ng_core.specs.Frames.{Acts}
 use Rattle.ng_act.specs.Running.{as_value_run, same}
 use Rattle.ng_fire.proofs.Runs.{asked_rises}
 use Rattle.ng_fire.proofs.Wholes.{whole_run}

@@ -1,8 +1,8 @@
 use Rattle.std.proofs.Common.{subst}
-use Rattle.ng_act.specs.Actions.{a_body}
-use Rattle.ng_act.specs.Frames.{Acts, state_of}
+use Rattle.ng_act.specs.Asked.{a_body}
+use Rattle.ng_core.specs.Frames.{Acts, state_of}
 use Rattle.ng_act.specs.Running.{as_value_run, same}
-use Rattle.ng_act.specs.State.{Run}
+use Rattle.ng_core.specs.State.{Run}
 use Rattle.ng_base.specs.Views.{ViewTree}
 use Rattle.ng_fire.proofs.Runs.{asked_is}
 use Rattle.ng_parse.specs.ProgramOf.{program}

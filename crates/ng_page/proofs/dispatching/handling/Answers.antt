@@ -1,8 +1,8 @@
 use Rattle.std.proofs.Common.{◌≡◌, ℕ, Ok, sym, subst}
-use Rattle.ng_act.specs.Frames as cores
-use Rattle.ng_act.specs.Frames.{Acts}
+use Rattle.ng_core.specs.Frames as cores
+use Rattle.ng_core.specs.Frames.{Acts}
 use Rattle.ng_act.specs.Running.{same}
-use Rattle.ng_act.specs.State.{Run}
+use Rattle.ng_core.specs.State.{Run}
 use Rattle.ng_parse.specs.ProgramOf.{program}
 use Rattle.ng_page.specs.Dispatch.{event_of, handler_run}
 use Rattle.ng_page.specs.EventSeen.{number, event_seen, happening_seen}

@@ -1,5 +1,5 @@
 use Rattle.std.proofs.Common.{◌∙◌, [], ap}
-use Rattle.ng_act.proofs.MoreScopes.{ok_and}
+use Rattle.ng_core.proofs.MoreScopes.{ok_and}
 use Rattle.ng_link.specs.Calls.{left_at}
 use Rattle.ng_link.specs.State.{state_of}
 use Rattle.ng_page.proofs.Prepared.{page_rested}

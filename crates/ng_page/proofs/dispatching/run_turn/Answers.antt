@@ -1,7 +1,7 @@
 use Rattle.std.proofs.Common.{◌≡◌, ◌≤◌, ◌∙◌, length, ap, sym, subst}
-use Rattle.ng_act.specs.Frames as cores
+use Rattle.ng_core.specs.Frames as cores
 use Rattle.ng_act.specs.Running.{same}
-use Rattle.ng_act.specs.State.{Run}
+use Rattle.ng_core.specs.State.{Run}
 use Rattle.ng_base.specs.declared.value.Value.{Value}
 use Rattle.ng_fire.specs.Runs.{followed}
 use Rattle.ng_link.specs.State.{state_of}

@@ -1,7 +1,7 @@
 use Rattle.std.proofs.Common.{◌≡◌, ◌∙◌, ◌<◌, ap, sym, subst, length, arith}
-use Rattle.ng_act.specs.Frames as cores
-use Rattle.ng_act.specs.Frames.{IsSound}
-use Rattle.ng_act.specs.declared.core_state.Core.{Core}
+use Rattle.ng_core.specs.Frames as cores
+use Rattle.ng_core.specs.Frames.{IsSound}
+use Rattle.ng_core.specs.declared.core_state.Core.{Core}
 use Rattle.ng_app.specs.AppOf.{facts}
 use Rattle.ng_fire.specs.Runs.{program_run}
 use Rattle.ng_fire.specs.Whole.{IsWhole}

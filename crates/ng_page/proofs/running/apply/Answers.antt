@@ -1,4 +1,4 @@
-use Rattle.ng_act.specs.Frames as cores
+use Rattle.ng_core.specs.Frames as cores
 use Rattle.ng_parse.specs.ProgramOf.{program}
 use Rattle.ng_page.specs.Commands.{applies}
 use Rattle.ng_page.proofs.Ran.{whole_ran, page_asked}

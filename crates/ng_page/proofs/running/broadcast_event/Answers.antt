@@ -1,7 +1,7 @@
 use Rattle.std.proofs.Common.{◌∙◌}
 use Rattle.serde_json.specs.View.{view}
-use Rattle.ng_act.specs.Actions.{a_broadcast}
-use Rattle.ng_act.specs.Frames as cores
+use Rattle.ng_act.specs.Asked.{a_broadcast}
+use Rattle.ng_core.specs.Frames as cores
 use Rattle.ng_page.proofs.Programs.{event_acts}
 use Rattle.ng_page.proofs.running.broadcast_event.Goals as goal
 

@@ -1,5 +1,5 @@
 use Rattle.serde_json.specs.View.{view}
-use Rattle.ng_act.specs.Frames as cores
+use Rattle.ng_core.specs.Frames as cores
 use Rattle.ng_page.specs.Commands.{broadcasts, broadcast_run}
 use Rattle.ng_page.proofs.Ran.{whole_ran, page_asked}
 use Rattle.ng_page.proofs.StepsStay.{broadcast_stays}

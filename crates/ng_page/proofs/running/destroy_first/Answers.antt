@@ -1,4 +1,4 @@
-use Rattle.ng_act.specs.Frames.{state_of}
+use Rattle.ng_core.specs.Frames.{state_of}
 use Rattle.ng_page.proofs.Prepared.{on_ok}
 use Rattle.ng_page.proofs.Programs.{destroyed_acts}
 use Rattle.ng_page.proofs.running.destroy_first.Goals as goal

@@ -1,5 +1,5 @@
 use Rattle.std.proofs.Common.{◌∙◌, ap, sym}
-use Rattle.ng_act.specs.Frames as cores
+use Rattle.ng_core.specs.Frames as cores
 use Rattle.ng_fire.specs.Changes.{changed}
 use Rattle.ng_fire.specs.Runs.{destroyed}
 use Rattle.ng_link.specs.Calls.{with_core}

@@ -1,7 +1,7 @@
 use Rattle.std.proofs.Common.{List, length, map, subst, sym}
 use Rattle.std.specs.List.{AllByRecursion}
-use Rattle.ng_act.specs.Frames.{TaskStands, task_of}
-use Rattle.ng_act.specs.declared.pending.Task.{Task}
+use Rattle.ng_core.specs.Frames.{TaskStands, task_of}
+use Rattle.ng_core.specs.declared.pending.Task.{Task}
 use Rattle.ng_page.proofs.Wholes.{all_pushed, queued_page}
 use Rattle.ng_page.proofs.running.queue.Goals as goal
 

@@ -1,5 +1,5 @@
 use Rattle.std.proofs.Common.{◌≡◌, ap, length, arith}
-use Rattle.ng_act.specs.State as act
+use Rattle.ng_core.specs.State as act
 use Rattle.ng_link.specs.Calls.{with_core}
 use Rattle.ng_link.specs.State.{state_of}
 use Rattle.ng_link.proofs.Same.{core_stands}

@@ -1,5 +1,0 @@
-use Rattle.ng_act.proofs.ActLaws.{name_law}
-use Rattle.ng_act.proofs.laws.bare_names_are_written_here.Goals as goal
-
-pub returns : goal.returns
-returns c = name_law

@@ -1,5 +1,0 @@
-use Rattle.ng_act.proofs.Whole.{whole_law}
-use Rattle.ng_act.proofs.laws.dead_scopes_have_no_listeners.Goals as goal
-
-pub returns : goal.returns
-returns c = whole_law

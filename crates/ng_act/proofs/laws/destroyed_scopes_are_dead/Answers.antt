@@ -1,5 +1,0 @@
-use Rattle.ng_act.proofs.ActLaws.{destroy_law}
-use Rattle.ng_act.proofs.laws.destroyed_scopes_are_dead.Goals as goal
-
-pub returns : goal.returns
-returns c = destroy_law

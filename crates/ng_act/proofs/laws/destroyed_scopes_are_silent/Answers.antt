@@ -1,5 +1,0 @@
-use Rattle.ng_act.proofs.Whole.{silent_law}
-use Rattle.ng_act.proofs.laws.destroyed_scopes_are_silent.Goals as goal
-
-pub returns : goal.returns
-returns c = silent_law

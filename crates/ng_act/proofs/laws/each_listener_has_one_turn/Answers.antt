@@ -1,5 +1,0 @@
-use Rattle.ng_act.proofs.Copied.{event_law}
-use Rattle.ng_act.proofs.laws.each_listener_has_one_turn.Goals as goal
-
-pub returns : goal.returns
-returns c = event_law

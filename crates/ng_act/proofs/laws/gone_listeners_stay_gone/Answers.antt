@@ -1,5 +1,0 @@
-use Rattle.ng_act.proofs.ActLaws.{gone_law}
-use Rattle.ng_act.proofs.laws.gone_listeners_stay_gone.Goals as goal
-
-pub returns : goal.returns
-returns c = gone_law

@@ -1,5 +1,0 @@
-use Rattle.ng_act.proofs.Whole.{watch_law}
-use Rattle.ng_act.proofs.laws.watches_leave_with_their_scope.Goals as goal
-
-pub returns : goal.returns
-returns c = watch_law

@@ -1,0 +1,9 @@
+pub mod SoundCores
+pub mod Targets
+pub mod MoreScopes
+pub mod FirstCore
+pub mod DeadScopes
+pub mod FoundFunctions
+pub mod Announced
+pub mod Grows
+pub mod Buried

@@ -1,0 +1,12 @@
+pub mod State
+pub mod Calling
+pub mod Keeping
+pub mod Places
+pub mod ScopeCalls
+pub mod Burying
+pub mod Events
+pub mod Frames
+pub mod CalleeOf
+pub mod PlaceOf
+pub mod EventOf
+pub mod Beginning
