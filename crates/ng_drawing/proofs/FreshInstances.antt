@@ -6,16 +6,18 @@ use Rattle.ng_behaviour.specs.Scopes.{Scope}
 use Rattle.ng_markup.specs.Forest.{Forest, no_nodes}
 use Rattle.ng_drawing.specs.Drawing.{Now, Rendered, ◌>>-◌, shown_as}
 use Rattle.ng_drawing.specs.Cases.{cases_of}
-use Rattle.ng_drawing.specs.Instance.{SiteState, CasesAt, Instance, Instances, Outlets, instance_with, no_instances, instance_then, no_outlets, outlet_then, kept_by, shown, shown_all, shown_in, instance_now, is_filled, rests_in, outlet_now, rendering, rendering_all, rendering_in, IsFilled, IsFresh, AllFresh, AreFilled}
+use Rattle.ng_drawing.specs.Instance.{SiteState, CasesAt, Instance, Instances, Outlets, instance_with, no_instances, instance_then, no_outlets, outlet_then, kept_by, shown, shown_all, shown_in, instance_now, rests_in, outlet_now, rendering, rendering_all, rendering_in, IsFilled, IsFresh, AllFresh, AreFilled}
+use Rattle.ng_drawing.specs.Roles.{Role}
+use Rattle.ng_drawing.specs.Rows.{is_filled}
 use Rattle.ng_drawing.specs.Template.{Outlet}
 use Rattle.ng_drawing.proofs.Fresh.{on, fresh_parts}
 
 -- an outlet that has its bodies shows them
-module _ (now : Now) (states : List SiteState) (fresh : (n : ℕ) → now n ≡ shown_as (kept_by states n)) (cases : CasesAt) (o : Outlet) (is : Instances) (r : Rendered Forest) where
+module _ (now : Now) (states : List SiteState) (fresh : (n : ℕ) → now n ≡ shown_as (kept_by states n)) (cases : CasesAt) (o : Outlet) (rs : List Role) (r : Rendered Forest) where
   abbrev called_for : Option ViewTree → Rendered Forest
-  called_for v = cond (is_filled (cases o.site) o.filling v is) r (Ok None)
+  called_for v = cond (is_filled (cases o.site) o.filling v rs) r (Ok None)
 
-  kept_outlet : (b : Bool) → rests_in states o.site ≡ b → IsFilled states cases o is → outlet_now now states cases o is r ≡ r
+  kept_outlet : (b : Bool) → rests_in states o.site ≡ b → IsFilled states cases o rs → outlet_now now states cases o rs r ≡ r
   kept_outlet true e h = ap (λ c. cond c r (now o.site >>- called_for)) e
   kept_outlet false e h = ap (λ c. cond c r (now o.site >>- called_for)) e ∙ on called_for (fresh o.site) (ap (λ c. cond c r (Ok None)) (h e))
 
@@ -34,7 +36,7 @@ module _ (objects : List Object) (scopes : List Scope) where
     fresh_outlets : (now : Now) (states : List SiteState) → ((n : ℕ) → now n ≡ shown_as (kept_by states n)) → (cases : CasesAt) (os : List Outlet) (outlets : Outlets) → AreFilled objects scopes states cases os outlets → (k : ℕ)
         → slice_index_or (rendering_in objects scopes now states cases os outlets) k (shown_as no_nodes) ≡ shown_as (slice_index_or (shown_in outlets) k no_nodes)
     fresh_outlets now states fresh cases os no_outlets h k = refl
-    fresh_outlets now states fresh cases [] (outlet_then is rest) h zero = fresh_all is h.0
-    fresh_outlets now states fresh cases [] (outlet_then is rest) h (suc k) = fresh_outlets now states fresh cases [] rest h.1 k
-    fresh_outlets now states fresh cases (o ∷ os) (outlet_then is rest) h zero = kept_outlet now states fresh cases o is (rendering_all objects scopes is) (rests_in states o.site) refl h.0 ∙ fresh_all is h.1
-    fresh_outlets now states fresh cases (o ∷ os) (outlet_then is rest) h (suc k) = fresh_outlets now states fresh cases os rest h.2 k
+    fresh_outlets now states fresh cases [] (outlet_then rs is rest) h zero = fresh_all is h.0
+    fresh_outlets now states fresh cases [] (outlet_then rs is rest) h (suc k) = fresh_outlets now states fresh cases [] rest h.1 k
+    fresh_outlets now states fresh cases (o ∷ os) (outlet_then rs is rest) h zero = kept_outlet now states fresh cases o rs (rendering_all objects scopes is) (rests_in states o.site) refl h.0 ∙ fresh_all is h.1
+    fresh_outlets now states fresh cases (o ∷ os) (outlet_then rs is rest) h (suc k) = fresh_outlets now states fresh cases os rest h.2 k

@@ -5,7 +5,7 @@ use Rattle.ng_base.specs.Views.{ViewTree}
 use Rattle.ng_blocks.specs.Switching.{matches}
 use Rattle.ng_language.specs.Texts.{text_of}
 use Rattle.ng_drawing.specs.Looks.{is_kept_true}
-use Rattle.ng_drawing.specs.Template.{Filling, body_if, on_case, Outlet}
+use Rattle.ng_drawing.specs.Template.{Filling, body_if, on_case, for_each, Outlet}
 
 -- a case has a text, or it is a default
 abbrev pub Case : Type 0
@@ -14,6 +14,7 @@ Case = Option (List ℕ)
 abbrev pub case_in : Filling → List Case
 case_in (body_if b) = []
 case_in (on_case c b) = c ∷ []
+case_in (for_each r b) = []
 
 -- the cases of a switch, by its site, in document order
 abbrev pub cases_of : List Outlet → ℕ → List Case
@@ -30,7 +31,8 @@ abbrev pub is_chosen_by : List Case → Option ViewTree → Case → Bool
 is_chosen_by cases None c = false
 is_chosen_by cases (Some v) c = is_chosen cases (text_of v) c
 
--- whether a value of the site calls for the body of an outlet, which may be one of these cases
+-- whether a value of the site calls for the body of an outlet, which may be one of these cases; a repeat has rows in its place
 abbrev pub calls_for : List Case → Filling → Option ViewTree → Bool
 calls_for cases (body_if b) v = is_kept_true v
 calls_for cases (on_case c b) v = is_chosen_by cases v c
+calls_for cases (for_each r b) v = false

@@ -1,6 +1,6 @@
 -- An instance of a fragment: what a run adds to it. For each site its key, its scope, what it has kept, and whether it rests, which is
 -- to say that its scope is destroyed or its one-time binding has ended; and for each outlet the bodies that fill it.
-use Rattle.std.specs.Prelude.{ℕ, ◌≡◌, Bool, true, false, not, List, [], ◌∷◌, map, Option, Some, None, Result, Ok, slice_get, slice_index_or, if◌then◌else◌}
+use Rattle.std.specs.Prelude.{ℕ, ◌≡◌, Bool, true, false, List, [], ◌∷◌, map, Option, Some, None, Result, Ok, slice_get, slice_index_or, if◌then◌else◌}
 use Rattle.std.specs.Option.{option_map_or}
 use Rattle.ng_base.specs.Meets.{◌>>=◌}
 use Rattle.ng_base.specs.Objects.{Object}
@@ -15,8 +15,10 @@ use Rattle.ng_language.specs.declared.snapshots.SnapKind.TheVariants as snaps
 use Rattle.ng_markup.specs.Forest.{Forest, no_nodes}
 use Rattle.ng_value.specs.Taken.{taken}
 use Rattle.ng_view.specs.Evaluation.{evaluated_program}
-use Rattle.ng_drawing.specs.Cases.{Case, cases_of, calls_for}
-use Rattle.ng_drawing.specs.Template.{Site, Filling, Outlet, Fragment}
+use Rattle.ng_drawing.specs.Cases.{Case, cases_of}
+use Rattle.ng_drawing.specs.Roles.{Role}
+use Rattle.ng_drawing.specs.Rows.{is_filled}
+use Rattle.ng_drawing.specs.Template.{Site, Outlet, Fragment}
 use Rattle.ng_drawing.specs.Drawing.{Look, followed_by, draw, Now, Rendered, ◌>>-◌, shown_as, render}
 use Rattle.ng_drawing.specs.declared.kind.SiteKind.{SiteKind}
 use Rattle.ng_drawing.specs.declared.kind.SiteKind.TheVariants as kinds
@@ -36,21 +38,22 @@ mutual
     no_instances : Instances
     instance_then : Instance → Instances → Instances
 
+  -- those in each outlet, with what each stands for
   pub data Outlets : Type 0 where
     no_outlets : Outlets
-    outlet_then : Instances → Outlets → Outlets
+    outlet_then : List Role → Instances → Outlets → Outlets
 
 abbrev pub instances_from : List Instance → Instances
 instances_from [] = no_instances
 instances_from (i ∷ is) = instance_then i (instances_from is)
 
-abbrev pub outlets_from : List Instances → Outlets
-outlets_from [] = no_outlets
-outlets_from (is ∷ os) = outlet_then is (outlets_from os)
+-- the bodies in an outlet, with what each stands for
+abbrev pub Group : Type 0
+Group = List Role × Instances
 
-abbrev pub has_any : Instances → Bool
-has_any no_instances = false
-has_any (instance_then i is) = true
+abbrev pub outlets_from : List Group → Outlets
+outlets_from [] = no_outlets
+outlets_from (g ∷ os) = outlet_then g.0 g.1 (outlets_from os)
 
 -- what the site of a number has kept
 abbrev pub state_kept : Option SiteState → Option ViewTree
@@ -71,7 +74,7 @@ abbrev mutual
 
   pub shown_in : Outlets → List Forest
   shown_in no_outlets = []
-  shown_in (outlet_then is os) = shown_all is ∷ shown_in os
+  shown_in (outlet_then rs is os) = shown_all is ∷ shown_in os
 
 -- what an expression shows now over a scope's object, as a text. It is closed where its steps don't matter.
 unfoldable pub text_now : List Object → ℕ → Trees → Result (List ℕ) Fault
@@ -112,22 +115,18 @@ instance_now objects scopes sites states n = site_now objects scopes (slice_get 
 abbrev pub CasesAt : Type 0
 CasesAt = ℕ → List Case
 
--- whether the bodies that stand are those that a value calls for, beside the cases of the same switch
-abbrev pub is_filled : List Case → Filling → Option ViewTree → Instances → Bool
-is_filled cases f v is = if calls_for cases f v then has_any is else not (has_any is)
-
 abbrev pub rests_in : List SiteState → ℕ → Bool
 rests_in states n = option_map_or (λ (s : SiteState). s.rests) (slice_get states n) true
 
 -- What fills an outlet now: the bodies that stand, which must be those that the value of its site calls for now. A site that rests calls
 -- for nothing.
-abbrev pub outlet_now : Now → List SiteState → CasesAt → Outlet → Instances → Rendered Forest → Rendered Forest
-outlet_now now states cases o is bodies = if rests_in states o.site then bodies else now o.site >>- λ v. if is_filled (cases o.site) o.filling v is then bodies else Ok None
+abbrev pub outlet_now : Now → List SiteState → CasesAt → Outlet → List Role → Rendered Forest → Rendered Forest
+outlet_now now states cases o rs bodies = if rests_in states o.site then bodies else now o.site >>- λ v. if is_filled (cases o.site) o.filling v rs then bodies else Ok None
 
 -- an outlet that the fragment doesn't have is filled anyhow
-abbrev pub outlet_at : Now → List SiteState → CasesAt → Option Outlet → Instances → Rendered Forest → Rendered Forest
-outlet_at now states cases None is bodies = bodies
-outlet_at now states cases (Some o) is bodies = outlet_now now states cases o is bodies
+abbrev pub outlet_at : Now → List SiteState → CasesAt → Option Outlet → List Role → Rendered Forest → Rendered Forest
+outlet_at now states cases None rs bodies = bodies
+outlet_at now states cases (Some o) rs bodies = outlet_now now states cases o rs bodies
 
 -- The rendering of an instance over data and scopes: no watcher and no node is asked.
 abbrev mutual
@@ -142,13 +141,13 @@ abbrev mutual
 
   pub rendering_in : List Object → List Scope → Now → List SiteState → CasesAt → List Outlet → Outlets → List (Rendered Forest)
   rendering_in objects scopes now states cases os no_outlets = []
-  rendering_in objects scopes now states cases [] (outlet_then is rest) = rendering_all objects scopes is ∷ rendering_in objects scopes now states cases [] rest
-  rendering_in objects scopes now states cases (o ∷ os) (outlet_then is rest) =
-      outlet_now now states cases o is (rendering_all objects scopes is) ∷ rendering_in objects scopes now states cases os rest
+  rendering_in objects scopes now states cases [] (outlet_then rs is rest) = rendering_all objects scopes is ∷ rendering_in objects scopes now states cases [] rest
+  rendering_in objects scopes now states cases (o ∷ os) (outlet_then rs is rest) =
+      outlet_now now states cases o rs (rendering_all objects scopes is) ∷ rendering_in objects scopes now states cases os rest
 
 -- an outlet has the bodies that its site has kept to call for
-abbrev pub IsFilled : List SiteState → CasesAt → Outlet → Instances → Type 0
-IsFilled states cases o is = rests_in states o.site ≡ false → is_filled (cases o.site) o.filling (kept_by states o.site) is ≡ true
+abbrev pub IsFilled : List SiteState → CasesAt → Outlet → List Role → Type 0
+IsFilled states cases o rs = rests_in states o.site ≡ false → is_filled (cases o.site) o.filling (kept_by states o.site) rs ≡ true
 
 -- each site of an instance and of the bodies in it shows now what it has kept, and each outlet has the bodies that this calls for
 abbrev mutual
@@ -162,5 +161,5 @@ abbrev mutual
 
   pub AreFilled : List Object → List Scope → List SiteState → CasesAt → List Outlet → Outlets → Type 0
   AreFilled objects scopes states cases os no_outlets = Unit {0}
-  AreFilled objects scopes states cases [] (outlet_then is rest) = AllFresh objects scopes is × AreFilled objects scopes states cases [] rest
-  AreFilled objects scopes states cases (o ∷ os) (outlet_then is rest) = IsFilled states cases o is × AllFresh objects scopes is × AreFilled objects scopes states cases os rest
+  AreFilled objects scopes states cases [] (outlet_then rs is rest) = AllFresh objects scopes is × AreFilled objects scopes states cases [] rest
+  AreFilled objects scopes states cases (o ∷ os) (outlet_then rs is rest) = IsFilled states cases o rs × AllFresh objects scopes is × AreFilled objects scopes states cases os rest

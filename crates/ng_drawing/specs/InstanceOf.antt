@@ -1,7 +1,9 @@
 -- What an instance of the code stands for, where the fragments of templates are known by their numbers.
-use Rattle.std.specs.Prelude.{ℕ, map, option_map}
+use Rattle.std.specs.Prelude.{ℕ, List, map, option_map}
 use Rattle.ng_value.specs.Snaps.{snap_of}
-use Rattle.ng_drawing.specs.Instance.{SiteState, Instance, Instances, instance_with, instances_from, outlets_from}
+use Rattle.ng_drawing.specs.Instance.{SiteState, Instance, Instances, Group, instance_with, instances_from, outlets_from}
+use Rattle.ng_drawing.specs.Roles.{Role}
+use Rattle.ng_drawing.specs.RolesOf.{role_of}
 use Rattle.ng_drawing.specs.Template.{Fragment}
 use Rattle.ng_drawing.specs.declared.instance.SiteState as code_state
 use Rattle.ng_drawing.specs.declared.instance.Instance as code_instance
@@ -18,14 +20,21 @@ abbrev pub Fragments : Type 0
 Fragments = ℕ → ℕ → Fragment
 
 -- one level, with the bodies inside seen already
-abbrev pub instance_step : Fragments → Instance-F Instance Instances → Instance
+abbrev pub instance_step : Fragments → Instance-F Instance Group → Instance
 instance_step fragments v = instance_with (fragments v.template.0 v.fragment) v.scope.0 (map state_of v.sites.items) (outlets_from v.outlets.items)
 
-abbrev pub instances_step : Instances-F Instance Instances → Instances
-instances_step v = instances_from v.items.items
+abbrev pub instances_step : Instances-F Instance Group → Group
+instances_step v = (map role_of v.roles.items, instances_from v.items.items)
 
 abbrev pub instance_of : Fragments → code_instance.Instance → Instance
-instance_of fragments = fold-Instance Instance Instances (instance_step fragments) instances_step
+instance_of fragments = fold-Instance Instance Group (instance_step fragments) instances_step
+
+-- the bodies in an outlet, with what each stands for
+abbrev pub group_of : Fragments → code_instances.Instances → Group
+group_of fragments = fold-Instances Instance Group (instance_step fragments) instances_step
+
+abbrev pub roles_of : Fragments → code_instances.Instances → List Role
+roles_of fragments is = (group_of fragments is).0
 
 abbrev pub instances_of : Fragments → code_instances.Instances → Instances
-instances_of fragments = fold-Instances Instance Instances (instance_step fragments) instances_step
+instances_of fragments is = (group_of fragments is).1

@@ -2,6 +2,9 @@ pub mod Template
 pub mod Nodes
 pub mod Looks
 pub mod Cases
+pub mod Roles
+pub mod RolesOf
+pub mod Rows
 pub mod Drawing
 pub mod Instance
 pub mod InstanceOf

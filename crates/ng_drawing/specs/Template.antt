@@ -74,11 +74,19 @@ pub record Site : Type 0 where
   pub one_time : Bool
   pub program : Trees
 
+-- What a repeat says beside its collection: the name of an item, that of its key, where it has one, and what its rows are tracked by
+-- (API: ngRepeat).
+pub record Repeated : Type 0 where
+  pub key : Option (List ℕ)
+  pub name : List ℕ
+  pub track : Option Trees
+
 -- How an outlet is filled: the body of this number stands while the value of its site is true (API: ngIf); or it is a case of a switch, with
--- its text, or a default (API: ngSwitch).
+-- its text, or a default (API: ngSwitch); or there is one of it for each entry of a collection (API: ngRepeat).
 pub data Filling : Type 0 where
   body_if : (body : ℕ) → Filling
   on_case : (text : Option (List ℕ)) → (body : ℕ) → Filling
+  for_each : Repeated → (body : ℕ) → Filling
 
 -- an outlet is filled by the value of a site
 pub record Outlet : Type 0 where

@@ -1,4 +1,5 @@
 //! An instance of a fragment in the code. `specs/InstanceOf.antt` says what it stands for.
+use crate::roles::Role;
 use ng_base::name::{ScopeId, TplId};
 use ng_base::path::Key;
 use ng_value::snapshot::Snap;
@@ -25,9 +26,10 @@ pub struct Instance {
     pub outlets: Vec<Instances>,
 }
 
-/// The bodies that fill an outlet, in order.
+/// The bodies that fill an outlet, in order, and what each stands for.
 #[cycle(instance)]
 #[derive(Drop)]
 pub struct Instances {
+    pub roles: Vec<Role>,
     pub items: Vec<Instance>,
 }

@@ -19,3 +19,4 @@ pub mod classes;
 pub mod instance;
 pub mod kind;
 pub mod laws;
+pub mod roles;

@@ -13,6 +13,7 @@ use Rattle.ng_store.specs.declared.store.StoreFault.TheVariants.{Full}
 use Rattle.ng_base.specs.declared.fault.Fault.{Fault}
 use Rattle.ng_behaviour.specs.Scopes.{Scope, IsScopeTree, at, path_at, live_at, children_at, with_child}
 use Rattle.ng_behaviour.proofs.ScopeTree.{grown-keeps, grown-length, grown-new}
+use Rattle.ng_drawing.specs.Roles.{Role, a_body}
 use Rattle.ng_drawing.specs.Template.{Fragment}
 use Rattle.ng_fire.proofs.Numbered.{steps_instances, steps_rises}
 use Rattle.ng_fire.proofs.ScopePaths.{paths_of, same_path}
@@ -65,7 +66,7 @@ pub scopes_grown : (t u : List Scope) (c o : ℕ) (is : Instances) → u ≡ wit
 scopes_grown t u c o is e h = subst (λ (x : List Scope). HaveScopes x is) (sym e) (grown_scopes t c o is h)
 
 -- the path of the new one is one number longer
-pub new_inside : (t u : List Scope) (c o : ℕ) → u ≡ with_child t c o → IsIn (path_at t c) (record { path = path_at u (length t) })
+pub new_inside : (t u : List Scope) (c o : ℕ) → u ≡ with_child t c o → IsIn (path_at t c) (record { path = path_at u (length t); role = a_body })
 new_inside t u c o e = (
   length (children_at t c),
   ap (λ (x : List Scope). path_at x (length t)) e ∙ ap (λ (x : Scope). x.path) (grown-new t c o (length t) refl),
@@ -97,29 +98,38 @@ rested_linked : (b : Bool) (s : State) (p : List ℕ) → (let u : State = if b 
 rested_linked true s p = refl
 rested_linked false s p = refl
 
-module _ (holder : List ℕ) (o : ℕ) (which : ℕ × ℕ) (scope : ℕ) (f : Fragment) (s : State) (lt : o < outlet_count holder s.instances) (free : linked_at (path_at s.core.scopes scope) s.instances ≡ None) where
-  placed_serves : (g : Linking) → g.state.instances ≡ s.instances → path_at g.state.core.scopes scope ≡ path_at s.core.scopes scope
-      → Serves holder [] s.instances (rested_on scope (placed_on (in_outlet holder o) which scope f g.serials g.state)).instances
-  placed_serves g same path =
-      let t : State = placed_on (in_outlet holder o) which scope f g.serials g.state in
+-- what holds of the instances, and where one comes in an outlet, holds once a body is linked
+module _ (holder : List ℕ) (o i : ℕ) (role : Role) (which : ℕ × ℕ) (scope : ℕ) (f : Fragment) (s : State) (P : Instances → Type 0) (same : P s.instances)
+    (comes : (m : Linked) → P (outlets_changed holder (body_added o i (record { path = path_at s.core.scopes scope; role = role })) (with_instance (path_at s.core.scopes scope) m s.instances))) where
+  placed_holds : (g : Linking) → g.state.instances ≡ s.instances → path_at g.state.core.scopes scope ≡ path_at s.core.scopes scope
+      → P (rested_on scope (placed_on (in_outlet holder o i role) which scope f g.serials g.state)).instances
+  placed_holds g is path =
+      let t : State = placed_on (in_outlet holder o i role) which scope f g.serials g.state in
       let p : List ℕ = path_at g.state.core.scopes scope in
       let l : Linked = linked_on which scope p f g.serials g.state.next_node in
-      let none : linked_at p s.instances ≡ None = ap (λ (q : List ℕ). linked_at q s.instances) path ∙ free in
-      let one = taken_serves holder o p l s.instances lt none in
-      subst (λ (is : Instances). Serves holder [] s.instances is)
-      (ap (λ (is : Instances). outlets_changed holder (body_added o (record { path = p })) (with_instance p l is)) (sym same) ∙ sym (rested_linked (live_at t.core.scopes scope) t (path_at t.core.scopes scope))) one
+      subst P
+      (ap (λ (q : List ℕ). outlets_changed holder (body_added o i (record { path = q; role = role })) (with_instance q l s.instances)) (sym path)
+      ∙ (ap (λ (x : Instances). outlets_changed holder (body_added o i (record { path = p; role = role })) (with_instance p l x)) (sym is)
+      ∙ sym (rested_linked (live_at t.core.scopes scope) t (path_at t.core.scopes scope))))
+      (comes l)
 
-  by_serves : (r : Result (Unit {0}) Fault) → Serves holder [] s.instances (link_by (in_outlet holder o) which scope f r s).state.instances
-  by_serves (Ok u) =
-      placed_serves (steps_linked scope (steps f.parts) (begins_linking s)) (steps_instances scope (steps f.parts) (begins_linking s))
+  by_holds : (r : Result (Unit {0}) Fault) → P (link_by (in_outlet holder o i role) which scope f r s).state.instances
+  by_holds (Ok u) =
+      placed_holds (steps_linked scope (steps f.parts) (begins_linking s)) (steps_instances scope (steps f.parts) (begins_linking s))
       (same_path s.core.scopes (steps_linked scope (steps f.parts) (begins_linking s)).state.core.scopes scope (steps_rises scope (steps f.parts) (begins_linking s)).1)
-  by_serves (Err e) = serves_same holder [] s.instances _ (steps_instances scope (steps_within _ (steps f.parts)) (begins_linking s))
+  by_holds (Err e) = subst P (sym (steps_instances scope (steps_within _ (steps f.parts)) (begins_linking s))) same
 
-  pub then_serves : (r : Result (Unit {0}) Fault) (g : Firing) → Serves holder [] s.instances (linked_then scope r (link_at (in_outlet holder o) which scope f s) g).state.instances
-  then_serves (Ok u) g = by_serves (linked (live_nodes s) f.parts)
-  then_serves (Err e) g =
-      let l : Linking = link_at (in_outlet holder o) which scope f s in
-      subst (λ (is : Instances). Serves holder [] s.instances is) (sym (changed_linked (with_core (buried scope l.state.core) l.state))) (by_serves (linked (live_nodes s) f.parts))
+  pub then_holds : (r : Result (Unit {0}) Fault) (g : Firing) → P (linked_then scope r (link_at (in_outlet holder o i role) which scope f s) g).state.instances
+  then_holds (Ok u) g = by_holds (linked (live_nodes s) f.parts)
+  then_holds (Err e) g =
+      let l : Linking = link_at (in_outlet holder o i role) which scope f s in
+      subst P (sym (changed_linked (with_core (buried scope l.state.core) l.state))) (by_holds (linked (live_nodes s) f.parts))
+
+module _ (holder : List ℕ) (o i : ℕ) (role : Role) (which : ℕ × ℕ) (scope : ℕ) (f : Fragment) (s : State) (lt : o < outlet_count holder s.instances) (free : linked_at (path_at s.core.scopes scope) s.instances ≡ None) where
+  pub then_serves : (r : Result (Unit {0}) Fault) (g : Firing) → Serves holder [] s.instances (linked_then scope r (link_at (in_outlet holder o i role) which scope f s) g).state.instances
+  then_serves r g =
+      then_holds holder o i role which scope f s (λ (is : Instances). Serves holder [] s.instances is) (serves_same holder [] s.instances s.instances refl)
+      (λ m. taken_serves holder o i role (path_at s.core.scopes scope) m s.instances lt free) r g
 
 -- a linking keeps the paths of the scopes
 rested_core : (b : Bool) (s : State) (p : List ℕ) → (let u : State = if b then s else left_at p s in u.core ≡ s.core)

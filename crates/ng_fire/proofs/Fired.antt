@@ -12,7 +12,7 @@ use Rattle.ng_base.specs.Views.{ViewTree}
 use Rattle.ng_base.specs.declared.fault.Fault.{Fault}
 use Rattle.ng_base.specs.declared.path.Key.{Key}
 use Rattle.ng_fire.proofs.Rising.{mark, Rises, rises-refl}
-use Rattle.ng_fire.proofs.Rows.{listener_found}
+use Rattle.ng_fire.proofs.Entries.{listener_found}
 use Rattle.ng_fire.proofs.Runs.{asked_rises}
 use Rattle.ng_fire.proofs.RisingPrograms.{bind-rises, stores-rises}
 use Rattle.ng_fire.proofs.Snapshots.{dirty_stands, faulted}

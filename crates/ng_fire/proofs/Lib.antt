@@ -2,7 +2,7 @@ pub mod ScopePaths
 pub mod Rising
 pub mod RisingPrograms
 pub mod Snapshots
-pub mod Rows
+pub mod Entries
 pub mod Wholes
 pub mod Runs
 pub mod Cores
@@ -11,8 +11,18 @@ pub mod Names
 pub mod ProgramRuns
 pub mod Numbered
 pub mod Placed
+pub mod RepeatWalks
 pub mod Ordered
 pub mod LiveNodes
 pub mod Answered
 pub mod Served
 pub mod Bodies
+pub mod Once
+pub mod KeptRows
+pub mod RowsTaken
+pub mod KeptItems
+pub mod Told
+pub mod MadeItems
+pub mod KeysFound
+pub mod NewRows
+pub mod RowsStay

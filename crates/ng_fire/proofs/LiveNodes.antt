@@ -8,7 +8,7 @@ use Rattle.ng_drawing.specs.Nodes.{forest_count, nodes, part_filled, content_fil
 use Rattle.ng_drawing.specs.Template.{Part, Contents, Parts, text_part, comment_part, element_part, anchor_part, children, bound, no_parts, part_then}
 use Rattle.ng_markup.specs.Forest.{Forest, no_nodes, node}
 use Rattle.ng_link.specs.Instances.{Body, OutletState, Linked, Instances, is_path, read_bodies}
-use Rattle.ng_link.specs.State.{State, Resting, instance_at, instance_join, site_states, live_nodes}
+use Rattle.ng_link.specs.State.{State, Resting, groups_in, instance_at, instance_join, site_states, live_nodes}
 use Rattle.ng_watch.specs.Table.{Table}
 
 followed_count : (f g : Forest) → forest_count (followed_by f g) ≡ forest_count f + forest_count g
@@ -43,7 +43,7 @@ module _ (go to : List ℕ → Instance) (same : (q : List ℕ) → forest_count
       ∙ (omega (arith, h, k) ∙ sym (followed_count (shown (to b.path)) (shown_all (instances_from (map (λ (x : Body). to x.path) bs)))))
 
   abbrev group : (List ℕ → Instance) → List OutletState → ℕ → Forest
-  group by os o = slice_index_or (shown_in (outlets_from (map instances_from (read_bodies by os)))) o no_nodes
+  group by os o = slice_index_or (shown_in (outlets_from (groups_in os (map instances_from (read_bodies by os))))) o no_nodes
 
   groups_alike : (os : List OutletState) (o : ℕ) → forest_count (group go os o) ≡ forest_count (group to os o)
   groups_alike [] o = refl

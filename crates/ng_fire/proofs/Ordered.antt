@@ -3,7 +3,7 @@ use Rattle.std.proofs.Common.{◌-◌, Bool, true, false, List, [], ◌∷◌, c
 use Rattle.std.specs.BTreeMap.{insert_entry}
 use Rattle.std.specs.List.Sorted.{IsStrictlySortedBy}
 use Rattle.std.specs.Map.{keys_of, remove_entry}
-use Rattle.std.specs.Prelude.{ℕ, ◌&&◌, not, None, Result, Ok, Err}
+use Rattle.std.specs.Prelude.{ℕ, not, None, Result, Ok, Err}
 use Rattle.ng_core.specs.State.{Run, Change, adds, removes, leaves, handed}
 use Rattle.ng_base.specs.declared.fault.Fault.{Fault}
 use Rattle.ng_base.specs.declared.path.Key.{Key}
@@ -18,9 +18,11 @@ use Rattle.ng_template.specs.Kept.{fragments_in}
 use Rattle.ng_link.proofs.Sorted.{insert_sorted, filter_sorted, remove_sorted}
 use Rattle.ng_fire.specs.Changes.{applied, applied_all, changed, without_changes}
 use Rattle.ng_fire.specs.Links.{Linking, begins_linking, step_linked, steps_linked, link_by, link_at}
-use Rattle.ng_fire.specs.Blocks.{Firing, begins_firing, gone, all_gone, child_run, linked_then, body_made, filled, goes, outlet_emptied, outlets_emptied, cases_due, body_of, comes, outlet_filled, outlets_filled, outlets_fired, site_fired}
+use Rattle.ng_fire.specs.Blocks.{Firing, begins_firing, gone, ended, all_gone, child_run, linked_then, told_on, body_made, filled, goes, outlet_emptied, outlets_emptied, cases_due}
+use Rattle.ng_fire.specs.SiteFires.{outlets_filled, outlets_fired, site_fired}
+use Rattle.ng_fire.proofs.RepeatWalks.{outlets_keep}
 use Rattle.ng_fire.specs.Runs.{program_run, followed, destroy_run}
-use Rattle.ng_link.specs.Calls.{Place, in_outlet, with_core, declared_at, undeclared_at, left_at, placed_on, unlinked_at}
+use Rattle.ng_link.specs.Calls.{Place, with_core, declared_at, undeclared_at, left_at, placed_on, unlinked_at}
 use Rattle.ng_link.specs.Due.{Due, all_due}
 use Rattle.ng_link.specs.Events.{scope_in}
 use Rattle.ng_link.specs.Instances.{Body, is_site, linked_at}
@@ -28,6 +30,7 @@ use Rattle.ng_link.specs.Linking.{LinkStep, makes, starts, registers, steps, ste
 use Rattle.ng_link.specs.Rows.{watching_site, with_sites}
 use Rattle.ng_link.specs.Shape.{key_on, linked}
 use Rattle.ng_link.specs.State.{State, Listening, live_nodes}
+use Rattle.ng_members.specs.Leaves.{Local}
 use Rattle.ng_watch.specs.Keys.{key_cmp, key_cmp_total, is_key, begins}
 use Rattle.ng_watch.specs.Seen.{Watching, Watcher}
 use Rattle.ng_watch.specs.Table.{Table, with_watch, without_watch}
@@ -110,10 +113,11 @@ link_ordered place which scope f s h = by_ordered place which scope f (linked (l
 pub unlinked_ordered : (holder p : List ℕ) (s : State) → IsOrdered s → IsOrdered (unlinked_at holder p s)
 unlinked_ordered holder p s h = left_ordered p s h
 
+ended_ordered : (p : List ℕ) (g : Firing) → IsOrdered g.state → IsOrdered (ended p g).state
+ended_ordered p g h = followed_ordered (destroy_run (scope_in (linked_at p g.state.instances)) g.state.core) g.state h
+
 gone_ordered : (holder : List ℕ) (b : Body) (g : Firing) → IsOrdered g.state → IsOrdered (gone holder b g).state
-gone_ordered holder b g h =
-    let r = destroy_run (scope_in (linked_at b.path g.state.instances)) g.state.core in
-    unlinked_ordered holder b.path (followed r g.state) (followed_ordered r g.state h)
+gone_ordered holder b g h = unlinked_ordered holder b.path (ended b.path g).state (ended_ordered b.path g h)
 
 all_gone_ordered : (holder : List ℕ) (bs : List Body) (g : Firing) → IsOrdered g.state → IsOrdered (all_gone holder bs g).state
 all_gone_ordered holder [] g h = h
@@ -123,16 +127,16 @@ then_ordered : (scope : ℕ) (r : Result (Unit {0}) Fault) (l : Linking) (g : Fi
 then_ordered scope (Ok u) l g h = h
 then_ordered scope (Err e) l g h = changed_ordered (with_core (buried scope l.state.core) l.state) h
 
-made_ordered : (holder : List ℕ) (o : ℕ) (which : ℕ × ℕ) (f : Fragment) (c : act.State) (r : Result ℕ Fault) (g : Firing) → IsOrdered g.state → IsOrdered (body_made holder o which f c r g).state
-made_ordered holder o which f c (Err e) g h = h
-made_ordered holder o which f c (Ok child) g h =
-    let s : State = with_core c g.state in
-    then_ordered child (linked (live_nodes s) f.parts) (link_at (in_outlet holder o) which child f s) g (link_ordered (in_outlet holder o) which child f s h)
+made_ordered : (place : Place) (names : List Local) (which : ℕ × ℕ) (f : Fragment) (c : act.State) (r : Result ℕ Fault) (g : Firing) → IsOrdered g.state → IsOrdered (body_made place names which f c r g).state
+made_ordered place names which f c (Err e) g h = h
+made_ordered place names which f c (Ok child) g h =
+    let s : State = with_core (told_on child names c) g.state in
+    then_ordered child (linked (live_nodes s) f.parts) (link_at place which child f s) g (link_ordered place which child f s h)
 
-filled_ordered : (holder : List ℕ) (scope o : ℕ) (which : ℕ × ℕ) (g : Firing) → IsOrdered g.state → IsOrdered (filled holder scope o which g).state
-filled_ordered holder scope o which g h =
+filled_ordered : (place : Place) (scope : ℕ) (names : List Local) (which : ℕ × ℕ) (g : Firing) → IsOrdered g.state → IsOrdered (filled place scope names which g).state
+filled_ordered place scope names which g h =
     let r = child_run scope g.state.core in
-    made_ordered holder o which (fragments_in g.state.templates which.0 which.1) r.0 r.1 g h
+    made_ordered place names which (fragments_in g.state.templates which.0 which.1) r.0 r.1 g h
 
 firing_either : (b : Bool) (g k : Firing) → IsOrdered g.state → IsOrdered k.state → IsOrdered (cond b g k).state
 firing_either true g k h j = h
@@ -144,11 +148,8 @@ emptied_ordered holder v (d ∷ ds) g h =
     emptied_ordered holder v ds (outlet_emptied holder v d g) (firing_either (goes d.filling v) (all_gone holder d.bodies g) g (all_gone_ordered holder d.bodies g h) h)
 
 filled_all_ordered : (holder : List ℕ) (scope : ℕ) (cases : List Case) (v : ViewTree) (ds : List Due) (g : Firing) → IsOrdered g.state → IsOrdered (outlets_filled holder scope cases v ds g).state
-filled_all_ordered holder scope cases v [] g h = h
-filled_all_ordered holder scope cases v (d ∷ ds) g h =
-    let full : Firing = filled holder scope d.outlet (d.template, body_of d.filling) g in
-    filled_all_ordered holder scope cases v ds (outlet_filled holder scope cases v d g)
-    (firing_either (comes cases v d && not g.faulted) full g (filled_ordered holder scope d.outlet (d.template, body_of d.filling) g h) h)
+filled_all_ordered holder scope cases v ds g h =
+    outlets_keep (λ k. IsOrdered k.state) (λ _ _ _ k. k) (λ _ _ k. k) (λ _ _ k. k) ended_ordered (λ holder p k. unlinked_ordered holder p k.state) (λ _ _ _ _ k. k) filled_ordered holder scope cases v ds g h
 
 outlets_ordered : (holder : List ℕ) (scope : ℕ) (v : ViewTree) (ds : List Due) (g : Firing) → IsOrdered g.state → IsOrdered (outlets_fired holder scope v ds g).state
 outlets_ordered holder scope v ds g h = filled_all_ordered holder scope (cases_due ds) v ds (outlets_emptied holder v ds g) (emptied_ordered holder v ds g h)

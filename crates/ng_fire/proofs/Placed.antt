@@ -5,8 +5,8 @@ use Rattle.std.proofs.lemmas.Bool.Decides.{nat_tests}
 use Rattle.std.specs.Prelude.{◌&&◌, nat_le, nat_lt, not, IsSome, option_and_then, option_map, slice_get}
 use Rattle.ng_base.specs.declared.path.Key.{Key}
 use Rattle.ng_behaviour.specs.Scopes.{Scope, path_at, object_at}
-use Rattle.ng_drawing.specs.Template.{Filling, body_if, on_case, Outlet, Fragment, Site, fragment_at}
-use Rattle.ng_fire.proofs.Rows.{all_filtered, rows_filtered, rows_watched, rows_wider}
+use Rattle.ng_drawing.specs.Template.{Filling, body_if, on_case, for_each, Outlet, Fragment, Site, fragment_at}
+use Rattle.ng_fire.proofs.Entries.{all_filtered, rows_filtered, rows_watched, rows_wider}
 use Rattle.ng_fire.proofs.Wholes.{Stays}
 use Rattle.ng_fire.specs.Whole.{HasBody, HasScope, HaveBodies, HaveScopes, RowsStand}
 use Rattle.ng_link.proofs.Numbers.{whole_numbers}
@@ -61,17 +61,17 @@ site_come p l is free k site = by_test (is_path k.path p) refl
 
 pub site_taken : (place : Place) (p : List ℕ) (is : Instances) (k : Key) → is_site (taken_in place p is) k ≡ is_site is k
 site_taken at_top p is k = refl
-site_taken (in_outlet holder o) p is k = site_changed holder (body_added o (record { path = p })) is k
+site_taken (in_outlet holder o i role) p is k = site_changed holder (body_added o i (record { path = p; role = role })) is k
 
 -- what is free
 pub free_none : (place : Place) (p : List ℕ) (s : State) → IsFree place p s → linked_at p s.instances ≡ None
 free_none at_top p s free = ap (linked_at p) free.0
-free_none (in_outlet holder o) p s free = free.2
+free_none (in_outlet holder o i role) p s free = free.2
 
 -- and stays free
 pub free_same : (place : Place) (p q : List ℕ) (s t : State) → q ≡ p → t.instances ≡ s.instances → IsFree place p s → IsFree place q t
 free_same at_top p q s t path is free = (is ∙ free.0, path ∙ free.1)
-free_same (in_outlet holder o) p q s t path is free = (
+free_same (in_outlet holder o i role) p q s t path is free = (
   subst (λ (x : Instances). IsSome (outlet_of_linked o (linked_at holder x))) (sym is) free.0,
   (free.1.0, path ∙ free.1.1),
   ap (λ (r : List ℕ). linked_at r t.instances) path ∙ (ap (linked_at p) is ∙ free.2),
@@ -81,15 +81,15 @@ free_same (in_outlet holder o) p q s t path is free = (
 
 pub scopes_taken : (scopes : List Scope) (place : Place) (p : List ℕ) (is : Instances) → HaveScopes scopes is → HaveScopes scopes (taken_in place p is)
 scopes_taken scopes at_top p is h = h
-scopes_taken scopes (in_outlet holder o) p is h = changed_all holder (body_added o (record { path = p })) (λ (e : List ℕ × Linked). HasScope scopes e.0 e.1) is (λ l at one. record { scope = one.scope; path = one.path }) h
+scopes_taken scopes (in_outlet holder o i role) p is h = changed_all holder (body_added o i (record { path = p; role = role })) (λ (e : List ℕ × Linked). HasScope scopes e.0 e.1) is (λ l at one. record { scope = one.scope; path = one.path }) h
 
-abbrev OutletsHave : List Named → List OutletState → Type 0
+abbrev pub OutletsHave : List Named → List OutletState → Type 0
 OutletsHave all os = AllByRecursion (λ (x : OutletState). HasBody all x.template x.filling) os
 
-have_added : (all : List Named) (b : Body) (n : ℕ) (os : List OutletState) → OutletsHave all os → OutletsHave all (body_added n b os)
-have_added all b n [] h = tt
-have_added all b zero (o ∷ os) h = (h.0, h.1)
-have_added all b (suc n) (o ∷ os) h = (h.0, have_added all b n os h.1)
+have_added : (all : List Named) (b : Body) (n i : ℕ) (os : List OutletState) → OutletsHave all os → OutletsHave all (body_added n i b os)
+have_added all b n i [] h = tt
+have_added all b zero i (o ∷ os) h = (h.0, h.1)
+have_added all b (suc n) i (o ∷ os) h = (h.0, have_added all b n i os h.1)
 
 have_gone : (all : List Named) (p : List ℕ) (os : List OutletState) → OutletsHave all os → OutletsHave all (body_gone p os)
 have_gone all p [] h = tt
@@ -97,7 +97,7 @@ have_gone all p (o ∷ os) h = (h.0, have_gone all p os h.1)
 
 pub bodies_taken : (all : List Named) (place : Place) (p : List ℕ) (is : Instances) → HaveBodies all is → HaveBodies all (taken_in place p is)
 bodies_taken all at_top p is h = h
-bodies_taken all (in_outlet holder o) p is h = changed_all holder (body_added o (record { path = p })) (λ (e : List ℕ × Linked). OutletsHave all e.1.page.outlets) is (λ l at one. have_added all (record { path = p }) o l.page.outlets one) h
+bodies_taken all (in_outlet holder o i role) p is h = changed_all holder (body_added o i (record { path = p; role = role })) (λ (e : List ℕ × Linked). OutletsHave all e.1.page.outlets) is (λ l at one. have_added all (record { path = p; role = role }) o i l.page.outlets one) h
 
 -- the outlets of a fragment of a regular template have bodies
 abbrev pub AreRegular : List Named → Type 0
@@ -144,6 +144,7 @@ body_there own bodies b h =
 filling_there : (all : List Named) (t : ℕ) (k : Named) (x : Filling) → slice_get all t ≡ Some k → is_body (length k.1.bodies) x ≡ true → HasBody all t x
 filling_there all t k (body_if b) at h = subst (λ (o : Option Named). IsSome (option_and_then (λ (y : Named). fragment_at y.1 b) o)) (sym at) (body_there k.1.own k.1.bodies b h)
 filling_there all t k (on_case c b) at h = subst (λ (o : Option Named). IsSome (option_and_then (λ (y : Named). fragment_at y.1 b) o)) (sym at) (body_there k.1.own k.1.bodies b h)
+filling_there all t k (for_each r b) at h = subst (λ (o : Option Named). IsSome (option_and_then (λ (y : Named). fragment_at y.1 b) o)) (sym at) (body_there k.1.own k.1.bodies b h)
 
 pub fragment_bodies : (all : List Named) (t n : ℕ) (f : Fragment) → AreRegular all → fragment_in all t n ≡ Some f → AllByRecursion (λ (o : Outlet). HasBody all t o.filling) f.outlets
 fragment_bodies all t n f regular at = each f.outlets (whole_numbers bodies f whole)

@@ -5,10 +5,12 @@ use Rattle.std.specs.Prelude.{not, option_map}
 use Rattle.std.proofs.lemmas.Bool.{eq-eqb}
 use Rattle.std.specs.Prelude.{◌&&◌}
 use Rattle.ng_base.specs.declared.path.Key.{Key}
+use Rattle.ng_drawing.specs.Roles.{Role}
 use Rattle.ng_fire.specs.Serving.{outlets_in, outlet_count, bodies_held, AreHeldBy, IsThere, due_count, AreDue, Serves}
 use Rattle.ng_fire.specs.Whole.{HasBody, HaveBodies}
 use Rattle.ng_link.proofs.Lookups.{changed_here, inserted_other, kept_found}
 use Rattle.ng_link.proofs.Paths.{path_is, same_path, other_path}
+use Rattle.ng_link.proofs.BodiesAt.{added_more}
 use Rattle.ng_link.specs.Due.{Due, due_at, due_from, all_due}
 use Rattle.ng_link.specs.Events.{scope_in}
 use Rattle.ng_link.specs.Instances.{Body, OutletState, Linked, Instances, is_path, linked_at, is_filled_by, with_outlets, outlets_changed, body_added, body_gone, unlinked, with_instance}
@@ -110,7 +112,7 @@ module _ (all : List Named) (holder : List ℕ) (is : Instances) (serial : ℕ) 
 
 -- ---- a body goes
 
-not_begun : (p : List ℕ) (n : ℕ) → begins (p ++ n ∷ []) p ≡ false
+pub not_begun : (p : List ℕ) (n : ℕ) → begins (p ++ n ∷ []) p ≡ false
 not_begun [] n = refl
 not_begun (x ∷ xs) n = ap (λ (b : Bool). b && begins (xs ++ n ∷ []) xs) (eq-eqb x x refl) ∙ not_begun xs n
 
@@ -122,7 +124,7 @@ body_in p q (b ∷ bs) h lt = by (is_path q b.path) refl (body_in p q bs h.1) lt
     by true e more lt = (h.0.0, path_is q b.path e ∙ h.0.1)
     by false e more lt = more (omega (arith, lt))
 
-held_below : (p q : List ℕ) (os : List OutletState) → AreIn p os → 0 < held_count q os → (n : ℕ) × (q ≡ p ++ n ∷ [])
+pub held_below : (p q : List ℕ) (os : List OutletState) → AreIn p os → 0 < held_count q os → (n : ℕ) × (q ≡ p ++ n ∷ [])
 held_below p q [] h lt = absurd (omega (arith, lt))
 held_below p q (o ∷ os) h lt = by (body_count q o.bodies) refl (held_below p q os h.1)
   where
@@ -130,7 +132,7 @@ held_below p q (o ∷ os) h lt = by (body_count q o.bodies) refl (held_below p q
     by zero e more = more (omega (arith, lt, e))
     by (suc n) e more = body_in p q o.bodies h.0 (omega (arith, e))
 
-gone_bodies : (p q : List ℕ) (bs : List Body) → is_path q p ≡ false → body_count q (filter (λ (b : Body). not (is_path p b.path)) bs) ≡ body_count q bs
+pub gone_bodies : (p q : List ℕ) (bs : List Body) → is_path q p ≡ false → body_count q (filter (λ (b : Body). not (is_path p b.path)) bs) ≡ body_count q bs
 gone_bodies p q [] off = refl
 gone_bodies p q (b ∷ bs) off = by (is_path p b.path) refl (gone_bodies p q bs off)
   where
@@ -152,7 +154,7 @@ gone_length : (p : List ℕ) (os : List OutletState) → length (body_gone p os)
 gone_length p [] = refl
 gone_length p (o ∷ os) = ap suc (gone_length p os)
 
-scope_with : (f : List OutletState → List OutletState) (o : Option Linked) → scope_in (option_map (with_outlets f) o) ≡ scope_in o
+pub scope_with : (f : List OutletState → List OutletState) (o : Option Linked) → scope_in (option_map (with_outlets f) o) ≡ scope_in o
 scope_with f None = refl
 scope_with f (Some l) = refl
 
@@ -183,25 +185,16 @@ unlinked_serves places next holder b is placed held = by held.0 held.1 held.2
 
 -- ---- a body comes
 
-added_length : (n : ℕ) (b : Body) (os : List OutletState) → length (body_added n b os) ≡ length os
-added_length n b [] = refl
-added_length zero b (o ∷ os) = refl
-added_length (suc n) b (o ∷ os) = ap suc (added_length n b os)
+added_length : (n i : ℕ) (b : Body) (os : List OutletState) → length (body_added n i b os) ≡ length os
+added_length n i b [] = refl
+added_length zero i b (o ∷ os) = refl
+added_length (suc n) i b (o ∷ os) = ap suc (added_length n i b os)
 
-more_bodies : (q : List ℕ) (bs cs : List Body) → body_count q bs ≤ body_count q (bs ++ cs)
-more_bodies q [] cs = omega arith
-more_bodies q (b ∷ bs) cs = let more = more_bodies q bs cs in omega (arith, more)
-
-added_held : (q : List ℕ) (n : ℕ) (b : Body) (os : List OutletState) → held_count q os ≤ held_count q (body_added n b os)
-added_held q n b [] = omega arith
-added_held q zero b (o ∷ os) = let more = more_bodies q o.bodies (b ∷ []) in omega (arith, more)
-added_held q (suc n) b (o ∷ os) = let more = added_held q n b os in omega (arith, more)
-
-pub taken_serves : (holder : List ℕ) (o : ℕ) (p : List ℕ) (m : Linked) (is : Instances) → o < outlet_count holder is → linked_at p is ≡ None → Serves holder [] is (outlets_changed holder (body_added o (record { path = p })) (with_instance p m is))
-taken_serves holder o p m is lt free = by (linked_at holder is) refl
+pub taken_serves : (holder : List ℕ) (o i : ℕ) (role : Role) (p : List ℕ) (m : Linked) (is : Instances) → o < outlet_count holder is → linked_at p is ≡ None → Serves holder [] is (outlets_changed holder (body_added o i (record { path = p; role = role })) (with_instance p m is))
+taken_serves holder o i role p m is lt free = by (linked_at holder is) refl
   where
     added : List OutletState → List OutletState
-    added = body_added o (record { path = p })
+    added = body_added o i (record { path = p; role = role })
 
     by : (x : Option Linked) → linked_at holder is ≡ x → Serves holder [] is (outlets_changed holder added (with_instance p m is))
     by None e = absurd (let none : outlet_count holder is ≡ 0 = ap (λ (x : Option Linked). length (outlets_in x)) e in omega (arith, lt, none))
@@ -211,10 +204,10 @@ taken_serves holder o p m is lt free = by (linked_at holder is) refl
         changed_here holder added (with_instance p m is) ∙ ap (option_map (with_outlets added)) (inserted_other p m is holder off ∙ e) in
         record {
           scope = ap scope_in here ∙ sym (ap scope_in e);
-          outlets = ap (λ (x : Option Linked). length (outlets_in x)) here ∙ (added_length o (record { path = p }) l.page.outlets ∙ sym (ap (λ (x : Option Linked). length (outlets_in x)) e));
+          outlets = ap (λ (x : Option Linked). length (outlets_in x)) here ∙ (added_length o i (record { path = p; role = role }) l.page.outlets ∙ sym (ap (λ (x : Option Linked). length (outlets_in x)) e));
           bodies = λ q.
               (let now : bodies_held holder q (outlets_changed holder added (with_instance p m is)) ≡ held_count q (added l.page.outlets) = ap (λ (x : Option Linked). held_count q (outlets_in x)) here in
               let was : bodies_held holder q is ≡ held_count q l.page.outlets = ap (λ (x : Option Linked). held_count q (outlets_in x)) e in
-              let more = added_held q o (record { path = p }) l.page.outlets in
+              let more = added_more q (record { path = p; role = role }) l.page.outlets o i in
               omega (arith, now, was, more));
         }

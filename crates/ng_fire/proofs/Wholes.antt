@@ -14,7 +14,7 @@ use Rattle.ng_base.specs.declared.value.Value.{Value}
 use Rattle.ng_behaviour.specs.Scopes.{Scope, path_at}
 use Rattle.ng_dom.specs.Drawing.{Stands}
 use Rattle.ng_fire.proofs.Rising.{mark, Rises}
-use Rattle.ng_fire.proofs.Rows.{all_filtered, all_removed, all_inserted, listeners_more, rows_more, rows_watched, rows_keeping, rows_unset}
+use Rattle.ng_fire.proofs.Entries.{all_filtered, all_removed, all_inserted, listeners_more, rows_more, rows_watched, rows_keeping, rows_unset}
 use Rattle.ng_fire.proofs.Runs.{value_run_state}
 use Rattle.ng_fire.proofs.ScopePaths.{paths_of, same_path, same_count}
 use Rattle.ng_fire.specs.Changes.{applied, applied_all, changed, without_changes, key_in, watching_in, listening_in}

@@ -1,29 +1,30 @@
--- What the fire of a site does that fills outlets (API: ngIf, ngSwitch). First the scopes of bodies that are not to stay are destroyed, each
--- before its body is gone. Then, where a body is called for that doesn't stand, a child scope is made and the body is linked on it, up to the
--- first fault.
-use Rattle.std.specs.Prelude.{ℕ, ◌||◌, ◌&&◌, not, ◌++◌, Bool, true, false, List, [], ◌∷◌, length, nat_lt, Option, Some, Result, Ok, Err, if◌then◌else◌}
+-- What the fire of a site does that fills outlets (API: ngIf, ngSwitch, ngRepeat). First the scopes of bodies that are not to stay are
+-- destroyed, each before its body is gone. Then, where a body is called for that doesn't stand, a child scope is made and the body is linked
+-- on it, up to the first fault.
+use Rattle.std.specs.Prelude.{ℕ, ◌||◌, ◌&&◌, not, ◌++◌, Bool, true, false, List, [], ◌∷◌, length, nat_lt, Some, Result, Ok, Err, if◌then◌else◌}
 use Rattle.ng_core.specs.Burying.{buried}
 use Rattle.ng_core.specs.State as act
 use Rattle.ng_core.specs.State.{Run, with_fault, with_objects, with_scopes}
 use Rattle.ng_base.specs.Views.{ViewTree}
 use Rattle.ng_base.specs.declared.fault.Fault.{Fault}
 use Rattle.ng_base.specs.declared.fault.Fault.TheVariants.{StoreFull}
-use Rattle.ng_base.specs.declared.path.Key.{Key}
 use Rattle.ng_behaviour.specs.ScopeObjects.{with_scope_object}
 use Rattle.ng_behaviour.specs.Scopes.{object_at, with_child}
 use Rattle.ng_drawing.specs.Cases.{Case, case_in, calls_for}
 use Rattle.ng_drawing.specs.Looks.{is_kept_true}
-use Rattle.ng_drawing.specs.Template.{Fragment, Filling, body_if, on_case}
+use Rattle.ng_drawing.specs.Template.{Fragment, Filling, body_if, on_case, for_each}
 use Rattle.ng_template.specs.Kept.{fragments_in}
-use Rattle.ng_link.specs.Calls.{with_core, in_outlet, unlinked_at}
+use Rattle.ng_link.specs.Calls.{Place, with_core, unlinked_at}
 use Rattle.ng_link.specs.Events.{scope_in}
-use Rattle.ng_link.specs.Due.{Due, all_due}
-use Rattle.ng_link.specs.Instances.{Body, Linked, linked_at}
+use Rattle.ng_link.specs.Due.{Due}
+use Rattle.ng_link.specs.Instances.{Body, linked_at}
 use Rattle.ng_link.specs.Shape.{linked}
 use Rattle.ng_link.specs.State.{State, live_nodes}
 use Rattle.ng_fire.specs.Changes.{changed}
 use Rattle.ng_fire.specs.Links.{Linking, adds, link_at}
 use Rattle.ng_fire.specs.Runs.{followed, destroy_run}
+use Rattle.ng_members.specs.Leaves.{Local}
+use Rattle.ng_write.specs.Storing.{with_names}
 
 -- how far a fire has come: the state, whether the fire itself has faulted, and whether it left a watcher more
 pub record Firing : Type 0 where
@@ -76,29 +77,34 @@ abbrev pub linked_then : ℕ → Result (Unit {0}) Fault → Linking → Firing 
 linked_then scope (Ok u) l g = record g { state = l.state; added = g.added || l.added }
 linked_then scope (Err e) l g = faulted_with e (record g { state = discarded scope l.state; added = g.added || l.added })
 
--- a body is made on the child scope, where there is one
-abbrev pub body_on : List ℕ → ℕ → ℕ × ℕ → Fragment → ℕ → State → Firing → Firing
-body_on holder o which f child s g = linked_then child (linked (live_nodes s) f.parts) (link_at (in_outlet holder o) which child f s) g
+-- names of a scope are set, whatever they are
+abbrev pub told_on : ℕ → List Local → act.State → act.State
+told_on scope names c = with_objects (with_names c.objects (object_at c.scopes scope) names) c
 
-abbrev pub body_made : List ℕ → ℕ → ℕ × ℕ → Fragment → act.State → Result ℕ Fault → Firing → Firing
-body_made holder o which f c (Err e) g = faulted_with e g
-body_made holder o which f c (Ok child) g = body_on holder o which f child (with_core c g.state) g
+-- a body is made at a place, on the child scope where there is one, once that has been told some names
+abbrev pub body_on : Place → ℕ × ℕ → Fragment → ℕ → State → Firing → Firing
+body_on place which f child s g = linked_then child (linked (live_nodes s) f.parts) (link_at place which child f s) g
 
--- the body of this number is made in an outlet of an instance that stands on a scope
-abbrev pub filled : List ℕ → ℕ → ℕ → ℕ × ℕ → Firing → Firing
-filled holder scope o which g = by (child_run scope g.state.core)
+abbrev pub body_made : Place → List Local → ℕ × ℕ → Fragment → act.State → Result ℕ Fault → Firing → Firing
+body_made place names which f c (Err e) g = faulted_with e g
+body_made place names which f c (Ok child) g = body_on place which f child (with_core (told_on child names c) g.state) g
+
+-- the body of this number is made at a place of an instance that stands on a scope
+abbrev pub filled : Place → ℕ → List Local → ℕ × ℕ → Firing → Firing
+filled place scope names which g = by (child_run scope g.state.core)
   where
     by : Run ℕ → Firing
-    by r = body_made holder o which (fragments_in g.state.templates which.0 which.1) r.0 r.1 g
+    by r = body_made place names which (fragments_in g.state.templates which.0 which.1) r.0 r.1 g
 
 abbrev pub has_bodies : List Body → Bool
 has_bodies [] = false
 has_bodies (b ∷ bs) = true
 
--- the bodies that stand go at a value: that of `ng-if` where it is not called for, those of a switch anyhow
+-- The bodies that stand go at a value: that of `ng-if` where it is not called for, those of a switch anyhow. The rows of a repeat go by their keys.
 abbrev pub goes : Filling → ViewTree → Bool
 goes (body_if body) v = not (is_kept_true (Some v))
 goes (on_case c body) v = true
+goes (for_each r body) v = false
 
 abbrev pub outlet_emptied : List ℕ → ViewTree → Due → Firing → Firing
 outlet_emptied holder v d g = if goes d.filling v then all_gone holder d.bodies g else g
@@ -120,26 +126,8 @@ cases_due (d ∷ ds) = case_in d.filling ++ cases_due ds
 abbrev pub body_of : Filling → ℕ
 body_of (body_if body) = body
 body_of (on_case c body) = body
+body_of (for_each r body) = body
 
 -- whether a body is to be made in an outlet, beside these cases
 abbrev pub comes : List Case → ViewTree → Due → Bool
 comes cases v d = calls_for cases d.filling (Some v) && not (stays v d)
-
--- it is made, unless one before it faulted
-abbrev pub outlet_filled : List ℕ → ℕ → List Case → ViewTree → Due → Firing → Firing
-outlet_filled holder scope cases v d g = if comes cases v d && not g.faulted then filled holder scope d.outlet (d.template, body_of d.filling) g else g
-
-abbrev pub outlets_filled : List ℕ → ℕ → List Case → ViewTree → List Due → Firing → Firing
-outlets_filled holder scope cases v [] g = g
-outlets_filled holder scope cases v (d ∷ ds) g = outlets_filled holder scope cases v ds (outlet_filled holder scope cases v d g)
-
--- outlets of an instance on a scope get what a value of their site calls for
-abbrev pub outlets_fired : List ℕ → ℕ → ViewTree → List Due → Firing → Firing
-outlets_fired holder scope v ds g = outlets_filled holder scope (cases_due ds) v ds (outlets_emptied holder v ds g)
-
--- the site of a key has this value; a site that fills no outlet does nothing more
-abbrev pub site_fired : Key → ViewTree → State → Firing
-site_fired k v s = by (linked_at k.path s.instances)
-  where
-    by : Option Linked → Firing
-    by l = outlets_fired k.path (scope_in l) v (all_due k.serial.0 l) (begins_firing s)

@@ -13,7 +13,8 @@ use Rattle.ng_base.specs.declared.path.Key.{Key}
 use Rattle.ng_fire.specs.Changes.{has_additions}
 use Rattle.ng_fire.specs.Runs.{asked_first, followed}
 use Rattle.ng_link.specs.Calls.{keeping_at}
-use Rattle.ng_fire.specs.Blocks.{Firing, site_fired}
+use Rattle.ng_fire.specs.Blocks.{Firing}
+use Rattle.ng_fire.specs.SiteFires.{site_fired}
 use Rattle.ng_link.specs.Instances.{is_site}
 use Rattle.ng_link.specs.State.{State, Listening}
 use Rattle.ng_members.specs.Leaves.{Local}

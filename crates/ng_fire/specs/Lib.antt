@@ -2,6 +2,11 @@ pub mod Changes
 pub mod Runs
 pub mod Links
 pub mod Blocks
+pub mod Tracking
+pub mod TrackingOf
+pub mod Repeats
+pub mod RepeatsOf
+pub mod SiteFires
 pub mod LinkingOf
 pub mod FiringOf
 pub mod Fires

@@ -1,10 +1,10 @@
 -- What an outlet asks of the table of instances when the site fires that it is filled by, and what its turn leaves for those after it.
-use Rattle.std.specs.Prelude.{ℕ, ◌≡◌, ◌+◌, ◌<◌, ◌≤◌, List, [], ◌∷◌, length, Option, Some, None}
+use Rattle.std.specs.Prelude.{ℕ, ◌≡◌, ◌+◌, ◌<◌, ◌≤◌, false, List, [], ◌∷◌, ◌++◌, length, Option, Some, None}
 use Rattle.std.specs.List.{AllByRecursion}
 use Rattle.ng_template.specs.Kept.{Named}
 use Rattle.ng_link.specs.Due.{Due}
 use Rattle.ng_link.specs.Events.{scope_in}
-use Rattle.ng_link.specs.Instances.{Body, OutletState, Linked, Instances, linked_at}
+use Rattle.ng_link.specs.Instances.{Body, OutletState, Linked, Instances, is_path, linked_at}
 use Rattle.ng_link.specs.Standing.{body_count, held_count}
 use Rattle.ng_fire.specs.Whole.{HasBody}
 
@@ -37,8 +37,25 @@ pub record AreDue (all : List Named) (holder : List ℕ) (is : Instances) (ds : 
   pub there : AllByRecursion (IsThere all holder is) ds
   pub bodies : (q : List ℕ) → due_count q ds ≤ bodies_held holder q is
 
+-- an instance stays on its scope with as many outlets
+pub record Keeps (holder : List ℕ) (old new : Instances) : Type 0 where
+  pub scope : scope_in (linked_at holder new) ≡ scope_in (linked_at holder old)
+  pub outlets : outlet_count holder new ≡ outlet_count holder old
+
 -- an instance stays on its scope with its outlets, and of its bodies at most these go
 pub record Serves (holder : List ℕ) (bs : List Body) (old new : Instances) : Type 0 where
   pub scope : scope_in (linked_at holder new) ≡ scope_in (linked_at holder old)
   pub outlets : outlet_count holder new ≡ outlet_count holder old
   pub bodies : (q : List ℕ) → bodies_held holder q old ≤ bodies_held holder q new + body_count q bs
+
+-- what is linked stays as it is, but on the path of an instance, whose outlets may change
+abbrev pub OthersStay : List ℕ → Instances → Instances → Type 0
+OthersStay holder old new = (q : List ℕ) (l : Linked) → is_path q holder ≡ false → linked_at q old ≡ Some l → linked_at q new ≡ Some l
+
+-- what is linked in an instance beside bodies that go stays as it is
+abbrev pub RestStays : List ℕ → List Body → Instances → Instances → Type 0
+RestStays holder bs old new = (q : List ℕ) (n : ℕ) → q ≡ holder ++ n ∷ [] → body_count q bs ≡ 0 → linked_at q new ≡ linked_at q old
+
+-- what is linked on the paths of bodies stays as it is: they keep their scopes and their nodes
+abbrev pub BodiesStay : List Body → Instances → Instances → Type 0
+BodiesStay bs old new = (q : List ℕ) (l : Linked) → 0 < body_count q bs → linked_at q old ≡ Some l → linked_at q new ≡ Some l

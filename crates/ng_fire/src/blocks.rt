@@ -1,26 +1,29 @@
-//! The fire of a site that fills outlets (API: ngIf, ngSwitch): bodies go, and bodies are made.
-ghost use Rattle.std.specs.Prelude.{[], ◌∷◌, ◌≡◌, ◌&&◌, ◌<◌, ◌≤◌, length, map, None, Some, IsSome, IfSome, IfOk, OnOk};
+//! The fire of a site that fills outlets (API: ngIf, ngSwitch, ngRepeat): bodies go, and bodies are made.
+ghost use Rattle.std.specs.Prelude.{ℕ, List, [], ◌∷◌, ◌≡◌, ◌&&◌, not, ◌<◌, ◌≤◌, length, map, None, Some, IsSome, IfSome, IfOk, OnOk};
 ghost use Rattle.ng_core.specs.Frames as cores;
 ghost use Rattle.ng_core.specs.Frames.{IsSound};
 ghost use Rattle.ng_behaviour.specs.Scopes.{path_at};
 ghost use Rattle.std.specs.List.{AllByRecursion, list_any};
 ghost use Rattle.ng_blocks.specs.Switching.{matches};
 ghost use Rattle.ng_drawing.specs.Cases.{case_in, is_chosen as is_chosen_of, calls_for as calls_for_of};
+ghost use Rattle.ng_drawing.specs.Roles.{a_body};
 ghost use Rattle.ng_drawing.specs.Template.{Fragment};
-ghost use Rattle.ng_fire.specs.Blocks.{begins_firing, child_run, ended, gone, all_gone, linked_then, filled, goes as goes_at, outlet_emptied, outlets_emptied, cases_due, body_of as body_of_filling, comes as comes_at, outlet_filled, outlets_filled, outlets_fired, discarded, faulted_with};
-ghost use Rattle.ng_fire.specs.FiringOf.{firing, child_made, bodies_on};
+ghost use Rattle.ng_fire.specs.Blocks.{begins_firing, child_run, ended, gone, all_gone, linked_then, filled, goes as goes_at, outlet_emptied, outlets_emptied, cases_due, body_of as body_of_filling, comes as comes_at, discarded, faulted_with};
+ghost use Rattle.ng_fire.specs.SiteFires.{body_filled, outlet_filled, outlets_filled, outlets_fired};
+ghost use Rattle.ng_fire.specs.FiringOf.{firing, child_made};
 ghost use Rattle.ng_fire.specs.Links.{link_at as linked_at_place};
 ghost use Rattle.ng_fire.specs.Runs.{destroyed};
-ghost use Rattle.ng_fire.specs.Serving.{outlet_count, IsThere, AreHeldBy, AreDue, Serves};
+ghost use Rattle.ng_fire.specs.Serving.{outlet_count, IsThere, AreHeldBy, AreDue, Keeps, Serves};
 ghost use Rattle.ng_fire.specs.Whole.{IsWhole};
-ghost use Rattle.ng_link.specs.Calls.{with_core};
+ghost use Rattle.ng_language.specs.Views.{ViewStands};
+ghost use Rattle.ng_link.specs.Calls.{with_core, in_outlet};
 ghost use Rattle.ng_link.specs.Due.{due_of};
 ghost use Rattle.ng_link.specs.Events.{scope_in};
 ghost use Rattle.ng_link.specs.Instances.{linked_at};
 ghost use Rattle.ng_link.specs.PlaceOf.{place_of, IsFree};
 ghost use Rattle.ng_link.specs.Shape.{linked};
 ghost use Rattle.ng_link.specs.Standing.{IsIn, IsHeld};
-ghost use Rattle.ng_link.specs.State.{state_of, templates_of, live_nodes};
+ghost use Rattle.ng_link.specs.State.{body_of as body_in, state_of, templates_of, live_nodes};
 ghost use Rattle.ng_template.specs.FragmentOf.{filling_of};
 ghost use Rattle.ng_template.specs.Kept.{fragment_in};
 ghost use Rattle.ng_value.specs.Snaps.{snap_of};
@@ -28,6 +31,7 @@ ghost use Rattle.ng_value.specs.Snaps.{snap_of};
 use crate::changing::apply_changes;
 use crate::following::Followed;
 use crate::linking::{Built, link_at};
+use crate::repeats::{Spot, fire_repeat};
 use ng_act::running::destroy;
 use ng_base::fault::{Fault, Memory};
 use ng_base::name::{ScopeId, TplId};
@@ -36,9 +40,10 @@ use ng_base::txt::Txt;
 use ng_core::burying::bury;
 use ng_core::core_state::Core;
 use ng_drawing::cases::{has_text, kept_as_text};
+use ng_drawing::roles::Role;
 use ng_link::filling::Due;
 use ng_link::linking::Place;
-use ng_link::works::Works;
+use ng_link::works::{Body, Works};
 use ng_store::store::StoreFault;
 use ng_template::Filling;
 use ng_value::operators::truthy;
@@ -61,7 +66,7 @@ fn destroy_first(core: &mut Core, alloc: Global, scope: ScopeId) -> Result<(), M
 }
 
 /// The scope of a body is destroyed, and what that leaves for the watchers is done.
-fn end_body(
+pub(crate) fn end_body(
     works: &mut Works,
     alloc: Global,
     body: &Path,
@@ -69,6 +74,7 @@ fn end_body(
 ) -> Result<(), Memory>
     requires whole { IsWhole works.old }
     ensures fired { OnOk result (firing works.new told.new ≡ ended body.now (firing works.old told.old)) }
+    ensures grown { OnOk result (length works.old.core.store ≤ length works.new.core.store) }
     ensures whole { OnOk result (IsWhole works.new) }
     ensures templates { templates_of works.new ≡ templates_of works.old }
 {
@@ -84,18 +90,19 @@ fn take_body(
     works: &mut Works,
     alloc: Global,
     holder: &Path,
-    body: &Path,
+    body: &Body,
     told: &mut Followed,
 ) -> Result<(), Memory>
     requires whole { IsWhole works.old }
-    requires held { IsHeld holder.now body.now (state_of works.old) }
-    ensures fired { OnOk result (firing works.new told.new ≡ gone holder.now (record { path = body.now }) (firing works.old told.old)) }
-    ensures serves { OnOk result (Serves holder.now (record { path = body.now } ∷ []) (state_of works.old).instances (state_of works.new).instances) }
+    requires held { IsHeld holder.now body.now.path (state_of works.old) }
+    ensures fired { OnOk result (firing works.new told.new ≡ gone holder.now (body_in body.now) (firing works.old told.old)) }
+    ensures serves { OnOk result (Serves holder.now (body_in body.now ∷ []) (state_of works.old).instances (state_of works.new).instances) }
+    ensures grown { OnOk result (length works.old.core.store ≤ length works.new.core.store) }
     ensures whole { OnOk result (IsWhole works.new) }
     ensures templates { templates_of works.new ≡ templates_of works.old }
 {
-    end_body(works, alloc, body, told)?;
-    works.unlink(holder, body)
+    end_body(works, alloc, &body.path, told)?;
+    works.unlink(holder, &body.path)
 }
 
 /// Bodies are gone, one after another.
@@ -103,13 +110,14 @@ fn take_bodies(
     works: &mut Works,
     alloc: Global,
     holder: &Path,
-    bodies: &[Path],
+    bodies: &[Body],
     told: &mut Followed,
 ) -> Result<(), Memory>
     requires whole { IsWhole works.old }
-    requires held { AreHeldBy holder.now (bodies_on bodies.now) (state_of works.old).instances }
-    ensures fired { OnOk result (firing works.new told.new ≡ all_gone holder.now (bodies_on bodies.now) (firing works.old told.old)) }
-    ensures serves { OnOk result (Serves holder.now (bodies_on bodies.now) (state_of works.old).instances (state_of works.new).instances) }
+    requires held { AreHeldBy holder.now (map body_in bodies.now) (state_of works.old).instances }
+    ensures fired { OnOk result (firing works.new told.new ≡ all_gone holder.now (map body_in bodies.now) (firing works.old told.old)) }
+    ensures serves { OnOk result (Serves holder.now (map body_in bodies.now) (state_of works.old).instances (state_of works.new).instances) }
+    ensures grown { OnOk result (length works.old.core.store ≤ length works.new.core.store) }
     ensures whole { OnOk result (IsWhole works.new) }
     ensures templates { templates_of works.new ≡ templates_of works.old }
 {
@@ -120,9 +128,10 @@ fn take_bodies(
 }
 
 /// The fire itself faults.
-fn fault(works: &mut Works, f: Fault, told: &mut Followed)
+pub(crate) fn fault(works: &mut Works, f: Fault, told: &mut Followed)
     requires whole { IsWhole works.old }
     ensures fired { firing works.new told.new ≡ faulted_with f (firing works.old told.old) }
+    ensures grown { length works.old.core.store ≤ length works.new.core.store }
     ensures whole { IsWhole works.new }
     ensures templates { templates_of works.new ≡ templates_of works.old }
 {
@@ -135,6 +144,7 @@ fn discard(works: &mut Works, alloc: Global, scope: ScopeId) -> Result<(), Memor
     requires whole { IsWhole works.old }
     requires scope { scope.0 < length works.old.core.scopes }
     ensures state { OnOk result (state_of works.new ≡ discarded scope.0 (state_of works.old)) }
+    ensures grown { OnOk result (length works.old.core.store ≤ length works.new.core.store) }
     ensures whole { OnOk result (IsWhole works.new) }
     ensures templates { templates_of works.new ≡ templates_of works.old }
 {
@@ -145,12 +155,13 @@ fn discard(works: &mut Works, alloc: Global, scope: ScopeId) -> Result<(), Memor
 
 /// A child of a scope, unless the store is full (guide: Scopes, "Scope Hierarchies"). Its path is the scope's and one number more, and no
 /// instance stands on it.
-fn make_child(works: &mut Works, scope: ScopeId) -> Result<Option<ScopeId>, Memory>
+pub(crate) fn make_child(works: &mut Works, scope: ScopeId) -> Result<Option<ScopeId>, Memory>
     requires whole { IsWhole works.old }
     requires scope { scope.0 < length works.old.core.scopes }
     ensures run { IfOk result (λ c. child_run scope.0 (state_of works.old).core ≡ child_made c (state_of works.new).core) }
     ensures state { state_of works.new ≡ with_core (state_of works.new).core (state_of works.old) }
-    ensures free { IfOk result (λ c. IfSome c (λ s. (s.0 < length works.new.core.scopes) × IsIn (path_at works.old.core.scopes scope.0) (record { path = path_at works.new.core.scopes s.0 }) × (linked_at (path_at works.new.core.scopes s.0) (state_of works.new).instances ≡ None))) }
+    ensures free { IfOk result (λ c. IfSome c (λ s. (s.0 < length works.new.core.scopes) × IsIn (path_at works.old.core.scopes scope.0) (record { path = path_at works.new.core.scopes s.0; role = a_body }) × (linked_at (path_at works.new.core.scopes s.0) (state_of works.new).instances ≡ None))) }
+    ensures grown { OnOk result (length works.old.core.store ≤ length works.new.core.store) }
     ensures whole { OnOk result (IsWhole works.new) }
     ensures templates { templates_of works.new ≡ templates_of works.old }
 {
@@ -164,7 +175,7 @@ fn make_child(works: &mut Works, scope: ScopeId) -> Result<Option<ScopeId>, Memo
 }
 
 /// A body is linked on its scope. Where its nodes find no room, the scope was made in vain.
-fn link_body(
+pub(crate) fn link_body(
     works: &mut Works,
     alloc: Global,
     place: &Place,
@@ -178,6 +189,7 @@ fn link_body(
     requires scope { child.0 < length works.old.core.scopes }
     requires free { IsFree (place_of place.now) (path_at works.old.core.scopes child.0) (state_of works.old) }
     ensures fired { OnOk result ((f : Fragment) → fragment_in (templates_of works.old) template.0 body ≡ Some f → firing works.new told.new ≡ linked_then child.0 (linked (live_nodes (state_of works.old)) f.parts) (linked_at_place (place_of place.now) (template.0, body) child.0 f (state_of works.old)) (firing works.old told.old)) }
+    ensures grown { OnOk result (length works.old.core.store ≤ length works.new.core.store) }
     ensures whole { OnOk result (IsWhole works.new) }
     ensures templates { templates_of works.new ≡ templates_of works.old }
 {
@@ -203,13 +215,19 @@ fn make_body(
     requires whole { IsWhole works.old }
     requires outlet { outlet < outlet_count holder.now (state_of works.old).instances }
     requires template { IsSome (fragment_in (templates_of works.old) template.0 body) }
-    ensures fired { OnOk result (firing works.new told.new ≡ filled holder.now (scope_in (linked_at holder.now (state_of works.old).instances)) outlet (template.0, body) (firing works.old told.old)) }
+    ensures fired { OnOk result (firing works.new told.new ≡ filled (in_outlet holder.now outlet 0 a_body) (scope_in (linked_at holder.now (state_of works.old).instances)) [] (template.0, body) (firing works.old told.old)) }
     ensures serves { OnOk result (Serves holder.now [] (state_of works.old).instances (state_of works.new).instances) }
+    ensures grown { OnOk result (length works.old.core.store ≤ length works.new.core.store) }
     ensures whole { OnOk result (IsWhole works.new) }
     ensures templates { templates_of works.new ≡ templates_of works.old }
 {
     let scope = works.scope_on(holder);
-    let place = Place::Outlet(holder.copied()?, outlet);
+    let place = Place::Outlet {
+        holder: holder.copied()?,
+        outlet,
+        at: 0,
+        role: Role::Body,
+    };
     match make_child(works, scope)? {
         Some(child) => link_body(works, alloc, &place, template, body, child, told),
         None => {
@@ -226,6 +244,7 @@ fn goes(filling: &Filling, value: &Snap) -> bool
     match filling {
         Filling::BodyIf(_) => !truthy(value.view()),
         Filling::OnCase(_, _) => true,
+        Filling::ForEach(_, _) => false,
     }
 }
 
@@ -239,9 +258,10 @@ fn empty_outlet(
     told: &mut Followed,
 ) -> Result<(), Memory>
     requires whole { IsWhole works.old }
-    requires held { AreHeldBy holder.now (bodies_on due.now.bodies.items) (state_of works.old).instances }
+    requires held { AreHeldBy holder.now (map body_in due.now.bodies.items) (state_of works.old).instances }
     ensures fired { OnOk result (firing works.new told.new ≡ outlet_emptied holder.now (snap_of value.now) (due_of due.now) (firing works.old told.old)) }
-    ensures serves { OnOk result (Serves holder.now (bodies_on due.now.bodies.items) (state_of works.old).instances (state_of works.new).instances) }
+    ensures serves { OnOk result (Serves holder.now (map body_in due.now.bodies.items) (state_of works.old).instances (state_of works.new).instances) }
+    ensures grown { OnOk result (length works.old.core.store ≤ length works.new.core.store) }
     ensures whole { OnOk result (IsWhole works.new) }
     ensures templates { templates_of works.new ≡ templates_of works.old }
 {
@@ -265,6 +285,7 @@ fn empty_outlets(
     ensures fired { OnOk result (firing works.new told.new ≡ outlets_emptied holder.now (snap_of value.now) (map due_of all.now) (firing works.old told.old)) }
     ensures there { OnOk result (AllByRecursion (IsThere (templates_of works.new) holder.now (state_of works.new).instances) (map due_of all.now)) }
     ensures scope { OnOk result (scope_in (linked_at holder.now (state_of works.new).instances) ≡ scope_in (linked_at holder.now (state_of works.old).instances)) }
+    ensures grown { OnOk result (length works.old.core.store ≤ length works.new.core.store) }
     ensures whole { OnOk result (IsWhole works.new) }
     ensures templates { templates_of works.new ≡ templates_of works.old }
 {
@@ -281,6 +302,7 @@ fn case_has(due: &Due, value: &Txt) -> bool
     match &due.filling {
         Filling::BodyIf(_) => false,
         Filling::OnCase(case, _) => has_text(value, case),
+        Filling::ForEach(_, _) => false,
     }
 }
 
@@ -322,6 +344,7 @@ fn calls_for(
             let text = kept_as_text(alloc, value.view())?;
             Ok(is_chosen(all, &text, case))
         }
+        Filling::ForEach(_, _) => Ok(false),
     }
 }
 
@@ -342,10 +365,36 @@ fn body_of(filling: &Filling) -> u32
     match filling {
         Filling::BodyIf(body) => *body,
         Filling::OnCase(_, body) => *body,
+        Filling::ForEach(_, body) => *body,
     }
 }
 
 /// The body of an outlet is made where it is to be, unless one before it faulted.
+fn fill_body(
+    works: &mut Works,
+    alloc: Global,
+    holder: &Path,
+    all: &[Due],
+    value: &Snap,
+    due: &Due,
+    told: &mut Followed,
+) -> Result<(), Memory>
+    requires whole { IsWhole works.old }
+    requires there { IsThere (templates_of works.old) holder.now (state_of works.old).instances (due_of due.now) }
+    ensures fired { OnOk result (firing works.new told.new ≡ body_filled holder.now (scope_in (linked_at holder.now (state_of works.old).instances)) (cases_due (map due_of all.now)) (snap_of value.now) (due_of due.now) (firing works.old told.old)) }
+    ensures serves { OnOk result (Serves holder.now [] (state_of works.old).instances (state_of works.new).instances) }
+    ensures grown { OnOk result (length works.old.core.store ≤ length works.new.core.store) }
+    ensures whole { OnOk result (IsWhole works.new) }
+    ensures templates { templates_of works.new ≡ templates_of works.old }
+{
+    if told.faulted || !comes(alloc, all, value, due)? {
+        return Ok(());
+    }
+    let body = body_of(&due.filling);
+    make_body(works, alloc, holder, due.outlet, due.template, body, told)
+}
+
+/// An outlet gets the body or the rows that it is to have, unless one before it faulted.
 fn fill_outlet(
     works: &mut Works,
     alloc: Global,
@@ -357,16 +406,29 @@ fn fill_outlet(
 ) -> Result<(), Memory>
     requires whole { IsWhole works.old }
     requires there { IsThere (templates_of works.old) holder.now (state_of works.old).instances (due_of due.now) }
+    requires value { ViewStands (length works.old.core.store) (snap_of value.now) }
     ensures fired { OnOk result (firing works.new told.new ≡ outlet_filled holder.now (scope_in (linked_at holder.now (state_of works.old).instances)) (cases_due (map due_of all.now)) (snap_of value.now) (due_of due.now) (firing works.old told.old)) }
-    ensures serves { OnOk result (Serves holder.now [] (state_of works.old).instances (state_of works.new).instances) }
+    ensures keeps { OnOk result (Keeps holder.now (state_of works.old).instances (state_of works.new).instances) }
+    ensures grown { OnOk result (length works.old.core.store ≤ length works.new.core.store) }
     ensures whole { OnOk result (IsWhole works.new) }
     ensures templates { templates_of works.new ≡ templates_of works.old }
 {
-    if told.faulted || !comes(alloc, all, value, due)? {
-        return Ok(());
+    match &due.filling {
+        Filling::BodyIf(_) => fill_body(works, alloc, holder, all, value, due, told),
+        Filling::OnCase(_, _) => fill_body(works, alloc, holder, all, value, due, told),
+        Filling::ForEach(repeated, body) => {
+            if told.faulted {
+                return Ok(());
+            }
+            let spot = Spot {
+                holder,
+                outlet: due.outlet,
+                template: due.template,
+                body: *body,
+            };
+            fire_repeat(works, alloc, &spot, repeated, value.view(), told)
+        }
     }
-    let body = body_of(&due.filling);
-    make_body(works, alloc, holder, due.outlet, due.template, body, told)
 }
 
 /// The bodies of outlets are made where they are to be, in order, up to the first fault.
@@ -380,6 +442,7 @@ fn fill_outlets(
 ) -> Result<(), Memory>
     requires whole { IsWhole works.old }
     requires there { AllByRecursion (IsThere (templates_of works.old) holder.now (state_of works.old).instances) (map due_of all.now) }
+    requires value { ViewStands (length works.old.core.store) (snap_of value.now) }
     ensures fired { OnOk result (firing works.new told.new ≡ outlets_filled holder.now (scope_in (linked_at holder.now (state_of works.old).instances)) (cases_due (map due_of all.now)) (snap_of value.now) (map due_of all.now) (firing works.old told.old)) }
     ensures whole { OnOk result (IsWhole works.new) }
     ensures templates { templates_of works.new ≡ templates_of works.old }
@@ -400,6 +463,7 @@ pub(crate) fn fire_outlets(
 ) -> Result<Followed, Memory>
     requires whole { IsWhole works.old }
     requires due { AreDue (templates_of works.old) holder.now (state_of works.old).instances (map due_of all.now) }
+    requires value { ViewStands (length works.old.core.store) (snap_of value.now) }
     ensures fired { IfOk result (λ f. firing works.new f ≡ outlets_fired holder.now (scope_in (linked_at holder.now (state_of works.old).instances)) (snap_of value.now) (map due_of all.now) (begins_firing (state_of works.old))) }
     ensures whole { OnOk result (IsWhole works.new) }
     ensures templates { templates_of works.new ≡ templates_of works.old }

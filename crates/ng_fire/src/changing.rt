@@ -1,5 +1,5 @@
 //! What programs have left for the watchers to become is done.
-ghost use Rattle.std.specs.Prelude.{◌≡◌, ◌<◌, length, map, IfOk, OnOk};
+ghost use Rattle.std.specs.Prelude.{◌≡◌, ◌<◌, ◌≤◌, length, map, IfOk, OnOk};
 ghost use Rattle.std.specs.List.{AllByRecursion};
 ghost use Rattle.ng_core.specs.Frames.{change_of, declared_of, ChangeStands};
 ghost use Rattle.ng_behaviour.specs.Scopes.{path_at};
@@ -104,6 +104,7 @@ fn take_changes(works: &mut Works, alloc: Global) -> Vec<WatchChange>
     ensures taken { map change_of result.items ≡ (state_of works.old).core.changes }
     ensures stand { AllByRecursion (ChangeStands (length works.new.core.scopes)) (map change_of result.items) }
     ensures state { state_of works.new ≡ without_changes (state_of works.old) }
+    ensures grown { length works.old.core.store ≤ length works.new.core.store }
     ensures whole { IsWhole works.new }
     ensures scopes { works.new.core.scopes ≡ works.old.core.scopes }
     ensures templates { templates_of works.new ≡ templates_of works.old }
@@ -132,6 +133,7 @@ pub fn apply_changes(works: &mut Works, alloc: Global) -> Result<bool, Memory>
     requires { IsWhole works.old }
     ensures state { OnOk result (state_of works.new ≡ changed (state_of works.old)) }
     ensures added { IfOk result (λ added. added ≡ has_additions (state_of works.old).core.changes) }
+    ensures grown { OnOk result (length works.old.core.store ≤ length works.new.core.store) }
     ensures whole { OnOk result (IsWhole works.new) }
     ensures scopes { OnOk result (works.new.core.scopes ≡ works.old.core.scopes) }
     ensures linked { OnOk result ((state_of works.new).instances ≡ (state_of works.old).instances) }

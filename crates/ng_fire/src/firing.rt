@@ -98,6 +98,7 @@ fn keep_site(works: &mut Works, key: &Key, snapshot: Snap) -> Result<(), Memory>
     requires there { IsSome (found key.now (state_of works.old).watchers) }
     requires site { is_site (state_of works.old).instances key.now ≡ true }
     ensures state { OnOk result (state_of works.new ≡ keeping_at key.now (snap_of snapshot) (state_of works.old)) }
+    ensures core { works.new.core ≡ works.old.core }
     ensures whole { OnOk result (IsWhole works.new) }
     ensures templates { templates_of works.new ≡ templates_of works.old }
 {
@@ -122,6 +123,7 @@ fn fire_filling(
 ) -> Result<Followed, Memory>
     requires whole { IsWhole works.old }
     requires there { IsSome (found key.now (state_of works.old).watchers) }
+    requires dirty { IsDirtyWith (snap_of snapshot) (state_of works.old) key.now }
     requires site { is_site (state_of works.old).instances key.now ≡ true }
     requires due { map due_of all.now ≡ all_due key.now.serial.0 (linked_at key.now.path (state_of works.old).instances) }
     ensures state { IfOk result (λ f. (state_of works.new, f.faulted) ≡ fired key.now (snap_of snapshot) (state_of works.old)) }
@@ -130,6 +132,7 @@ fn fire_filling(
     ensures templates { templates_of works.new ≡ templates_of works.old }
 {
     let value = copy_of(alloc, &snapshot)?;
+    let _ = dirty_value(alloc, works, key)?;
     keep_site(works, key, snapshot)?;
     fire_outlets(works, alloc, &key.path, all, &value)
 }
@@ -143,6 +146,7 @@ fn fire_drawn(
 ) -> Result<Followed, Memory>
     requires whole { IsWhole works.old }
     requires there { IsSome (found key.now (state_of works.old).watchers) }
+    requires dirty { IsDirtyWith (snap_of snapshot) (state_of works.old) key.now }
     requires site { is_site (state_of works.old).instances key.now ≡ true }
     ensures state { IfOk result (λ f. (state_of works.new, f.faulted) ≡ fired key.now (snap_of snapshot) (state_of works.old)) }
     ensures added { IfOk result (λ f. f.added ≡ fire_adds key.now (snap_of snapshot) (state_of works.old)) }

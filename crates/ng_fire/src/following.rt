@@ -1,5 +1,5 @@
 //! What comes after a program that ran: its fault is handed over, and what it left for the watchers is done.
-ghost use Rattle.std.specs.Prelude.{◌≡◌, IfOk, OnOk, is_err};
+ghost use Rattle.std.specs.Prelude.{◌≡◌, ◌≤◌, length, IfOk, OnOk, is_err};
 ghost use Rattle.ng_core.specs.Frames as cores;
 ghost use Rattle.ng_core.specs.Frames.{Acts};
 ghost use Rattle.ng_act.specs.Running.{same};
@@ -31,6 +31,7 @@ fn done(works: &mut Works, alloc: Global, faulted: bool) -> Result<Followed, Mem
     ensures state { OnOk result (state_of works.new ≡ changed (state_of works.old)) }
     ensures faulted { IfOk result (λ f. f.faulted ≡ faulted) }
     ensures added { IfOk result (λ f. f.added ≡ has_additions (state_of works.old).core.changes) }
+    ensures grown { OnOk result (length works.old.core.store ≤ length works.new.core.store) }
     ensures whole { OnOk result (IsWhole works.new) }
     ensures scopes { OnOk result (works.new.core.scopes ≡ works.old.core.scopes) }
     ensures linked { OnOk result ((state_of works.new).instances ≡ (state_of works.old).instances) }
@@ -44,6 +45,7 @@ fn done(works: &mut Works, alloc: Global, faulted: bool) -> Result<Followed, Mem
 fn hand_over(works: &mut Works, fault: Fault)
     requires { IsWhole works.old }
     ensures state { state_of works.new ≡ with_core (with_fault fault (state_of works.old).core) (state_of works.old) }
+    ensures grown { length works.old.core.store ≤ length works.new.core.store }
     ensures whole { IsWhole works.new }
     ensures scopes { works.new.core.scopes ≡ works.old.core.scopes }
     ensures templates { templates_of works.new ≡ templates_of works.old }
@@ -60,6 +62,7 @@ pub fn follow(
     requires { Unless end (IsWhole works.old) }
     ensures state { IfOk result (λ f. (r : Run Given) → Acts same end (cores.state_of works.old.core) r → (state_of works.new ≡ followed r (state_of works.old)) × (f.faulted ≡ is_err r.1)) }
     ensures added { IfOk result (λ f. (r : Run Given) → Acts same end (cores.state_of works.old.core) r → f.added ≡ has_additions r.0.changes) }
+    ensures grown { OnOk result (length works.old.core.store ≤ length works.new.core.store) }
     ensures whole { OnOk result (IsWhole works.new) }
     ensures scopes { OnOk result (works.new.core.scopes ≡ works.old.core.scopes) }
     ensures linked { OnOk result ((state_of works.new).instances ≡ (state_of works.old).instances) }

@@ -18,8 +18,8 @@
 //! alone apart, and `IsWhole` of `specs/Whole.antt` holds of the works after it as before.
 //!
 //! In reading order: `changing` does what programs leave for the watchers, `following` hands a fault over before that, `programs` runs a
-//! program on a scope, `linking` links a fragment, `listening` runs the program of a declared watch, `blocks` has the fire of a block's site, `firing`
-//! every fire, `tasks` the tasks, `settling` what comes last.
+//! program on a scope, `linking` links a fragment, `listening` runs the program of a declared watch; `tracking`, `rows` and `repeats` have
+//! the fire of a repeat's site, `blocks` that of every block's, and `firing` every fire; `tasks` has the tasks, `settling` what comes last.
 //!
 //! Not here: which watcher is tested when (`ng_digest`, `ng_page`), what a program does (`ng_act`), and how nodes and watchers
 //! hang together (`ng_link`).
@@ -32,5 +32,8 @@ pub mod following;
 pub mod linking;
 mod listening;
 pub mod programs;
+mod repeats;
+mod rows;
 pub mod settling;
 pub mod tasks;
+mod tracking;

@@ -1,5 +1,5 @@
 //! A fragment is linked: its steps are done in link order, and then it stands.
-ghost use Rattle.std.specs.Prelude.{◌≡◌, ◌<◌, ◌-◌, length, map, is_ok, Ok, Some, true, IfErr, IfOk, IsSome, OnOk};
+ghost use Rattle.std.specs.Prelude.{◌≡◌, ◌<◌, ◌≤◌, ◌-◌, length, map, is_ok, Ok, Some, true, IfErr, IfOk, IsSome, OnOk};
 ghost use Rattle.ng_core.specs.State.{with_serial};
 ghost use Rattle.ng_base.specs.Faults.{is_memory};
 ghost use Rattle.ng_behaviour.specs.Scopes.{path_at};
@@ -52,6 +52,7 @@ fn start(works: &mut Works, alloc: Global, scope: ScopeId, p: &Program) -> Resul
     requires scope { scope.0 < length works.old.core.scopes }
     ensures state { OnOk result (state_of works.new ≡ followed (program_run scope.0 (program p.now) (state_of works.old).core) (state_of works.old)) }
     ensures added { IfOk result (λ a. a ≡ adds (program_run scope.0 (program p.now) (state_of works.old).core)) }
+    ensures grown { OnOk result (length works.old.core.store ≤ length works.new.core.store) }
     ensures whole { OnOk result (IsWhole works.new) }
     ensures scopes { OnOk result (length works.new.core.scopes ≡ length works.old.core.scopes) }
     ensures templates { templates_of works.new ≡ templates_of works.old }
@@ -66,6 +67,7 @@ fn register(works: &mut Works) -> Result<u64, Memory>
     requires whole { IsWhole works.old }
     ensures state { OnOk result (state_of works.new ≡ with_core (with_serial (state_of works.old).core) (state_of works.old)) }
     ensures number { IfOk result (λ n. n ≡ (state_of works.old).core.serial) }
+    ensures grown { length works.old.core.store ≤ length works.new.core.store }
     ensures whole { OnOk result (IsWhole works.new) }
     ensures scopes { works.new.core.scopes ≡ works.old.core.scopes }
     ensures templates { templates_of works.new ≡ templates_of works.old }
@@ -89,6 +91,7 @@ fn link_step(
     requires whole { IsWhole works.old }
     requires scope { scope.0 < length works.old.core.scopes }
     ensures step { OnOk result (linking works.new done.new.serials done.new.added ≡ step_linked scope.0 (step_of step.now) (linking works.old done.old.serials done.old.added)) }
+    ensures grown { OnOk result (length works.old.core.store ≤ length works.new.core.store) }
     ensures whole { OnOk result (IsWhole works.new) }
     ensures scopes { OnOk result (length works.new.core.scopes ≡ length works.old.core.scopes) }
     ensures templates { templates_of works.new ≡ templates_of works.old }
@@ -118,6 +121,7 @@ fn link_steps(
     requires whole { IsWhole works.old }
     requires scope { scope.0 < length works.old.core.scopes }
     ensures steps { IfOk result (λ d. linking works.new d.serials d.added ≡ steps_linked scope.0 (map step_of order.now) (begins_linking (state_of works.old))) }
+    ensures grown { OnOk result (length works.old.core.store ≤ length works.new.core.store) }
     ensures whole { OnOk result (IsWhole works.new) }
     ensures scopes { OnOk result (length works.new.core.scopes ≡ length works.old.core.scopes) }
     ensures templates { templates_of works.new ≡ templates_of works.old }
@@ -153,6 +157,7 @@ fn rest_on_dead(works: &mut Works, scope: ScopeId) -> Result<(), Memory>
     requires whole { IsWhole works.old }
     requires scope { scope.0 < length works.old.core.scopes }
     ensures state { OnOk result (state_of works.new ≡ rested_on scope.0 (state_of works.old)) }
+    ensures grown { OnOk result (length works.old.core.store ≤ length works.new.core.store) }
     ensures whole { OnOk result (IsWhole works.new) }
     ensures templates { templates_of works.new ≡ templates_of works.old }
 {
@@ -191,6 +196,7 @@ pub fn link_at(
     requires scope { scope.0 < length works.old.core.scopes }
     requires free { IsFree (place_of place.now) (path_at works.old.core.scopes scope.0) (state_of works.old) }
     ensures linked { IfOk result (λ b. (f : Fragment) → fragment_in (templates_of works.old) t.0 n ≡ Some f → (state_of works.new ≡ (linked_at_place (place_of place.now) (t.0, n) scope.0 f (state_of works.old)).state) × (b.added ≡ (linked_at_place (place_of place.now) (t.0, n) scope.0 f (state_of works.old)).added) × (b.room ≡ is_ok (linked (live_nodes (state_of works.old)) f.parts))) }
+    ensures grown { OnOk result (length works.old.core.store ≤ length works.new.core.store) }
     ensures whole { OnOk result (IsWhole works.new) }
     ensures templates { templates_of works.new ≡ templates_of works.old }
 {

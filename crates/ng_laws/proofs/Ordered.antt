@@ -10,11 +10,11 @@ use Rattle.ng_base.specs.declared.fault.Fault.{Fault}
 use Rattle.ng_base.specs.declared.path.Key.{Key}
 use Rattle.ng_drawing.specs.Template.{Template}
 use Rattle.ng_fire.proofs.Ordered.{InKeys, IsOrdered, either, changed_ordered, followed_ordered, link_ordered, site_ordered}
-use Rattle.ng_fire.specs.Blocks.{site_fired}
 use Rattle.ng_fire.specs.Fires.{fired as fires, fire_of_site, fire_run, fired_by}
 use Rattle.ng_fire.specs.Links.{link_at}
 use Rattle.ng_fire.specs.Runs.{task_run, without_task, ran_of, program_run, destroyed}
 use Rattle.ng_fire.specs.Settling as settling
+use Rattle.ng_fire.specs.SiteFires.{site_fired}
 use Rattle.ng_link.specs.Calls.{blank, with_core, keeping_at, unset_at, ended_at, is_drawn, at_top}
 use Rattle.ng_link.specs.Instances.{is_site}
 use Rattle.ng_link.proofs.Sorted.{none_in_order, filter_sorted}

@@ -1,11 +1,11 @@
 -- Bodies that come and go in an outlet, by their places.
-use Rattle.std.proofs.Common.{◌≡◌, ◌+◌, ◌<◌, ◌≤◌, ℕ, zero, suc, Bool, true, false, cond, List, [], ◌∷◌, ◌++◌, Option, Some, refl, ap, ◌∙◌, sym, map, length, slice_get, arith}
+use Rattle.std.proofs.Common.{◌≡◌, ◌+◌, ◌<◌, ◌≤◌, ℕ, zero, suc, Bool, true, false, cond, List, [], ◌∷◌, Option, Some, refl, ap, ◌∙◌, sym, map, slice_get, arith}
 use Rattle.std.specs.Prelude.{not}
 use Rattle.std.specs.List.{AllByRecursion, filter}
 use Rattle.ng_base.specs.declared.path.Key.{Key}
 use Rattle.ng_dom.specs.Drawing.{Look, Source, Stand, Stands, Bodies, text_stands, comment_stands, element_stands, block_stands, none_stand, stand_then, no_bodies, body_then, show, shows, show_bodies, HomedAll, HomedBodies, at_block, at_block_all}
 use Rattle.ng_dom.specs.Editing.{group_inserted, group_removed}
-use Rattle.ng_dom.specs.Lists.{list_at}
+use Rattle.ng_dom.specs.Lists.{put_at, list_at}
 use Rattle.ng_dom.specs.Nodes.{group_then, name_of, names_of, group_names}
 use Rattle.ng_dom.specs.Removal.{group_emptied}
 use Rattle.ng_link.specs.Instances.{Body, OutletState, is_path, read_bodies, bodies_from, groups_from, body_added, body_gone}
@@ -75,76 +75,71 @@ module _ (home : ℕ → Option Source) where
   homed_cut zero (body_then us bs) h = h.1
   homed_cut (suc i) (body_then us bs) h = (h.0, homed_cut i bs h.1)
 
-from_push : (xs : List Stands) (ts : Stands) → bodies_from (xs ++ ts ∷ []) ≡ bodies_put (length xs) ts (bodies_from xs)
-from_push [] ts = refl
-from_push (x ∷ xs) ts = ap (body_then x) (from_push xs ts)
+from_put : (i : ℕ) (ts : Stands) (xs : List Stands) → bodies_from (put_at i ts xs) ≡ bodies_put i ts (bodies_from xs)
+from_put zero ts xs = refl
+from_put (suc i) ts [] = refl
+from_put (suc i) ts (x ∷ xs) = ap (body_then x) (from_put i ts xs)
 
--- a body more in an outlet
+-- a body more in an outlet, before the i-th
 module _ (go : List ℕ → Stands) (b : Body) where
-  paths_push : (bs : List Body) → map (λ (c : Body). go c.path) (bs ++ b ∷ []) ≡ map (λ (c : Body). go c.path) bs ++ go b.path ∷ []
-  paths_push [] = refl
-  paths_push (c ∷ bs) = ap (λ (xs : List Stands). go c.path ∷ xs) (paths_push bs)
+  paths_put : (i : ℕ) (bs : List Body) → map (λ (c : Body). go c.path) (put_at i b bs) ≡ put_at i (go b.path) (map (λ (c : Body). go c.path) bs)
+  paths_put zero bs = refl
+  paths_put (suc i) [] = refl
+  paths_put (suc i) (c ∷ bs) = ap (λ (xs : List Stands). go c.path ∷ xs) (paths_put i bs)
 
-  length_paths : (bs : List Body) → length (map (λ (c : Body). go c.path) bs) ≡ length bs
-  length_paths [] = refl
-  length_paths (c ∷ bs) = ap suc (length_paths bs)
+  pub added_groups : (os : List OutletState) (o i : ℕ) (x : OutletState) → slice_get os o ≡ Some x
+      → groups_from (read_bodies go (body_added o i b os)) o ≡ bodies_put i (go b.path) (groups_from (read_bodies go os) o)
+  added_groups [] o i x e = absurd (cc)
+  added_groups (y ∷ ys) zero i x e = ap bodies_from (paths_put i y.bodies) ∙ from_put i (go b.path) (map (λ (c : Body). go c.path) y.bodies)
+  added_groups (y ∷ ys) (suc o) i x e = added_groups ys o i x e
 
-  pub added_groups : (os : List OutletState) (o : ℕ) (x : OutletState) → slice_get os o ≡ Some x
-      → groups_from (read_bodies go (body_added o b os)) o ≡ bodies_put (length x.bodies) (go b.path) (groups_from (read_bodies go os) o)
-  added_groups [] o x e = absurd (cc)
-  added_groups (y ∷ ys) zero x e =
-      let same : y ≡ x = cc in
-      ap bodies_from (paths_push y.bodies)
-      ∙ (from_push (map (λ (c : Body). go c.path) y.bodies) (go b.path)
-      ∙ (ap (λ (n : ℕ). bodies_put n (go b.path) (bodies_from (map (λ (c : Body). go c.path) y.bodies))) (length_paths y.bodies)
-      ∙ ap (λ (z : OutletState). bodies_put (length z.bodies) (go b.path) (bodies_from (map (λ (c : Body). go c.path) y.bodies))) same))
-  added_groups (y ∷ ys) (suc o) x e = added_groups ys o x e
+  pub added_others : (os : List OutletState) (o i n : ℕ) → (n ≡ o → ⊥) → groups_from (read_bodies go (body_added o i b os)) n ≡ groups_from (read_bodies go os) n
+  added_others [] o i n ne = refl
+  added_others (y ∷ ys) zero i zero ne = absurd (ne refl)
+  added_others (y ∷ ys) zero i (suc n) ne = refl
+  added_others (y ∷ ys) (suc o) i zero ne = refl
+  added_others (y ∷ ys) (suc o) i (suc n) ne = added_others ys o i n (λ e. ne (ap suc e))
 
-  pub added_others : (os : List OutletState) (o i : ℕ) → (i ≡ o → ⊥) → groups_from (read_bodies go (body_added o b os)) i ≡ groups_from (read_bodies go os) i
-  added_others [] o i ne = refl
-  added_others (y ∷ ys) zero zero ne = absurd (ne refl)
-  added_others (y ∷ ys) zero (suc i) ne = refl
-  added_others (y ∷ ys) (suc o) zero ne = refl
-  added_others (y ∷ ys) (suc o) (suc i) ne = added_others ys o i (λ e. ne (ap suc e))
+pub added_anchors : (b : Body) (os : List OutletState) (o i : ℕ) → map (λ (x : OutletState). x.anchor) (body_added o i b os) ≡ map (λ (x : OutletState). x.anchor) os
+added_anchors b [] o i = refl
+added_anchors b (y ∷ ys) zero i = refl
+added_anchors b (y ∷ ys) (suc o) i = ap (λ (ns : List ℕ). y.anchor ∷ ns) (added_anchors b ys o i)
 
-pub added_anchors : (b : Body) (os : List OutletState) (o : ℕ) → map (λ (x : OutletState). x.anchor) (body_added o b os) ≡ map (λ (x : OutletState). x.anchor) os
-added_anchors b [] o = refl
-added_anchors b (y ∷ ys) zero = refl
-added_anchors b (y ∷ ys) (suc o) = ap (λ (ns : List ℕ). y.anchor ∷ ns) (added_anchors b ys o)
+pub added_undrawn : (serials : List ℕ) (ps : Parts) (b : Body) (os : List OutletState) (o i : ℕ) → AreUndrawn serials ps os → AreUndrawn serials ps (body_added o i b os)
+added_undrawn serials ps b [] o i all = tt
+added_undrawn serials ps b (y ∷ ys) zero i all = all
+added_undrawn serials ps b (y ∷ ys) (suc o) i all = (all.0, added_undrawn serials ps b ys o i all.1)
 
-pub added_undrawn : (serials : List ℕ) (ps : Parts) (b : Body) (os : List OutletState) (o : ℕ) → AreUndrawn serials ps os → AreUndrawn serials ps (body_added o b os)
-added_undrawn serials ps b [] o all = tt
-added_undrawn serials ps b (y ∷ ys) zero all = all
-added_undrawn serials ps b (y ∷ ys) (suc o) all = (all.0, added_undrawn serials ps b ys o all.1)
+put_in : (p : List ℕ) (b : Body) → IsIn p b → (i : ℕ) (bs : List Body) → AllByRecursion (IsIn p) bs → AllByRecursion (IsIn p) (put_at i b bs)
+put_in p b has zero bs all = (has, all)
+put_in p b has (suc i) [] all = (has, tt)
+put_in p b has (suc i) (c ∷ bs) all = (all.0, put_in p b has i bs all.1)
 
-pushed_in : (p : List ℕ) (b : Body) → IsIn p b → (bs : List Body) → AllByRecursion (IsIn p) bs → AllByRecursion (IsIn p) (bs ++ b ∷ [])
-pushed_in p b i [] all = (i, tt)
-pushed_in p b i (c ∷ bs) all = (all.0, pushed_in p b i bs all.1)
-
-pub added_in : (p : List ℕ) (b : Body) → IsIn p b → (os : List OutletState) (o : ℕ) → AreIn p os → AreIn p (body_added o b os)
-added_in p b i [] o all = tt
-added_in p b i (y ∷ ys) zero all = (pushed_in p b i y.bodies all.0, all.1)
-added_in p b i (y ∷ ys) (suc o) all = (all.0, added_in p b i ys o all.1)
+pub added_in : (p : List ℕ) (b : Body) → IsIn p b → (os : List OutletState) (o i : ℕ) → AreIn p os → AreIn p (body_added o i b os)
+added_in p b has [] o i all = tt
+added_in p b has (y ∷ ys) zero i all = (put_in p b has i y.bodies all.0, all.1)
+added_in p b has (y ∷ ys) (suc o) i all = (all.0, added_in p b has ys o i all.1)
 
 -- it is counted
-pushed_count : (q : List ℕ) (b : Body) (bs : List Body) → body_count q (bs ++ b ∷ []) ≡ body_count q bs + cond {A = ℕ} (is_path q b.path) 1 0
-pushed_count q b [] = omega arith
-pushed_count q b (c ∷ bs) = omega (arith, pushed_count q b bs)
+put_count : (q : List ℕ) (b : Body) (i : ℕ) (bs : List Body) → body_count q (put_at i b bs) ≡ body_count q bs + cond {A = ℕ} (is_path q b.path) 1 0
+put_count q b zero bs = omega arith
+put_count q b (suc i) [] = omega arith
+put_count q b (suc i) (c ∷ bs) = omega (arith, put_count q b i bs)
 
-pub added_count : (q : List ℕ) (b : Body) (os : List OutletState) (o : ℕ) → held_count q (body_added o b os) ≤ held_count q os + cond {A = ℕ} (is_path q b.path) 1 0
-added_count q b [] o = omega arith
-added_count q b (y ∷ ys) zero = omega (arith, pushed_count q b y.bodies)
-added_count q b (y ∷ ys) (suc o) = omega (arith, added_count q b ys o)
+pub added_count : (q : List ℕ) (b : Body) (os : List OutletState) (o i : ℕ) → held_count q (body_added o i b os) ≤ held_count q os + cond {A = ℕ} (is_path q b.path) 1 0
+added_count q b [] o i = omega arith
+added_count q b (y ∷ ys) zero i = omega (arith, put_count q b i y.bodies)
+added_count q b (y ∷ ys) (suc o) i = omega (arith, added_count q b ys o i)
 
-pub added_more : (q : List ℕ) (b : Body) (os : List OutletState) (o : ℕ) → held_count q os ≤ held_count q (body_added o b os)
-added_more q b [] o = omega arith
-added_more q b (y ∷ ys) zero = omega (arith, pushed_count q b y.bodies)
-added_more q b (y ∷ ys) (suc o) = omega (arith, added_more q b ys o)
+pub added_more : (q : List ℕ) (b : Body) (os : List OutletState) (o i : ℕ) → held_count q os ≤ held_count q (body_added o i b os)
+added_more q b [] o i = omega arith
+added_more q b (y ∷ ys) zero i = omega (arith, put_count q b i y.bodies)
+added_more q b (y ∷ ys) (suc o) i = omega (arith, added_more q b ys o i)
 
-pub added_there : (b : Body) (os : List OutletState) (o : ℕ) (x : OutletState) → slice_get os o ≡ Some x → 0 < held_count b.path (body_added o b os)
-added_there b [] o x e = absurd (cc)
-added_there b (y ∷ ys) zero x e = let here : cond {A = ℕ} (is_path b.path b.path) 1 0 ≡ 1 = ap (λ (t : Bool). cond {A = ℕ} t 1 0) (is_that b.path b.path refl) in omega (arith, pushed_count b.path b y.bodies, here)
-added_there b (y ∷ ys) (suc o) x e = omega (arith, added_there b ys o x e)
+pub added_there : (b : Body) (os : List OutletState) (o i : ℕ) (x : OutletState) → slice_get os o ≡ Some x → 0 < held_count b.path (body_added o i b os)
+added_there b [] o i x e = absurd (cc)
+added_there b (y ∷ ys) zero i x e = let here : cond {A = ℕ} (is_path b.path b.path) 1 0 ≡ 1 = ap (λ (t : Bool). cond {A = ℕ} t 1 0) (is_that b.path b.path refl) in omega (arith, put_count b.path b i y.bodies, here)
+added_there b (y ∷ ys) (suc o) i x e = omega (arith, added_there b ys o i x e)
 
 -- a body is gone
 module _ (p : List ℕ) where

@@ -11,6 +11,7 @@ use Rattle.ng_dom.specs.Drawing.{Look, Stands, Bodies, none_stand, no_bodies, sh
 use Rattle.ng_dom.specs.Editing.{changed_in, with_groups, group_inserted}
 use Rattle.ng_dom.specs.declared.dom.Dom.{Dom}
 use Rattle.ng_drawing.specs.Nodes.{nodes}
+use Rattle.ng_drawing.specs.Roles.{Role}
 use Rattle.ng_link.specs.Building.{unset, Builds}
 use Rattle.ng_link.specs.Instances.{Body, OutletState, Linked, Instances, is_path, linked_at, keys_of, read_bodies, groups_from, stands_join, stands_at, outlets_changed, body_added, with_instance}
 use Rattle.ng_link.specs.Shape.{unfilled}
@@ -45,30 +46,30 @@ bare_count q (y ∷ ys) all = let first : body_count q y.bodies ≡ 0 = ap (body
 pub bare_joined : (go : List ℕ → Stands) (l : Linked) → AreBare l.page.outlets → stands_join l (read_bodies go l.page.outlets) ≡ new_stands l
 bare_joined go l bare = same_shape (keys_of l.page) l.page.node (groups_from (read_bodies go l.page.outlets)) unfilled l.fragment.parts (bare_groups go l.page.outlets bare)
 
-module _ (places same_places : Key → Option ℕ) (looks same : Key → Look) (d e g : Dom) (is : Instances) (ts : Stands) (holder : List ℕ) (n o : ℕ) (m : Linked) (x : OutletState) (l : Linked)
+module _ (places same_places : Key → Option ℕ) (looks same : Key → Look) (d e g : Dom) (is : Instances) (ts : Stands) (holder : List ℕ) (n o i : ℕ) (role : Role) (m : Linked) (x : OutletState) (l : Linked)
     (b : IsBuilt places looks d is ts) (found : linked_at holder is ≡ Some m) (at : slice_get m.page.outlets o ≡ Some x) (free : linked_at (holder ++ n ∷ []) is ≡ None)
     (node : l.page.node ≡ next_name d) (bare : AreBare l.page.outlets) (placed : IsPlaced same_places (next_name g) (holder ++ n ∷ []) l)
     (old : (k : Key) → is_path (holder ++ n ∷ []) k.path ≡ false → same_places k ≡ places k) (alike : (k : Key) (q : ℕ) → places k ≡ Some q → looks k ≡ same k)
     (fresh : (k : Key) → is_path (holder ++ n ∷ []) k.path ≡ true → IsSome (same_places k) → unset k ≡ same k)
     (builds : Builds (Some x.anchor) (new_stands l) (nodes l.fragment.parts) d e)
-    (put : Becomes e g (changed_in x.anchor (with_groups (group_inserted (length x.bodies) (shows unset (new_stands l)))))) (stays : Stays e g) where
+    (put : Becomes e g (changed_in x.anchor (with_groups (group_inserted i (shows unset (new_stands l)))))) (stays : Stays e g) where
   abbrev p : List ℕ
   p = holder ++ n ∷ []
 
   abbrev one : Body
-  one = record { path = p }
+  one = record { path = p; role = role }
 
   abbrev come_first : Instances
   come_first = with_instance p l is
 
   abbrev then_linked : Instances
-  then_linked = outlets_changed holder (body_added o one) come_first
+  then_linked = outlets_changed holder (body_added o i one) come_first
 
   abbrev bs : Bodies
   bs = groups_from (read_bodies (stands_at is) m.page.outlets) o
 
   abbrev h : Bodies → Bodies
-  h = bodies_put (length x.bodies) (new_stands l)
+  h = bodies_put i (new_stands l)
 
   block : BlockAmong x.anchor bs ts
   block = subst (λ (s : Stands). BlockAmong x.anchor bs s) (sym b.stands) (block_at places (next_name d) is b.ordered b.each b.bodies holder m o x found at)
@@ -83,13 +84,13 @@ module _ (places same_places : Key → Option ℕ) (looks same : Key → Look) (
   apart = all_weaker (λ (y : List ℕ × Linked). IsPlaced places (next_name d) y.0 y.1) (λ (y : List ℕ × Linked). Apart l y.1) (λ y at_y. let to = at_y.end in inr (omega (arith, to, node))) is b.each
 
   each : ArePlaced same_places (next_name g) come_first
-  each = come_placed holder n o m x l is b.ordered b.bodies found at free places same_places (next_name d) (next_name g) b.each old (omega (arith, end)) placed
+  each = come_placed holder n o i role m x l is b.ordered b.bodies found at free places same_places (next_name d) (next_name g) b.each old (omega (arith, end)) placed
 
   ordered : IsStrictlySortedBy path_cmp (map_keys come_first)
-  ordered = come_ordered holder n o m x l is b.ordered b.bodies found at free
+  ordered = come_ordered holder n o i role m x l is b.ordered b.bodies found at free
 
   all_apart : AreApart come_first
-  all_apart = come_apart holder n o m x l is b.ordered b.bodies found at free apart b.apart
+  all_apart = come_apart holder n o i role m x l is b.ordered b.bodies found at free apart b.apart
 
   -- the body itself
   new_read : stands_at come_first p ≡ new_stands l
@@ -100,7 +101,7 @@ module _ (places same_places : Key → Option ℕ) (looks same : Key → Look) (
   -- what stood is read as before
   old_read : stands_at come_first [] ≡ ts
   old_read =
-      read_inserted none_stand stands_join p l is free (none_has holder n o m x l is b.ordered b.bodies found at free) []
+      read_inserted none_stand stands_join p l is free (none_has holder n o i role m x l is b.ordered b.bodies found at free) []
       (other_path [] p (λ e. let many : 0 ≡ length p = ap (λ (r : List ℕ). length r) e in omega (arith, many, length-append holder (n ∷ []))))
       ∙ sym b.stands
 
@@ -110,13 +111,13 @@ module _ (places same_places : Key → Option ℕ) (looks same : Key → Look) (
   then_read : at_block_all x.anchor h ts ≡ stands_at then_linked []
   then_read =
       ap (at_block_all x.anchor h) (sym old_read)
-      ∙ sym (bodies_changed same_places (next_name g) come_first holder m o x.anchor (body_added o one) h ordered each all_apart
-      (come_holder holder n o m x l is b.ordered b.bodies found at free)
+      ∙ sym (bodies_changed same_places (next_name g) come_first holder m o x.anchor (body_added o i one) h ordered each all_apart
+      (come_holder holder n o i role m x l is b.ordered b.bodies found at free)
       (outlet_anchor places (next_name d) holder m o x placed_holder at)
-      (added_in holder one (n, refl) m.page.outlets o placed_holder.bodies) (
-        added_groups (stands_at come_first) one m.page.outlets o x at
-            ∙ ap (λ (s : Stands). bodies_put (length x.bodies) s (groups_from (read_bodies (stands_at come_first) m.page.outlets) o)) new_read,
-        λ i ne. added_others (stands_at come_first) one m.page.outlets o i ne,
+      (added_in holder one (n, refl) m.page.outlets o i placed_holder.bodies) (
+        added_groups (stands_at come_first) one m.page.outlets o i x at
+            ∙ ap (λ (s : Stands). bodies_put i s (groups_from (read_bodies (stands_at come_first) m.page.outlets) o)) new_read,
+        λ k ne. added_others (stands_at come_first) one m.page.outlets o i k ne,
       ) [])
 
   homed : HomedAll (sources e) (new_stands l)
@@ -127,11 +128,11 @@ module _ (places same_places : Key → Option ℕ) (looks same : Key → Look) (
 
   pub built_more : IsBuilt same_places same g then_linked (at_block_all x.anchor h ts)
   built_more = record {
-    holds = added_holds places looks same d e g is ts (new_stands l) x.anchor (length x.bodies) bs b alike block (nodes l.fragment.parts) names starts builds put stays;
+    holds = added_holds places looks same d e g is ts (new_stands l) x.anchor i bs b alike block (nodes l.fragment.parts) names starts builds put stays;
     stands = then_read;
-    homed = added_homed places looks same d e g is ts (new_stands l) x.anchor (length x.bodies) bs b alike block (nodes l.fragment.parts) names starts builds put stays;
-    ordered = grown_ordered holder n o m x l is b.ordered b.bodies found at free;
-    each = grown_placed holder n o m x l is b.ordered b.bodies found at free places same_places (next_name d) (next_name g) b.each old (omega (arith, end)) placed;
-    apart = grown_apart holder n o m x l is b.ordered b.bodies found at free apart b.apart;
-    bodies = grown_held holder n o m x l is b.ordered b.bodies found at free (λ q. bare_count q l.page.outlets bare);
+    homed = added_homed places looks same d e g is ts (new_stands l) x.anchor i bs b alike block (nodes l.fragment.parts) names starts builds put stays;
+    ordered = grown_ordered holder n o i role m x l is b.ordered b.bodies found at free;
+    each = grown_placed holder n o i role m x l is b.ordered b.bodies found at free places same_places (next_name d) (next_name g) b.each old (omega (arith, end)) placed;
+    apart = grown_apart holder n o i role m x l is b.ordered b.bodies found at free apart b.apart;
+    bodies = grown_held holder n o i role m x l is b.ordered b.bodies found at free (λ q. bare_count q l.page.outlets bare);
   }

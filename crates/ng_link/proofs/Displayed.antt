@@ -22,11 +22,11 @@ use Rattle.ng_drawing.specs.Nodes.{forest_count}
 use Rattle.ng_drawing.specs.Template.{Piece, word, hole, Hiding, while_true, while_false, PartClass, PartValue, always, unless_empty, flag, classes, PartAttributes, Part, Contents, Parts, text_part, comment_part, element_part, anchor_part, children, bound, no_parts, part_then}
 use Rattle.ng_watch.specs.Table.{Table}
 use Rattle.ng_link.specs.Holes.{PiecesBelow, SitesBelow, HidingsBelow, ClassBelow, ValueBelow, ValuesBelow, PartBelow, ContentsBelow, HolesBelow}
-use Rattle.ng_link.specs.Instances.{Page, Linked, Instances, keys_of, bodies_from, groups_from, stands_join, stands_at}
+use Rattle.ng_link.specs.Instances.{OutletState, Page, Linked, Instances, keys_of, bodies_from, groups_from, stands_join, stands_at}
 use Rattle.ng_link.specs.Laws.{PageDisplaysInstance, PageHasItsNames}
 use Rattle.ng_link.specs.Shape.{key_on}
 use Rattle.ng_link.specs.Standing.{IsPlaced, ArePlaced, Standing}
-use Rattle.ng_link.specs.State.{State, Resting, look_of, kept_in, looks_in, site_state, site_states, nothing_linked, instance_join, instance_at, shown, live_nodes, places_of, state_of}
+use Rattle.ng_link.specs.State.{State, Resting, look_of, kept_in, looks_in, site_state, site_states, nothing_linked, groups_in, instance_join, instance_at, shown, live_nodes, places_of, state_of}
 use Rattle.ng_link.specs.declared.works.Works.{Works}
 use Rattle.ng_link.proofs.Below.{all_below}
 use Rattle.ng_link.proofs.ReadAlike.{Alike, read_alike}
@@ -114,21 +114,23 @@ module _ (t : Table) (r : Resting) (places : Key → Option ℕ) (next : ℕ) wh
       ap (λ (f : Forest). named.followed_by f (plain_groups (show_bodies seen (bodies_from tss)))) h.0
       ∙ (ap (λ (f : Forest). named.followed_by (instances.shown i) f) (bodies_drawn tss is h.1) ∙ same_followed (instances.shown i) (instances.shown_all (instances_from is)))
 
-  groups_drawn : (tsss : List (List Stands)) (iss : List (List Instance)) → Alike (Alike IsDrawn) tsss iss → (o : ℕ)
-      → plain_groups (show_bodies seen (groups_from tsss o)) ≡ slice_index_or (instances.shown_in (outlets_from (map instances_from iss))) o no_nodes
-  groups_drawn [] [] h o = refl
-  groups_drawn [] (is ∷ iss) h o = absurd h
-  groups_drawn (tss ∷ tsss) [] h o = absurd h
-  groups_drawn (tss ∷ tsss) (is ∷ iss) h zero = bodies_drawn tss is h.0
-  groups_drawn (tss ∷ tsss) (is ∷ iss) h (suc o) = groups_drawn tsss iss h.1 o
+  groups_drawn : (os : List OutletState) (tsss : List (List Stands)) (iss : List (List Instance)) → Alike (Alike IsDrawn) tsss iss → (o : ℕ)
+      → plain_groups (show_bodies seen (groups_from tsss o)) ≡ slice_index_or (instances.shown_in (outlets_from (groups_in os (map instances_from iss)))) o no_nodes
+  groups_drawn os [] [] h o = refl
+  groups_drawn os [] (is ∷ iss) h o = absurd h
+  groups_drawn os (tss ∷ tsss) [] h o = absurd h
+  groups_drawn [] (tss ∷ tsss) (is ∷ iss) h zero = bodies_drawn tss is h.0
+  groups_drawn [] (tss ∷ tsss) (is ∷ iss) h (suc o) = groups_drawn [] tsss iss h.1 o
+  groups_drawn (x ∷ os) (tss ∷ tsss) (is ∷ iss) h zero = bodies_drawn tss is h.0
+  groups_drawn (x ∷ os) (tss ∷ tsss) (is ∷ iss) h (suc o) = groups_drawn os tsss iss h.1 o
 
   joins_drawn : (p : List ℕ) (l : Linked) (tsss : List (List Stands)) (iss : List (List Instance)) → IsPlaced places next p l → Alike (Alike IsDrawn) tsss iss → IsDrawn (stands_join l tsss) (instance_join t r l iss)
   joins_drawn p l tsss iss placed h =
       let parts = l.fragment.parts in
       shape_draws (keys_of l.page) (kept_in t r) (groups_from tsss) l.page.node parts
       ∙ same_parts (λ n. kept_in t r (keys_of l.page n)) (kept_by (site_states t r l.page)) (λ o. plain_groups (show_bodies seen (groups_from tsss o)))
-      (λ o. slice_index_or (instances.shown_in (outlets_from (map instances_from iss))) o no_nodes) (length l.fragment.sites)
-      (λ n lt. sym (ap state_kept (state_at t r l.page n (let count = placed.count in omega (arith, lt, count))))) (groups_drawn tsss iss h) parts
+      (λ o. slice_index_or (instances.shown_in (outlets_from (groups_in l.page.outlets (map instances_from iss)))) o no_nodes) (length l.fragment.sites)
+      (λ n lt. sym (ap state_kept (state_at t r l.page n (let count = placed.count in omega (arith, lt, count))))) (groups_drawn l.page.outlets tsss iss h) parts
       (all_below (length l.fragment.sites) parts placed.numbered)
 
   read_drawn : (is : Instances) → ArePlaced places next is → (p : List ℕ) → plain (shows seen (stands_at is p)) ≡ instances.shown (instance_at t r is p)

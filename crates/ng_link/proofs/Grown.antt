@@ -9,6 +9,7 @@ use Rattle.std.proofs.lemmas.Map.Keys.{sorted_head, sorted_tail}
 use Rattle.ng_base.specs.Order.{path_cmp, path_cmp_total}
 use Rattle.ng_base.specs.declared.path.Key.{Key}
 use Rattle.ng_link.specs.Building.{AllAt}
+use Rattle.ng_drawing.specs.Roles.{Role}
 use Rattle.ng_link.specs.Instances.{Body, OutletState, Linked, Instances, is_path, linked_at, keys_of, with_outlets, outlets_changed, body_added, with_instance}
 use Rattle.ng_link.specs.Shape.{holes}
 use Rattle.ng_link.specs.Standing.{IsPlaced, ArePlaced, Apart, AreApart, IsHeldIn, AreHeld, held_count}
@@ -95,17 +96,17 @@ none_holds p is ordered held free =
     by_count x at zero e = e
     by_count x at (suc c) e = absurd (no_some (linked_at p is) free (held.linked x.0 p (x.1, at, omega (arith, e))))
 
-module _ (holder : List ℕ) (n o : ℕ) (m : Linked) (x : OutletState) (l : Linked) (is : Instances)
+module _ (holder : List ℕ) (n o i : ℕ) (role : Role) (m : Linked) (x : OutletState) (l : Linked) (is : Instances)
     (ordered : IsStrictlySortedBy path_cmp (map_keys is)) (held : AreHeld is) (found : linked_at holder is ≡ Some m) (at : slice_get m.page.outlets o ≡ Some x)
     (free : linked_at (holder ++ n ∷ []) is ≡ None) where
   abbrev pub path : List ℕ
   path = holder ++ n ∷ []
 
   abbrev pub body : Body
-  body = record { path = path }
+  body = record { path = path; role = role }
 
   abbrev pub more : List OutletState → List OutletState
-  more os = body_added o body os
+  more os = body_added o i body os
 
   abbrev pub come : Instances
   come = with_instance path l is
@@ -158,7 +159,7 @@ module _ (holder : List ℕ) (n o : ℕ) (m : Linked) (x : OutletState) (l : Lin
     one_at_most k none once q = by_test (is_path q path) refl
       where
         count : held_count q (more k.page.outlets) ≤ held_count q k.page.outlets + cond {A = ℕ} (is_path q path) 1 0
-        count = added_count q body k.page.outlets o
+        count = added_count q body k.page.outlets o i
 
         by_test : (b : Bool) → is_path q path ≡ b → held_count q (more k.page.outlets) ≤ 1
         by_test true is =
@@ -182,10 +183,10 @@ module _ (holder : List ℕ) (n o : ℕ) (m : Linked) (x : OutletState) (l : Lin
           outlets = p.outlets;
           count = p.count;
           sites = p.sites;
-          anchors = added_anchors body k.page.outlets o ∙ p.anchors;
+          anchors = added_anchors body k.page.outlets o i ∙ p.anchors;
           rising = p.rising;
-          undrawn = added_undrawn k.page.serials k.fragment.parts body k.page.outlets o p.undrawn;
-          bodies = added_in holder body (n, refl) k.page.outlets o p.bodies;
+          undrawn = added_undrawn k.page.serials k.fragment.parts body k.page.outlets o i p.undrawn;
+          bodies = added_in holder body (n, refl) k.page.outlets o i p.bodies;
           once = one_at_most k none p.once;
           end = p.end;
         })
@@ -219,7 +220,7 @@ module _ (holder : List ℕ) (n o : ℕ) (m : Linked) (x : OutletState) (l : Lin
         in_holder : (b : Bool) → is_path q path ≡ b → h ≡ holder → 0 < held_count q (more m.page.outlets) → IsSome (linked_at q grown)
         in_holder true is_it that lt = is_some_of (linked_at q grown) l (ap (λ (r : List ℕ). linked_at r grown) (path_is q path is_it) ∙ grown_new)
         in_holder false off that lt =
-            let count = added_count q body m.page.outlets o in
+            let count = added_count q body m.page.outlets o i in
             let none : cond {A = ℕ} (is_path q path) 1 0 ≡ 0 = ap (λ (b : Bool). cond {A = ℕ} b 1 0) off in
             old_body m (ap (λ (r : List ℕ). linked_at r is) that ∙ found) (omega (arith, count, none, lt))
 
@@ -253,7 +254,7 @@ module _ (holder : List ℕ) (n o : ℕ) (m : Linked) (x : OutletState) (l : Lin
             by_holder true is_it =
                 let two : Some given.1.0 ≡ Some m = sym given.1.1 ∙ (ap (λ (r : List ℕ). linked_at r is) (path_is given.0 holder is_it) ∙ found) in
                 let that : given.1.0 ≡ m = cc in
-                let count = added_more q body m.page.outlets o in
+                let count = added_more q body m.page.outlets o i in
                 let lt : 0 < held_count q m.page.outlets = subst (λ (k : Linked). 0 < held_count q k.page.outlets) that given.1.2 in
                 inr (holder, (with_outlets more m, grown_holder, omega (arith, count, lt)))
             by_holder false off =
@@ -266,7 +267,7 @@ module _ (holder : List ℕ) (n o : ℕ) (m : Linked) (x : OutletState) (l : Lin
 
         by_path : (b : Bool) → is_path q path ≡ b → (q ≡ []) ⊎ HasHolder q
         by_path true is_it =
-            let lt = added_there body m.page.outlets o x at in
+            let lt = added_there body m.page.outlets o i x at in
             inr (holder, (with_outlets more m, grown_holder, subst (λ (r : List ℕ). 0 < held_count r (more m.page.outlets)) (sym (path_is q path is_it)) lt))
         by_path false away = old_holder (held.held q (old_some (is_path q holder) refl away))
 

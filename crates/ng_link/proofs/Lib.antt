@@ -54,3 +54,11 @@ pub mod HeldCut
 pub mod Unlinked
 pub mod Undrawn
 pub mod Forgotten
+pub mod Times
+pub mod Sums
+pub mod PlacesBy
+pub mod AlikeBodies
+pub mod Arranged
+pub mod ArrangedNames
+pub mod BuiltArranged
+pub mod Rearranged

@@ -15,6 +15,7 @@ use Rattle.ng_dom.specs.Drawing.{Stands, HomedAll, shows, at_block_all}
 use Rattle.ng_dom.specs.Editing.{changed_in, with_groups, group_inserted}
 use Rattle.ng_dom.specs.declared.dom.Dom.{Dom}
 use Rattle.ng_drawing.specs.Nodes.{nodes}
+use Rattle.ng_drawing.specs.Roles.{Role}
 use Rattle.ng_drawing.specs.Template.{Site, Outlet, Fragment}
 use Rattle.ng_drawing.specs.declared.kind.SiteKind.TheVariants.{Text}
 use Rattle.ng_language.specs.Trees.{no_trees}
@@ -106,7 +107,7 @@ outlet_found o (Some held) h = by_place (slice_get held.page.outlets o) refl h
 -- where an instance finds its place, nothing is linked on its path
 pub free_path : (place : Place) (p : List ℕ) (s : State) → IsFree place p s → linked_at p s.instances ≡ None
 free_path at_top p s is_free = ap (linked_at p) is_free.0
-free_path (in_outlet holder o) p s is_free = is_free.2
+free_path (in_outlet holder o i role) p s is_free = is_free.2
 
 -- an instance, as its parts in the code are seen
 pub linked_made : (all : List Named) (path serials : List ℕ) (f : Fragment) (one : code.Linked) → fragments_in all one.template.0 one.fragment ≡ f → map_keys one.spots.entries ≡ serials
@@ -282,22 +283,22 @@ module _ (w : Works) (ws : List (Key × Watched)) (d : Dom) (is : BTreeMap (List
       )
 
   -- in an outlet
-  pub outlet_stands : (holder : List ℕ) (n o : ℕ) (held : Linked) (x : OutletState) (e : Dom) → path ≡ holder ++ n ∷ [] → linked_at holder (state_of w).instances ≡ Some held → slice_get held.page.outlets o ≡ Some x
-      → (state_of new).instances ≡ outlets_changed holder (body_added o (record { path = path })) (with_instance path l (state_of w).instances) → m ≡ next_name w.dom
-      → Builds (Some x.anchor) (new_stands l) (nodes f.parts) w.dom e → Becomes e d (changed_in x.anchor (with_groups (group_inserted (length x.bodies) (shows unset (new_stands l))))) → Stays e d
+  pub outlet_stands : (holder : List ℕ) (n o i : ℕ) (role : Role) (held : Linked) (x : OutletState) (e : Dom) → path ≡ holder ++ n ∷ [] → linked_at holder (state_of w).instances ≡ Some held → slice_get held.page.outlets o ≡ Some x
+      → (state_of new).instances ≡ outlets_changed holder (body_added o i (record { path = path; role = role })) (with_instance path l (state_of w).instances) → m ≡ next_name w.dom
+      → Builds (Some x.anchor) (new_stands l) (nodes f.parts) w.dom e → Becomes e d (changed_in x.anchor (with_groups (group_inserted i (shows unset (new_stands l))))) → Stays e d
       → (ts : Stands) → Standing w ts → IsStanding new
-  outlet_stands holder n o held x e is_path_of found_holder at noted node builds put stays ts g =
+  outlet_stands holder n o i role held x e is_path_of found_holder at noted node builds put stays ts g =
       let q : List ℕ = holder ++ n ∷ [] in
       let next : next_name d ≡ next_name w.dom + nodes f.parts = stays.next ∙ builds.next in
       let end : m + nodes f.parts ≤ next_name d = omega (arith, node, next) in
       let is_q : (k : Key) → is_path q k.path ≡ is_path path k.path = λ k. ap (λ (p : List ℕ). is_path p k.path) (sym is_path_of) in
       let more =
-      built_more (places_of w) (places_of new) (looks_in (state_of w)) (looks_in (state_of new)) w.dom e d (state_of w).instances ts holder n o held x l g.built found_holder at
+      built_more (places_of w) (places_of new) (looks_in (state_of w)) (looks_in (state_of new)) w.dom e d (state_of w).instances ts holder n o i role held x l g.built found_holder at
       (ap (λ (p : List ℕ). linked_at p (state_of w).instances) (sym is_path_of) ∙ free) node bare
       (subst (λ (p : List ℕ). IsPlaced (places_of new) (next_name d) p l) is_path_of (placed end)) (λ k off. old k (sym (is_q k) ∙ off)) alike (λ k t some. none_kept k (sym (is_q k) ∙ t) some)
       builds put stays in
-      let then_stands : Stands = at_block_all x.anchor (bodies_put (length x.bodies) (new_stands l)) ts in
-      let G : List ℕ → Instances = λ p. outlets_changed holder (body_added o (record { path = p })) (with_instance p l (state_of w).instances) in
+      let then_stands : Stands = at_block_all x.anchor (bodies_put i (new_stands l)) ts in
+      let G : List ℕ → Instances = λ p. outlets_changed holder (body_added o i (record { path = p; role = role })) (with_instance p l (state_of w).instances) in
       let are : G q ≡ (state_of new).instances = ap G (sym is_path_of) ∙ sym noted in (
         then_stands,
         record {
@@ -313,9 +314,9 @@ module _ (w : Works) (ws : List (Key × Watched)) (d : Dom) (is : BTreeMap (List
   placed_stands at_top is_free noted node stood ts g =
       top_stands is_free.0 is_free.1 noted node (λ q lt. stood.put.1.homes q ∙ stood.builds.homes q lt) (stood.put.1.next ∙ stood.builds.next) stood.put.0
       (homed_more (sources stood.apart) (sources d) (all_stay stood.apart d stood.put.1.homes) (new_stands l) stood.builds.homed) ts g
-  placed_stands (in_outlet holder o) is_free noted node stood ts g =
+  placed_stands (in_outlet holder o i role) is_free noted node stood ts g =
       let there = outlet_found o (linked_at holder (state_of w).instances) is_free.0 in
       let spot : outlet_of_linked o (linked_at holder (state_of w).instances) ≡ Some there.1 = ap (outlet_of_linked o) there.2 ∙ there.3 in
-      let at_spot : IsStood (Some there.1.anchor) (length there.1.bodies) (new_stands l) (nodes f.parts) w.dom d =
-      subst (λ (x : Option OutletState). IsStood (spot_from x).0 (spot_from x).1 (new_stands l) (nodes f.parts) w.dom d) spot stood in
-      outlet_stands holder is_free.1.0 o there.0 there.1 at_spot.apart is_free.1.1 there.2 there.3 noted node at_spot.builds at_spot.put.0 at_spot.put.1 ts g
+      let at_spot : IsStood (Some there.1.anchor) i (new_stands l) (nodes f.parts) w.dom d =
+      subst (λ (x : Option OutletState). IsStood (spot_from i x).0 (spot_from i x).1 (new_stands l) (nodes f.parts) w.dom d) spot stood in
+      outlet_stands holder is_free.1.0 o i role there.0 there.1 at_spot.apart is_free.1.1 there.2 there.3 noted node at_spot.builds at_spot.put.0 at_spot.put.1 ts g

@@ -31,9 +31,9 @@ pub spot_lives : (w : Works) (ts : Stands) → Standing w ts → (place : Place)
     → IsThere w.dom parent
 spot_lives w ts g place path is_free None e = tt
 spot_lives w ts g at_top path is_free (Some a) e = absurd (cc)
-spot_lives w ts g (in_outlet holder o) path is_free (Some a) e =
+spot_lives w ts g (in_outlet holder o i role) path is_free (Some a) e =
     let there = outlet_found o (linked_at holder (state_of w).instances) is_free.0 in
     let spot : outlet_of_linked o (linked_at holder (state_of w).instances) ≡ Some there.1 = ap (outlet_of_linked o) there.2 ∙ there.3 in
-    let name : Some a.made.0 ≡ Some there.1.anchor = e ∙ ap (λ (x : Option OutletState). (spot_from x).0) spot in
+    let name : Some a.made.0 ≡ Some there.1.anchor = e ∙ ap (λ (x : Option OutletState). (spot_from i x).0) spot in
     let same : a.made.0 ≡ there.1.anchor = cc in
     subst (λ (n : ℕ). IsLive w.dom n) (sym same) (outlet_lives w ts g holder there.0 o there.1 there.2 there.3)

@@ -4,22 +4,34 @@ use Rattle.std.specs.Map.{lookup, set_value}
 use Rattle.std.specs.Prelude.{option_and_then}
 use Rattle.ng_base.specs.declared.path.Key.{Key}
 use Rattle.ng_template.specs.Kept.{Named}
-use Rattle.ng_link.specs.Instances.{Body, OutletState, Linked, Instances, is_path, with_outlets, outlets_changed, with_body, body_added}
+use Rattle.ng_link.specs.Instances.{Body, OutletState, Linked, Instances, is_path, with_outlets, outlets_changed, with_body, body_added, with_bodies, bodies_arranged}
 use Rattle.ng_link.specs.State.{outlet_of, linked_of, instances_of, spot_at, spot_in}
 use Rattle.ng_link.specs.declared.works.Linked as code
 use Rattle.ng_link.specs.declared.works.OutletState as code_outlet
 
 -- a body more in one outlet
-pub added_set : (b : Body) (i : ℕ) (xs : List code_outlet.OutletState) (x y : code_outlet.OutletState) → i < length xs → x ≡ get_or xs i x → outlet_of y ≡ with_body b (outlet_of x)
-    → map outlet_of (set xs i y) ≡ body_added i b (map outlet_of xs)
-added_set b i [] x y lt at e = absurd (omega (arith, lt))
-added_set b zero (z ∷ zs) x y lt at e = ap (λ (o : OutletState). o ∷ map outlet_of zs) (e ∙ ap (λ (u : code_outlet.OutletState). with_body b (outlet_of u)) at)
-added_set b (suc i) (z ∷ zs) x y lt at e = ap (λ (os : List OutletState). outlet_of z ∷ os) (added_set b i zs x y (omega (arith, lt)) at e)
+pub added_set : (b : Body) (i k : ℕ) (xs : List code_outlet.OutletState) (x y : code_outlet.OutletState) → i < length xs → x ≡ get_or xs i x → outlet_of y ≡ with_body k b (outlet_of x)
+    → map outlet_of (set xs i y) ≡ body_added i k b (map outlet_of xs)
+added_set b i k [] x y lt at e = absurd (omega (arith, lt))
+added_set b zero k (z ∷ zs) x y lt at e = ap (λ (o : OutletState). o ∷ map outlet_of zs) (e ∙ ap (λ (u : code_outlet.OutletState). with_body k b (outlet_of u)) at)
+added_set b (suc i) k (z ∷ zs) x y lt at e = ap (λ (os : List OutletState). outlet_of z ∷ os) (added_set b i k zs x y (omega (arith, lt)) at e)
 
-pub added_past : (b : Body) (i : ℕ) (xs : List code_outlet.OutletState) → (i < length xs → ⊥) → body_added i b (map outlet_of xs) ≡ map outlet_of xs
-added_past b i [] off = refl
-added_past b zero (x ∷ xs) off = absurd (off (omega arith))
-added_past b (suc i) (x ∷ xs) off = ap (λ (os : List OutletState). outlet_of x ∷ os) (added_past b i xs (λ lt. off (omega (arith, lt))))
+pub added_past : (b : Body) (i k : ℕ) (xs : List code_outlet.OutletState) → (i < length xs → ⊥) → body_added i k b (map outlet_of xs) ≡ map outlet_of xs
+added_past b i k [] off = refl
+added_past b zero k (x ∷ xs) off = absurd (off (omega arith))
+added_past b (suc i) k (x ∷ xs) off = ap (λ (os : List OutletState). outlet_of x ∷ os) (added_past b i k xs (λ lt. off (omega (arith, lt))))
+
+-- other bodies in one outlet
+pub arranged_set : (bs : List Body) (i : ℕ) (xs : List code_outlet.OutletState) (x y : code_outlet.OutletState) → i < length xs → x ≡ get_or xs i x → outlet_of y ≡ with_bodies bs (outlet_of x)
+    → map outlet_of (set xs i y) ≡ bodies_arranged i bs (map outlet_of xs)
+arranged_set bs i [] x y lt at e = absurd (omega (arith, lt))
+arranged_set bs zero (z ∷ zs) x y lt at e = ap (λ (o : OutletState). o ∷ map outlet_of zs) (e ∙ ap (λ (u : code_outlet.OutletState). with_bodies bs (outlet_of u)) at)
+arranged_set bs (suc i) (z ∷ zs) x y lt at e = ap (λ (os : List OutletState). outlet_of z ∷ os) (arranged_set bs i zs x y (omega (arith, lt)) at e)
+
+pub arranged_past : (bs : List Body) (i : ℕ) (xs : List code_outlet.OutletState) → (i < length xs → ⊥) → bodies_arranged i bs (map outlet_of xs) ≡ map outlet_of xs
+arranged_past bs i [] off = refl
+arranged_past bs zero (x ∷ xs) off = absurd (off (omega arith))
+arranged_past bs (suc i) (x ∷ xs) off = ap (λ (os : List OutletState). outlet_of x ∷ os) (arranged_past bs i xs (λ lt. off (omega (arith, lt))))
 
 -- an instance with other outlets
 module _ (all : List Named) (holder : List ℕ) (g : List OutletState → List OutletState) where

@@ -9,6 +9,7 @@ use Rattle.ng_base.specs.Views.{ViewTree}
 use Rattle.ng_base.specs.declared.path.Key.{Key}
 use Rattle.ng_behaviour.specs.Scopes.{path_at, object_at}
 use Rattle.ng_drawing.specs.Nodes.{nodes}
+use Rattle.ng_drawing.specs.Roles.{Role}
 use Rattle.ng_drawing.specs.Template.{Outlet, Fragment}
 use Rattle.ng_template.specs.Kept.{Named}
 use Rattle.ng_watch.specs.Ended.{over, without_over}
@@ -17,7 +18,7 @@ use Rattle.ng_watch.specs.Seen.{Watching}
 use Rattle.ng_watch.specs.Table.{Table, with_kept, with_watch, without_watch, under, without_under}
 use Rattle.ng_link.specs.Handlers.{handled}
 use Rattle.ng_link.specs.Rows.{with_sites}
-use Rattle.ng_link.specs.Instances.{OutletState, Page, Linked, Instances, linked_at, is_site_of, is_site, is_filled_by, with_instance, outlets_changed, body_added, unlinked, owners_without}
+use Rattle.ng_link.specs.Instances.{Body, OutletState, Page, Linked, Instances, linked_at, is_site_of, is_site, is_filled_by, with_instance, outlets_changed, body_added, bodies_arranged, unlinked, owners_without}
 use Rattle.ng_link.specs.Shape.{anchors}
 use Rattle.ng_link.specs.State.{Listening, Resting, State}
 
@@ -101,14 +102,15 @@ page_on which scope path f serials node = record {
 abbrev pub linked_on : ℕ × ℕ → ℕ → List ℕ → Fragment → List ℕ → ℕ → Linked
 linked_on which scope path f serials node = record { fragment = f; page = page_on which scope path f serials node }
 
--- where an instance stands: it is the page's, or a body in an outlet of another instance
+-- where an instance stands: it is the page's, or a body in an outlet of another instance, which stands for this, and before the i-th of
+-- those that are there, or at the end
 pub data Place : Type 0 where
   at_top : Place
-  in_outlet : (holder : List ℕ) → (outlet : ℕ) → Place
+  in_outlet : (holder : List ℕ) → (outlet : ℕ) → (i : ℕ) → Role → Place
 
 abbrev pub taken_in : Place → List ℕ → Instances → Instances
 taken_in at_top p is = is
-taken_in (in_outlet holder o) p is = outlets_changed holder (body_added o (record { path = p })) is
+taken_in (in_outlet holder o i role) p is = outlets_changed holder (body_added o i (record { path = p; role = role })) is
 
 -- A fragment, by its numbers, stands at a place on a scope of a path: its sites are watched over the scope's object, each under its
 -- number of registration, its nodes stand, and its instance is noted.
@@ -122,6 +124,10 @@ placed_under place path object which scope f serials s = record s {
 
 abbrev pub placed_on : Place → ℕ × ℕ → ℕ → Fragment → List ℕ → State → State
 placed_on place which scope f serials s = placed_under place (path_at s.core.scopes scope) (object_at s.core.scopes scope) which scope f serials s
+
+-- an outlet of an instance has these bodies, which are those that it had, in another order or with other roles
+abbrev pub arranged_at : List ℕ → ℕ → List Body → State → State
+arranged_at holder o bs s = record s { instances = outlets_changed holder (bodies_arranged o bs) s.instances }
 
 -- the instances of a body and of those in it are gone, and nothing of them rests
 abbrev pub cut_at : List ℕ → List ℕ → State → State

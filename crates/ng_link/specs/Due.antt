@@ -3,6 +3,7 @@ use Rattle.std.specs.Prelude.{ℕ, ◌+◌, List, [], ◌∷◌, map, Option, No
 use Rattle.ng_drawing.specs.Template.{Filling}
 use Rattle.ng_template.specs.FragmentOf.{filling_of}
 use Rattle.ng_link.specs.Instances.{Body, OutletState, Linked, is_filled_by}
+use Rattle.ng_link.specs.State.{body_of}
 use Rattle.ng_link.specs.declared.filling.Due as code
 
 -- an outlet by its number, how it is filled, the template that has the bodies, and those that stand
@@ -13,7 +14,7 @@ pub record Due : Type 0 where
   pub bodies : List Body
 
 abbrev pub due_of : code.Due → Due
-due_of d = record { outlet = d.outlet; template = d.template.0; filling = filling_of d.filling; bodies = map (λ (p : List ℕ). record { path = p }) d.bodies.items }
+due_of d = record { outlet = d.outlet; template = d.template.0; filling = filling_of d.filling; bodies = map body_of d.bodies.items }
 
 abbrev pub due_at : ℕ → OutletState → Due
 due_at o x = record { outlet = o; template = x.template; filling = x.filling; bodies = x.bodies }

@@ -1,7 +1,7 @@
 -- The instances that stand, by the paths of their scopes (guide: Scopes, "Scope Hierarchies"; HTML Compiler). The page's template stands on
 -- the root. Each body of a block has a child scope of its own, so that its path names it for ever, and it stands after the instance
 -- that it is in.
-use Rattle.std.specs.Prelude.{ℕ, zero, suc, Bool, false, List, [], ◌∷◌, ◌++◌, map, not, nat_le, Option, None, Some, slice_index_or, if◌then◌else◌}
+use Rattle.std.specs.Prelude.{ℕ, zero, suc, Bool, false, List, [], ◌∷◌, map, not, nat_le, Option, None, Some, slice_index_or, if◌then◌else◌}
 use Rattle.std.specs.BTreeMap.{insert_entry, is_at}
 use Rattle.std.specs.List.{filter, list_any}
 use Rattle.std.specs.Map.{lookup, remove_entry}
@@ -9,14 +9,17 @@ use Rattle.std.specs.Ordering.{is_lt, nat_cmp}
 use Rattle.ng_base.specs.Order.{path_cmp}
 use Rattle.ng_base.specs.declared.path.Key.{Key}
 use Rattle.ng_dom.specs.Drawing.{Stands, Bodies, none_stand, no_bodies, body_then}
+use Rattle.ng_dom.specs.Lists.{put_at}
+use Rattle.ng_drawing.specs.Roles.{Role}
 use Rattle.ng_drawing.specs.Template.{Fragment, Filling}
 use Rattle.ng_watch.specs.Keys.{begins}
 use Rattle.ng_link.specs.Handlers.{Handled}
 use Rattle.ng_link.specs.Shape.{keys_in, shape}
 
--- a body, by the path of its scope
+-- a body, by the path of its scope, and what it stands for
 pub record Body : Type 0 where
   pub path : List ℕ
+  pub role : Role
 
 -- An outlet that stands: the number of registration of its site; how it is filled, and by its number the template that has the bodies;
 -- the name of its anchor's node; and its bodies in order
@@ -111,14 +114,23 @@ outlets_changed p f (e ∷ es) = if is_path p e.0 then (e.0, with_outlets f e.1)
 abbrev pub is_filled_by : ℕ → OutletState → Bool
 is_filled_by serial o = is_at (nat_cmp serial) o.serial
 
--- a body more at the end of an outlet
-abbrev pub with_body : Body → OutletState → OutletState
-with_body b o = record o { bodies = o.bodies ++ b ∷ [] }
+-- a body more in an outlet, before the i-th, or at the end
+abbrev pub with_body : ℕ → Body → OutletState → OutletState
+with_body i b o = record o { bodies = put_at i b o.bodies }
 
-abbrev pub body_added : ℕ → Body → List OutletState → List OutletState
-body_added n b [] = []
-body_added zero b (o ∷ os) = with_body b o ∷ os
-body_added (suc n) b (o ∷ os) = o ∷ body_added n b os
+abbrev pub body_added : ℕ → ℕ → Body → List OutletState → List OutletState
+body_added n i b [] = []
+body_added zero i b (o ∷ os) = with_body i b o ∷ os
+body_added (suc n) i b (o ∷ os) = o ∷ body_added n i b os
+
+-- an outlet has these bodies
+abbrev pub with_bodies : List Body → OutletState → OutletState
+with_bodies bs o = record o { bodies = bs }
+
+abbrev pub bodies_arranged : ℕ → List Body → List OutletState → List OutletState
+bodies_arranged n bs [] = []
+bodies_arranged zero bs (o ∷ os) = with_bodies bs o ∷ os
+bodies_arranged (suc n) bs (o ∷ os) = o ∷ bodies_arranged n bs os
 
 -- a body is gone, wherever it is
 abbrev pub without_body : List ℕ → OutletState → OutletState

@@ -16,6 +16,7 @@ pub mod Placing
 pub mod PlaceOf
 pub mod Due
 pub mod Standing
+pub mod Arranging
 pub mod Firing
 pub mod Laws
 pub mod Untroubled

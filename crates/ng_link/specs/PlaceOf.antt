@@ -1,5 +1,6 @@
 -- Where an instance stands, as the code says it, and where its nodes are built.
-use Rattle.std.specs.Prelude.{ℕ, ◌≡◌, List, [], Option, None, Some, IsSome, length, option_and_then, slice_get}
+use Rattle.std.specs.Prelude.{ℕ, ◌≡◌, List, [], Option, None, Some, IsSome, option_and_then, slice_get}
+use Rattle.ng_drawing.specs.RolesOf.{role_of}
 use Rattle.ng_link.specs.Calls.{Place, at_top, in_outlet}
 use Rattle.ng_link.specs.Instances.{OutletState, Linked, Instances, linked_at}
 use Rattle.ng_link.specs.Standing.{IsIn}
@@ -9,7 +10,7 @@ use Rattle.ng_link.specs.declared.linking.Place.TheVariants.{Top, Outlet}
 
 abbrev pub place_of : code.Place → Place
 place_of Top = at_top
-place_of (Outlet holder o) = in_outlet holder o
+place_of (Outlet holder o i role) = in_outlet holder o i (role_of role)
 
 -- an outlet of an instance
 abbrev pub outlet_of_linked : ℕ → Option Linked → Option OutletState
@@ -19,13 +20,13 @@ outlet_of_linked o l = option_and_then (λ (one : Linked). slice_get one.page.ou
 -- nothing is linked on it.
 abbrev pub IsFree : Place → List ℕ → State → Type 0
 IsFree at_top p s = (s.instances ≡ []) × (p ≡ [])
-IsFree (in_outlet holder o) p s = IsSome (outlet_of_linked o (linked_at holder s.instances)) × IsIn holder (record { path = p }) × (linked_at p s.instances ≡ None)
+IsFree (in_outlet holder o i role) p s = IsSome (outlet_of_linked o (linked_at holder s.instances)) × IsIn holder (record { path = p; role = role }) × (linked_at p s.instances ≡ None)
 
--- nodes are built for the top, or for the anchor of an outlet, after so many bodies
-abbrev pub spot_from : Option OutletState → Option ℕ × ℕ
-spot_from None = (None, 0)
-spot_from (Some x) = (Some x.anchor, length x.bodies)
+-- nodes are built for the top, or for the anchor of an outlet, before its i-th body
+abbrev pub spot_from : ℕ → Option OutletState → Option ℕ × ℕ
+spot_from i None = (None, 0)
+spot_from i (Some x) = (Some x.anchor, i)
 
 abbrev pub spot_for : Place → Instances → Option ℕ × ℕ
 spot_for at_top is = (None, 0)
-spot_for (in_outlet holder o) is = spot_from (outlet_of_linked o (linked_at holder is))
+spot_for (in_outlet holder o i role) is = spot_from i (outlet_of_linked o (linked_at holder is))

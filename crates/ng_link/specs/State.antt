@@ -1,5 +1,5 @@
 -- The state of a page, as contracts see its works.
-use Rattle.std.specs.Prelude.{ℕ, List, [], Option, Some, None, map, option_map, option_and_then, slice_get, not, is_some}
+use Rattle.std.specs.Prelude.{ℕ, List, [], ◌∷◌, Option, Some, None, map, option_map, option_and_then, slice_get, not, is_some}
 use Rattle.std.specs.BTreeMap.{is_at}
 use Rattle.std.specs.Ordering.{nat_cmp}
 use Rattle.std.specs.Map.{lookup, keys_of as map_keys}
@@ -13,7 +13,9 @@ use Rattle.ng_dom.specs.Document.{next_name}
 use Rattle.ng_dom.specs.Drawing.{Look}
 use Rattle.ng_drawing.specs.Drawing.{Rendered}
 use Rattle.ng_drawing.specs.Instance as drawn
-use Rattle.ng_drawing.specs.Instance.{SiteState, Instance, instance_with, no_outlets, instances_from, outlets_from}
+use Rattle.ng_drawing.specs.Instance.{SiteState, Instance, Group, instance_with, no_outlets, instances_from, outlets_from}
+use Rattle.ng_drawing.specs.Roles.{Role}
+use Rattle.ng_drawing.specs.RolesOf.{role_of}
 use Rattle.ng_drawing.specs.Looks.{kept_text, kept_words, kept_truth}
 use Rattle.ng_drawing.specs.Nodes.{forest_count}
 use Rattle.ng_drawing.specs.Template.{Template, no_fragment}
@@ -92,9 +94,19 @@ site_state t r scope k = record { key = k; scope = scope; kept = kept_in t r k; 
 abbrev pub site_states : Table → Resting → Page → List SiteState
 site_states t r p = map (λ n. site_state t r p.scope (key_on p.path n)) p.serials
 
+-- what the bodies of an outlet stand for
+abbrev pub roles_in : List Body → List Role
+roles_in bs = map (λ (b : Body). b.role) bs
+
+-- the bodies in each outlet, with what they stand for
+abbrev pub groups_in : List OutletState → List drawn.Instances → List Group
+groups_in os [] = []
+groups_in [] (is ∷ iss) = ([], is) ∷ groups_in [] iss
+groups_in (o ∷ os) (is ∷ iss) = (roles_in o.bodies, is) ∷ groups_in os iss
+
 -- an instance with the bodies in it
 abbrev pub instance_join : Table → Resting → Linked → List (List Instance) → Instance
-instance_join t r l iss = instance_with l.fragment l.page.scope (site_states t r l.page) (outlets_from (map instances_from iss))
+instance_join t r l iss = instance_with l.fragment l.page.scope (site_states t r l.page) (outlets_from (groups_in l.page.outlets (map instances_from iss)))
 
 abbrev pub nothing_linked : Instance
 nothing_linked = instance_with no_fragment 0 [] no_outlets
@@ -136,7 +148,7 @@ abbrev pub handled_of : List (ℕ × Vec Handler Global) → Handled
 handled_of t = map (λ e. (e.0, map handler_of e.1.items)) t
 
 abbrev pub body_of : code_body.Body → Body
-body_of b = record { path = b.path }
+body_of b = record { path = b.path; role = role_of b.role }
 
 abbrev pub outlet_of : code_outlet.OutletState → OutletState
 outlet_of o = record { serial = o.serial; template = o.template.0; filling = filling_of o.filling; anchor = o.anchor; bodies = map body_of o.bodies.items }

@@ -1,46 +1,51 @@
-//! The outlets that a site fills, for the fire of a block (API: ngIf, ngSwitch).
-ghost use Rattle.std.specs.Prelude.{ℕ, List, ◌≡◌, map, IfOk};
+//! The outlets that a site fills, for the fire of a block (API: ngIf, ngSwitch, ngRepeat).
+ghost use Rattle.std.specs.Prelude.{◌≡◌, Some, map, IfOk};
 ghost use Rattle.ng_link.specs.Due.{due_of, due_at, due_from, all_due};
 ghost use Rattle.ng_link.specs.Events.{scope_in};
-ghost use Rattle.ng_link.specs.Instances.{linked_at};
+ghost use Rattle.ng_link.specs.Instances.{OutletState as OutletOf, linked_at};
+ghost use Rattle.ng_link.specs.PlaceOf.{outlet_of_linked};
 ghost use Rattle.ng_link.specs.State.{body_of, outlet_of, state_of};
 
+use crate::outlets::outlet_in;
 use crate::works::{Body, OutletState, Works};
 use ng_base::fault::Memory;
 use ng_base::name::{ScopeId, TplId};
 use ng_base::path::{Key, Path};
 use ng_template::Filling;
-use std::alloc::{AllocError, Global};
+use std::alloc::Global;
 
-/// An outlet that a site fills: its number, how it is filled, the template that has the bodies, and the paths of those that stand.
+/// An outlet that a site fills: its number, how it is filled, the template that has the bodies, and those that stand.
 #[derive(Drop)]
 pub struct Due {
     pub outlet: usize,
     pub template: TplId,
     pub filling: Filling,
-    pub bodies: Vec<Path>,
+    pub bodies: Vec<Body>,
 }
 
-/// The paths of bodies.
-fn paths_of(alloc: Global, bodies: &[Body]) -> Result<Vec<Path>, AllocError>
-    ensures { IfOk result (λ v. map (λ (p : List ℕ). record { path = p }) v.items ≡ map body_of bodies.now) }
+/// The same bodies again.
+fn copied_bodies(alloc: Global, bodies: &[Body]) -> Result<Vec<Body>, Memory>
+    ensures { IfOk result (λ v. map body_of v.items ≡ map body_of bodies.now) }
 {
-    let mut paths = Vec::new(alloc);
+    let mut copies = Vec::new(alloc);
     for body in bodies {
-        paths.push(body.path.copied()?)?;
+        copies.push(Body {
+            path: body.path.copied()?,
+            role: body.role.copied(alloc)?,
+        })?;
     }
-    Ok(paths)
+    Ok(copies)
 }
 
 /// An outlet by its number.
-fn due_outlet(alloc: Global, outlet: usize, state: &OutletState) -> Result<Due, AllocError>
+fn due_outlet(alloc: Global, outlet: usize, state: &OutletState) -> Result<Due, Memory>
     ensures { IfOk result (λ d. due_of d ≡ due_at outlet (outlet_of state.now)) }
 {
     Ok(Due {
         outlet,
         template: state.template,
-        filling: state.filling.copied()?,
-        bodies: paths_of(alloc, state.bodies.as_slice())?,
+        filling: state.filling.copied(alloc)?,
+        bodies: copied_bodies(alloc, state.bodies.as_slice())?,
     })
 }
 
@@ -66,6 +71,16 @@ impl Works {
         match self.instances.get(&key.path) {
             None => Ok(Vec::new(self.alloc)),
             Some(one) => due_among(self.alloc, one.outlets.as_slice(), key.serial.0),
+        }
+    }
+
+    /// The bodies that stand in an outlet of an instance, in order.
+    pub fn bodies_in(&self, holder: &Path, outlet: usize) -> Result<Vec<Body>, Memory>
+        ensures { IfOk result (λ v. (x : OutletOf) → outlet_of_linked outlet (linked_at holder.now (state_of self.now).instances) ≡ Some x → map body_of v.items ≡ x.bodies) }
+    {
+        match outlet_in(&self.instances, holder, outlet) {
+            None => Ok(Vec::new(self.alloc)),
+            Some(state) => copied_bodies(self.alloc, state.bodies.as_slice()),
         }
     }
 

@@ -1,11 +1,11 @@
 //! The instance that stands, read off the tables.
 ghost use Rattle.std.specs.Prelude.{◌≡◌, IfOk, map, option_map};
 ghost use Rattle.ng_drawing.specs.Instance.{instances_from};
-ghost use Rattle.ng_drawing.specs.InstanceOf.{state_of as seen_state, instance_of as seen_instance, instances_of as seen_instances};
+ghost use Rattle.ng_drawing.specs.InstanceOf.{state_of as seen_state, instance_of as seen_instance, group_of as seen_group};
 ghost use Rattle.ng_template.specs.Kept.{fragments_in};
 ghost use Rattle.ng_value.specs.Snaps.{snap_of};
 ghost use Rattle.ng_link.specs.Instances.{Body as BodyOf, read_bodies};
-ghost use Rattle.ng_link.specs.State.{body_of, outlet_of, page_of, templates_of, kept_in, site_state, site_states, nothing_linked, instance_at, body_at, instance, state_of};
+ghost use Rattle.ng_link.specs.State.{body_of, outlet_of, page_of, templates_of, kept_in, site_state, site_states, nothing_linked, roles_in, groups_in, instance_at, body_at, instance, state_of};
 
 use crate::copying::key_on;
 use crate::looks::kept_in;
@@ -93,7 +93,7 @@ fn outlets_in(
     holder: &Path,
     outlets: &[OutletState],
 ) -> Result<Vec<Instances>, Memory>
-    ensures { IfOk result (λ v. map (seen_instances (fragments_in (templates_of works.now))) v.items ≡ map instances_from (read_bodies (body_at (state_of works.now) holder.now) (map outlet_of outlets.now))) }
+    ensures { IfOk result (λ v. map (seen_group (fragments_in (templates_of works.now))) v.items ≡ groups_in (map outlet_of outlets.now) (map instances_from (read_bodies (body_at (state_of works.now) holder.now) (map outlet_of outlets.now)))) }
 {
     let mut all = Vec::new(works.alloc);
     for outlet in outlets {
@@ -105,13 +105,15 @@ fn outlets_in(
 /// The bodies in an outlet of an instance.
 #[cycle(instance)]
 fn bodies_in(works: &Works, holder: &Path, bodies: &[Body]) -> Result<Instances, Memory>
-    ensures { IfOk result (λ is. seen_instances (fragments_in (templates_of works.now)) is ≡ instances_from (map (λ (b : BodyOf). body_at (state_of works.now) holder.now b.path) (map body_of bodies.now))) }
+    ensures { IfOk result (λ is. seen_group (fragments_in (templates_of works.now)) is ≡ (roles_in (map body_of bodies.now), instances_from (map (λ (b : BodyOf). body_at (state_of works.now) holder.now b.path) (map body_of bodies.now)))) }
 {
+    let mut roles = Vec::new(works.alloc);
     let mut items = Vec::new(works.alloc);
     for body in bodies {
+        roles.push(body.role.copied(works.alloc)?)?;
         items.push(body_on(works, holder, &body.path)?)?;
     }
-    Ok(Instances { items })
+    Ok(Instances { roles, items })
 }
 
 /// The body on a path, where it comes after its holder.

@@ -39,6 +39,7 @@
 //! Not here: when a watcher fires, what its snapshot is, and what programs do.
 #![tactic(auto)]
 
+pub mod arranging;
 mod attributes;
 mod building;
 mod copying;

@@ -1,5 +1,5 @@
 //! Linking: the order of a fragment's nodes, programs and numbers of registration, and what stands in the end.
-ghost use Rattle.std.specs.Prelude.{List, ◌≡◌, ◌<◌, ◌+◌, ◌≤◌, length, map, is_ok, Some, Ok, true, IfOk, OnOk, IfErr, IsSome};
+ghost use Rattle.std.specs.Prelude.{List, ◌≡◌, ◌<◌, ◌+◌, ◌≤◌, length, map, option_map, is_ok, Some, Ok, true, IfOk, OnOk, IfErr, IsSome};
 ghost use Rattle.std.specs.BTreeMap.{insert_entry};
 ghost use Rattle.std.specs.List.{AllByRecursion};
 ghost use Rattle.std.specs.List.Sorted.{IsStrictlySortedBy};
@@ -20,11 +20,11 @@ ghost use Rattle.ng_template.specs.Seen.{parts_of};
 ghost use Rattle.ng_link.specs.Building.{unset, parent_name, IsThere, IsPut, IsStood};
 ghost use Rattle.ng_link.specs.Calls.{taken_in, placed_on};
 ghost use Rattle.ng_link.specs.Linking.{steps, site_count};
-ghost use Rattle.ng_link.specs.PlaceOf.{place_of, IsFree, spot_for};
+ghost use Rattle.ng_link.specs.PlaceOf.{place_of, IsFree, spot_from, spot_for};
 ghost use Rattle.ng_link.specs.Placing.{IsPrepared};
 ghost use Rattle.ng_link.specs.Shape.{keys_in, shape, unfilled, holes, linked};
 ghost use Rattle.ng_link.specs.Standing.{IsStanding};
-ghost use Rattle.ng_link.specs.State.{instances_of, spot_in, state_of, templates_of, live_nodes};
+ghost use Rattle.ng_link.specs.State.{outlet_of, instances_of, spot_in, state_of, templates_of, live_nodes};
 ghost use Rattle.ng_link.specs.StepOf.{step_of};
 
 use crate::building::build_parts;
@@ -33,74 +33,84 @@ use crate::handling::enter_parts;
 use crate::ordering::{LinkStep, add_parts};
 use crate::outlets::{outlet_in, outlets_of, take_in};
 use crate::placing::{spots_of, watch_all};
-use crate::works::{Linked, Works};
+use crate::works::{Body, Linked, OutletState, Works};
 use ng_base::fault::{Fault, Memory};
 use ng_base::name::{NodeId, ScopeId, Serial, TplId};
 use ng_base::path::Path;
 use ng_dom::dom::Dom;
 use ng_dom::record::Group;
+use ng_drawing::roles::Role;
 use ng_template::Parts;
 use std::alloc::Global;
 use std::collections::BTreeMap;
 
-/// Where an instance stands: it is the page's, or a body in an outlet of the instance on a path.
+/// Where an instance stands: it is the page's, or a body in an outlet of the instance on a path, which stands for this, and before the one
+/// at a place of those that are there, or at the end.
 #[derive(Drop)]
 pub enum Place {
     Top,
-    Outlet(Path, usize),
+    Outlet {
+        holder: Path,
+        outlet: usize,
+        at: u32,
+        role: Role,
+    },
 }
 
-/// Where the nodes of an instance are built: at the top, or under the anchor of an outlet after so many bodies.
+/// Where the nodes of an instance are built: at the top, or under the anchor of an outlet before the body at a place.
 #[derive(Drop)]
 struct Spot {
     parent: Option<NodeId>,
-    after: u32,
+    at: u32,
 }
 
-/// The place after as many bodies.
-fn place_after(count: usize) -> Result<u32, Memory>
-    ensures { IfOk result (λ n. n ≡ count) }
+/// The spot at a place of an outlet.
+fn spot_from(found: Option<&OutletState>, at: u32) -> Spot
+    ensures { (parent_name result.parent, result.at) ≡ spot_from at (option_map (λ x. outlet_of x.now) found.entry) }
 {
-    if count < 4_294_967_295 {
-        Ok(count as u32)
-    } else {
-        Err(Memory::Worn)
-    }
-}
-
-/// Where the nodes of an instance are built.
-fn spot_for(instances: &BTreeMap<Path, Linked>, place: &Place) -> Result<Spot, Memory>
-    ensures { (all : List Named) → IfOk result (λ s. (parent_name s.parent, s.after) ≡ spot_for (place_of place.now) (instances_of all instances.now.entries)) }
-{
-    let found = match place {
-        Place::Top => None,
-        Place::Outlet(holder, outlet) => outlet_in(instances, holder, *outlet),
-    };
     match found {
-        None => Ok(Spot {
+        None => Spot {
             parent: None,
-            after: 0,
-        }),
-        Some(state) => Ok(Spot {
+            at: 0,
+        },
+        Some(state) => Spot {
             parent: Some(NodeId {
                 slot: 0,
                 made: Serial(state.anchor),
             }),
-            after: place_after(state.bodies.len())?,
-        }),
+            at,
+        },
+    }
+}
+
+/// Where the nodes of an instance are built.
+fn spot_for(instances: &BTreeMap<Path, Linked>, place: &Place) -> Spot
+    ensures { (all : List Named) → (parent_name result.parent, result.at) ≡ spot_for (place_of place.now) (instances_of all instances.now.entries) }
+{
+    match place {
+        Place::Top => Spot {
+            parent: None,
+            at: 0,
+        },
+        Place::Outlet {
+            holder,
+            outlet,
+            at,
+            ..
+        } => spot_from(outlet_in(instances, holder, *outlet), *at),
     }
 }
 
 /// What was built apart stands.
 fn stand_at(dom: &mut Dom, spot: &Spot, group: Group) -> Result<(), Memory>
-    ensures { OnOk result ((ts : Stands) → names_of (shows unset ts) ≡ group.nodes.items → ReadsIn (rooms dom.old) (parent_name spot.now.parent) (shows unset ts) → IsPut (parent_name spot.now.parent) spot.now.after ts dom.old dom.new) }
+    ensures { OnOk result ((ts : Stands) → names_of (shows unset ts) ≡ group.nodes.items → ReadsIn (rooms dom.old) (parent_name spot.now.parent) (shows unset ts) → IsPut (parent_name spot.now.parent) spot.now.at ts dom.old dom.new) }
 {
     match spot.parent {
         None => {
             dom.show(group);
             Ok(())
         }
-        Some(anchor) => dom.insert_group(anchor, spot.after, group),
+        Some(anchor) => dom.insert_group(anchor, spot.at, group),
     }
 }
 
@@ -115,7 +125,7 @@ fn link_nodes(
 ) -> Result<Vec<u64>, Fault>
     requires there { IsThere dom.old spot.now.parent }
     requires room { live_count dom.old + nodes (parts_of parts.now) ≤ node_limit }
-    ensures stood { OnOk result (IsStood (parent_name spot.now.parent) spot.now.after (shape (keys_in path.now serials.now) (next_name dom.old) unfilled (parts_of parts.now)) (nodes (parts_of parts.now)) dom.old dom.new) }
+    ensures stood { OnOk result (IsStood (parent_name spot.now.parent) spot.now.at (shape (keys_in path.now serials.now) (next_name dom.old) unfilled (parts_of parts.now)) (nodes (parts_of parts.now)) dom.old dom.new) }
     ensures holes { IfOk result (λ h. h.items ≡ holes (next_name dom.old) (parts_of parts.now)) }
     ensures faults { IfErr result (λ e. is_memory e ≡ true) }
 {
@@ -191,7 +201,7 @@ impl Works {
     {
         let _all_stand = self.dom.live();
         let path = self.core.scopes.path(scope).copied()?;
-        let spot = spot_for(&self.instances, place)?;
+        let spot = spot_for(&self.instances, place);
         let one = self.build(&spot, t, n, scope, &path, serials)?;
         self.note(place, path, one)?;
         Ok(())
@@ -213,7 +223,7 @@ impl Works {
         requires room { (f : Fragment) → fragment_in (templates_of self.old) t.0 n ≡ Some f → live_count self.old.dom + nodes f.parts ≤ node_limit }
         requires rising { IsStrictlySortedBy nat_cmp serials.now }
         requires count { (f : Fragment) → fragment_in (templates_of self.old) t.0 n ≡ Some f → length serials.now ≡ site_count (steps f.parts) }
-        ensures built { IfOk result (λ i. (f : Fragment) → fragment_in (templates_of self.old) t.0 n ≡ Some f → IsPrepared (t.0, n) scope.0 path.now serials.now f (parent_name spot.now.parent, spot.now.after) self.old self.new i) }
+        ensures built { IfOk result (λ i. (f : Fragment) → fragment_in (templates_of self.old) t.0 n ≡ Some f → IsPrepared (t.0, n) scope.0 path.now serials.now f (parent_name spot.now.parent, spot.now.at) self.old self.new i) }
         ensures rest { self.new ≡ record self.old { dom = self.new.dom; watchers = self.new.watchers } }
         ensures faults { IfErr result (λ e. is_memory e ≡ true) }
     {
@@ -268,8 +278,17 @@ impl Works {
         let _ = self.instances.insert(path, one)?;
         match place {
             Place::Top => Ok(()),
-            Place::Outlet(holder, outlet) => {
-                Ok(take_in(&mut self.instances, holder, *outlet, copy)?)
+            Place::Outlet {
+                holder,
+                outlet,
+                at,
+                role,
+            } => {
+                let body = Body {
+                    path: copy,
+                    role: role.copied(self.alloc)?,
+                };
+                Ok(take_in(&mut self.instances, holder, *outlet, *at, body)?)
             }
         }
     }

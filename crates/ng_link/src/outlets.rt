@@ -1,6 +1,7 @@
 //! The outlets of an instance: at which anchors they stand, and the bodies that fill them.
 ghost use Rattle.std.specs.Prelude.{List, ◌≡◌, ◌+◌, ◌++◌, map, option_map, IfOk, OnOk};
 ghost use Rattle.ng_base.specs.declared.path.Key.{Key};
+ghost use Rattle.ng_dom.specs.Lists.{put_at};
 ghost use Rattle.ng_drawing.specs.Nodes.{part_nodes, content_nodes, nodes};
 ghost use Rattle.ng_drawing.specs.Template.{parts_from};
 ghost use Rattle.ng_template.specs.FragmentOf.{outlet_of as template_outlet, fragment_of};
@@ -10,7 +11,7 @@ ghost use Rattle.ng_link.specs.Calls.{outlet_on, outlets_on};
 ghost use Rattle.ng_link.specs.Instances.{linked_at, outlets_changed, with_body, body_added};
 ghost use Rattle.ng_link.specs.PlaceOf.{outlet_of_linked};
 ghost use Rattle.ng_link.specs.Shape.{part_anchors, content_anchors, anchors};
-ghost use Rattle.ng_link.specs.State.{outlet_of, instances_of, spot_in};
+ghost use Rattle.ng_link.specs.State.{body_of, outlet_of, instances_of, spot_in};
 
 use crate::works::{Body, Linked, OutletState};
 use ng_base::fault::Memory;
@@ -88,7 +89,7 @@ fn outlet_at(
             Some(serial) => *serial,
         },
         template: t,
-        filling: outlet.filling.copied()?,
+        filling: outlet.filling.copied(alloc)?,
         anchor,
         bodies: Vec::new(alloc),
     })
@@ -147,20 +148,37 @@ pub(crate) fn outlet_in<'a>(
     }
 }
 
-/// A body stands at the end of an outlet.
-fn push_body(state: &mut OutletState, path: Path) -> Result<(), AllocError>
-    ensures { OnOk result (outlet_of state.new ≡ with_body (record { path = path }) (outlet_of state.old)) }
+/// A body is put before the one at a place, or at the end.
+#[tactic(auto, using(ng_dom::proofs::Places::puts))]
+fn put_body(bodies: &mut Vec<Body>, at: u32, body: Body) -> Result<(), AllocError>
+    ensures { OnOk result (map body_of bodies.new.items ≡ put_at at (body_of body) (map body_of bodies.old.items)) }
 {
-    state.bodies.push(Body { path })?;
+    if (at as usize) < bodies.len() {
+        bodies.insert(at as usize, body)?;
+    } else {
+        bodies.push(body)?;
+    }
     Ok(())
 }
 
-/// A body more at the end of an outlet.
-fn add_body(outlets: &mut Vec<OutletState>, outlet: usize, path: Path) -> Result<(), AllocError>
-    ensures { OnOk result (map outlet_of outlets.new.items ≡ body_added outlet (record { path = path }) (map outlet_of outlets.old.items)) }
+/// A body more in an outlet.
+fn push_body(state: &mut OutletState, at: u32, body: Body) -> Result<(), AllocError>
+    ensures { OnOk result (outlet_of state.new ≡ with_body at (body_of body) (outlet_of state.old)) }
+{
+    put_body(&mut state.bodies, at, body)
+}
+
+/// A body more in the outlet of a number.
+fn add_body(
+    outlets: &mut Vec<OutletState>,
+    outlet: usize,
+    at: u32,
+    body: Body,
+) -> Result<(), AllocError>
+    ensures { OnOk result (map outlet_of outlets.new.items ≡ body_added outlet at (body_of body) (map outlet_of outlets.old.items)) }
 {
     if outlet < outlets.len() {
-        push_body(&mut outlets[outlet], path)?;
+        push_body(&mut outlets[outlet], at, body)?;
     }
     Ok(())
 }
@@ -170,13 +188,14 @@ pub(crate) fn take_in(
     instances: &mut BTreeMap<Path, Linked>,
     holder: &Path,
     outlet: usize,
-    path: Path,
+    at: u32,
+    body: Body,
 ) -> Result<(), AllocError>
-    ensures taken { (all : List Named) → OnOk result (instances_of all instances.new.entries ≡ outlets_changed holder.now (body_added outlet (record { path = path })) (instances_of all instances.old.entries)) }
+    ensures taken { (all : List Named) → OnOk result (instances_of all instances.new.entries ≡ outlets_changed holder.now (body_added outlet at (body_of body)) (instances_of all instances.old.entries)) }
     ensures spots { (k : Key) → OnOk result (spot_in instances.new.entries k ≡ spot_in instances.old.entries k) }
 {
     match instances.get_mut(holder) {
         None => Ok(()),
-        Some(one) => add_body(&mut one.outlets, outlet, path),
+        Some(one) => add_body(&mut one.outlets, outlet, at, body),
     }
 }

@@ -24,11 +24,13 @@ use std::alloc::AllocError;
 use std::collections::BTreeMap;
 use std::ops::Bound;
 
-/// The place of a body among others.
+/// The place of a body among others. It is looked for from the end, since of several that go the last goes first.
 fn place_among(bodies: &[Body], p: &Path) -> Option<usize>
     ensures { MatchOption result (body_count p.now (map body_of bodies.now) ≡ 0) (λ i. IsBodyAt p.now i (map body_of bodies.now)) }
 {
-    for i in 0..bodies.len() {
+    let mut i = bodies.len();
+    while i > 0 {
+        i -= 1;
         if *p == bodies[i].path {
             return Some(i);
         }

@@ -18,6 +18,7 @@ use ng_base::name::{ScopeId, TplId};
 use ng_base::path::{Key, Path};
 use ng_core::core_state::{Core, Handed};
 use ng_dom::dom::Dom;
+use ng_drawing::roles::Role;
 use ng_parse::Program;
 use ng_template::acts::Handler;
 use ng_template::{Filling, Templates};
@@ -26,10 +27,11 @@ use ng_watch::watchers::Watchers;
 use std::alloc::Global;
 use std::collections::BTreeMap;
 
-/// A body of a block, by the path of its scope.
+/// A body of a block, by the path of its scope, and what it stands for.
 #[derive(Drop)]
 pub struct Body {
-    pub(crate) path: Path,
+    pub path: Path,
+    pub role: Role,
 }
 
 /// An outlet that stands: the number of registration of its site; how it is filled, and the template that has the bodies; the name of its

@@ -1,19 +1,21 @@
 -- The outlets of an instance where a body comes or goes.
-use Rattle.std.proofs.Common.{◌≡◌, ◌≤◌, ◌+◌, ℕ, zero, suc, Bool, true, false, List, [], ◌∷◌, ◌++◌, cond, Option, Some, None, refl, ap, sym, ◌∙◌, map, arith, slice_get}
+use Rattle.std.proofs.Common.{◌≡◌, ◌≤◌, ◌+◌, ℕ, zero, suc, Bool, true, false, List, [], ◌∷◌, ◌++◌, cond, Option, Some, None, refl, ap, ◌∙◌, map, arith, slice_get}
 use Rattle.std.specs.Prelude.{not}
 use Rattle.std.specs.List.{AllByRecursion, filter}
 use Rattle.ng_base.specs.Views.{ViewTree}
-use Rattle.ng_drawing.specs.Cases.{Case, calls_for}
-use Rattle.ng_drawing.specs.Template.{Outlet}
-use Rattle.ng_fire.specs.Blocks.{has_bodies}
+use Rattle.ng_dom.specs.Lists.{put_at}
+use Rattle.ng_drawing.specs.Cases.{Case}
+use Rattle.ng_drawing.specs.Rows.{is_filled}
+use Rattle.ng_drawing.specs.Template.{Filling, Outlet}
 use Rattle.ng_link.specs.Instances.{Body, OutletState, is_path, with_body, body_added, without_body, body_gone}
 use Rattle.ng_link.specs.Standing.{body_count, held_count}
+use Rattle.ng_link.specs.State.{roles_in}
 use Rattle.ng_page.specs.Settled.{CallsFor, AreOutlets}
 
--- what a value calls for is asked of the filling and of whether any body stands
-pub calls_same : (cases : List Case) (o : Option ViewTree) (x y : OutletState) → y.filling ≡ x.filling → has_bodies y.bodies ≡ has_bodies x.bodies → CallsFor cases o x → CallsFor cases o y
+-- what a value calls for is asked of the filling and of the bodies that stand
+pub calls_same : (cases : List Case) (o : Option ViewTree) (x y : OutletState) → y.filling ≡ x.filling → y.bodies ≡ x.bodies → CallsFor cases o x → CallsFor cases o y
 calls_same cases None x y f b h = tt
-calls_same cases (Some v) x y f b h = b ∙ (h ∙ ap (λ g. calls_for cases g (Some v)) (sym f))
+calls_same cases (Some v) x y f b h = ap (λ (g : Filling). is_filled cases g (Some v) (roles_in y.bodies)) f ∙ (ap (λ (bs : List Body). is_filled cases x.filling (Some v) (roles_in bs)) b ∙ h)
 
 pub all_mapped : {A B : Type 0} (P : A → Type 0) (Q : B → Type 0) (f : A → B) (xs : List A) → ((x : A) → P x → Q (f x)) → AllByRecursion P xs → AllByRecursion Q (map f xs)
 all_mapped P Q f [] g all = tt
@@ -65,27 +67,33 @@ module _ (p : List ℕ) where
 
 -- ---- a body comes
 
-added_here : (b : Body) (q : List ℕ) (bs : List Body) → body_count q (bs ++ b ∷ []) ≡ body_count q bs + cond {A = ℕ} (is_path q b.path) 1 0
-added_here b q [] = omega arith
-added_here b q (c ∷ bs) = let more = added_here b q bs in omega (arith, more)
+added_here : (i : ℕ) (b : Body) (q : List ℕ) (bs : List Body) → body_count q (put_at i b bs) ≡ body_count q bs + cond {A = ℕ} (is_path q b.path) 1 0
+added_here zero b q bs = omega arith
+added_here (suc i) b q [] = omega arith
+added_here (suc i) b q (c ∷ bs) = let more = added_here i b q bs in omega (arith, more)
 
-pub added_count : (n : ℕ) (b : Body) (q : List ℕ) (xs : List OutletState) → held_count q (body_added n b xs) ≤ held_count q xs + cond {A = ℕ} (is_path q b.path) 1 0
-added_count n b q [] = omega arith
-added_count zero b q (x ∷ xs) = let here = added_here b q x.bodies in omega (arith, here)
-added_count (suc n) b q (x ∷ xs) = let more = added_count n b q xs in omega (arith, more)
+pub added_count : (n i : ℕ) (b : Body) (q : List ℕ) (xs : List OutletState) → held_count q (body_added n i b xs) ≤ held_count q xs + cond {A = ℕ} (is_path q b.path) 1 0
+added_count n i b q [] = omega arith
+added_count zero i b q (x ∷ xs) = let here = added_here i b q x.bodies in omega (arith, here)
+added_count (suc n) i b q (x ∷ xs) = let more = added_count n i b q xs in omega (arith, more)
 
-pub added_outlets : (n : ℕ) (b : Body) (serials : List ℕ) (os : List Outlet) (xs : List OutletState) → AreOutlets serials os xs → AreOutlets serials os (body_added n b xs)
-added_outlets n b serials [] [] h = tt
-added_outlets n b serials [] (x ∷ xs) h = absurd h
-added_outlets n b serials (o ∷ os) [] h = absurd h
-added_outlets zero b serials (o ∷ os) (x ∷ xs) h = h
-added_outlets (suc n) b serials (o ∷ os) (x ∷ xs) h = (h.0, added_outlets n b serials os xs h.1)
+pub added_outlets : (n i : ℕ) (b : Body) (serials : List ℕ) (os : List Outlet) (xs : List OutletState) → AreOutlets serials os xs → AreOutlets serials os (body_added n i b xs)
+added_outlets n i b serials [] [] h = tt
+added_outlets n i b serials [] (x ∷ xs) h = absurd h
+added_outlets n i b serials (o ∷ os) [] h = absurd h
+added_outlets zero i b serials (o ∷ os) (x ∷ xs) h = h
+added_outlets (suc n) i b serials (o ∷ os) (x ∷ xs) h = (h.0, added_outlets n i b serials os xs h.1)
 
 -- what holds of all outlets holds of all, where it holds of the one that gets a body
-pub added_all : (P : OutletState → Type 0) (n : ℕ) (b : Body) (xs : List OutletState) → ((x : OutletState) → slice_get xs n ≡ Some x → P x → P (with_body b x)) → AllByRecursion P xs → AllByRecursion P (body_added n b xs)
-added_all P n b [] f all = tt
-added_all P zero b (x ∷ xs) f all = (f x refl all.0, all.1)
-added_all P (suc n) b (x ∷ xs) f all = (all.0, added_all P n b xs f all.1)
+pub added_all : (P : OutletState → Type 0) (n i : ℕ) (b : Body) (xs : List OutletState) → ((x : OutletState) → slice_get xs n ≡ Some x → P x → P (with_body i b x)) → AllByRecursion P xs → AllByRecursion P (body_added n i b xs)
+added_all P n i b [] f all = tt
+added_all P zero i b (x ∷ xs) f all = (f x refl all.0, all.1)
+added_all P (suc n) i b (x ∷ xs) f all = (all.0, added_all P n i b xs f all.1)
+
+pub put_all : {A : Type 0} (P : A → Type 0) (i : ℕ) (xs : List A) (y : A) → P y → AllByRecursion P xs → AllByRecursion P (put_at i y xs)
+put_all P zero xs y one all = (one, all)
+put_all P (suc i) [] y one all = (one, tt)
+put_all P (suc i) (x ∷ xs) y one all = (all.0, put_all P i xs y one all.1)
 
 pub push_all : {A : Type 0} (P : A → Type 0) (xs : List A) (y : A) → P y → AllByRecursion P xs → AllByRecursion P (xs ++ y ∷ [])
 push_all P [] y one all = (one, tt)

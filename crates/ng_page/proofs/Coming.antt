@@ -1,5 +1,5 @@
 -- The outlets that get a body at the fire of a site, one after another.
-use Rattle.std.proofs.Common.{◌≡◌, ◌⊎◌, inl, inr, ◌≤◌, ◌+◌, ℕ, zero, suc, Bool, true, false, List, [], ◌∷◌, ◌++◌, cond, Some, refl, ap, sym, subst, ◌∙◌, arith, slice_get}
+use Rattle.std.proofs.Common.{◌≡◌, inl, inr, ◌≤◌, ◌+◌, ℕ, zero, suc, Bool, true, false, List, [], ◌∷◌, ◌++◌, cond, Some, refl, ap, sym, subst, ◌∙◌, arith, slice_get}
 use Rattle.std.specs.Prelude.{◌||◌, ◌&&◌, ◌==◌, not, slice_index_or}
 use Rattle.std.specs.BTreeMap.{is_at}
 use Rattle.std.specs.List.{AllByRecursion, list_any}
@@ -7,12 +7,16 @@ use Rattle.std.specs.Ordering.{nat_cmp}
 use Rattle.std.proofs.lemmas.Bool.{eqb-true, eq-eqb}
 use Rattle.ng_base.specs.Views.{ViewTree}
 use Rattle.ng_drawing.specs.Cases.{Case, case_in, calls_for}
-use Rattle.ng_drawing.specs.Template.{Filling, body_if, on_case, Outlet}
+use Rattle.ng_drawing.specs.Roles.{has_roles}
+use Rattle.ng_drawing.specs.Rows.{is_as_called, is_filled}
+use Rattle.ng_drawing.specs.Template.{Filling, body_if, on_case, for_each, Outlet}
 use Rattle.ng_fire.specs.Blocks.{has_bodies, goes, cases_due, comes}
 use Rattle.ng_link.specs.Due.{Due, due_at, due_from}
 use Rattle.ng_link.specs.Instances.{Body, OutletState, is_filled_by, with_body, body_added}
+use Rattle.ng_link.specs.State.{roles_in}
 use Rattle.ng_link.proofs.Numbers.{both_true}
 use Rattle.ng_page.specs.Settled.{AreOutlets, cases_under}
+use Rattle.ng_page.proofs.Altered.{by_same_place, Altered, IsAlike, ChangedAt, added_place}
 use Rattle.ng_page.proofs.Going.{leaves, AreSpared, IsSpared, at_place}
 use Rattle.ng_page.proofs.Watched.{all_map}
 
@@ -20,10 +24,27 @@ and_false : (b : Bool) → (b && false) ≡ false
 and_false true = refl
 and_false false = refl
 
+-- whether an outlet has rows
+abbrev pub has_rows : Filling → Bool
+has_rows (body_if b) = false
+has_rows (on_case c b) = false
+has_rows (for_each r b) = true
+
 -- what is not called for goes
-off_goes : (cases : List Case) (f : Filling) (v : ViewTree) → calls_for cases f (Some v) ≡ false → goes f v ≡ true
-off_goes cases (body_if b) v e = ap not e
-off_goes cases (on_case c b) v e = refl
+off_goes : (cases : List Case) (f : Filling) (v : ViewTree) → has_rows f ≡ false → calls_for cases f (Some v) ≡ false → goes f v ≡ true
+off_goes cases (body_if b) v one e = ap not e
+off_goes cases (on_case c b) v one e = refl
+off_goes cases (for_each r b) v one e = absurd (cc)
+
+-- rows are called for by their entries
+rows_uncalled : (cases : List Case) (f : Filling) (v : ViewTree) → has_rows f ≡ true → calls_for cases f (Some v) ≡ false
+rows_uncalled cases (body_if b) v rows = absurd (cc)
+rows_uncalled cases (on_case c b) v rows = absurd (cc)
+rows_uncalled cases (for_each r b) v rows = refl
+
+pub not_both : (b : Bool) → b ≡ true → b ≡ false → ⊥
+not_both true e f = cc
+not_both false e f = cc
 
 -- the cases of outlets that are due are those of the fragment
 pub due_cases : (n i : ℕ) (serials : List ℕ) (os : List Outlet) (xs : List OutletState) → AreOutlets serials os xs → cases_due (due_from n i xs) ≡ cases_under serials os n
@@ -41,14 +62,52 @@ due_cases n i serials (o ∷ os) (x ∷ xs) h =
     by_test true more = ap (λ (cs : List Case). case_in x.filling ++ cs) more
     by_test false more = more
 
-module _ (n : ℕ) (cases : List Case) (v : ViewTree) where
-  abbrev is_due : ℕ → List Due → Bool
-  is_due j ds = list_any (λ (d : Due). (d.outlet == j) && comes cases v d) ds
+-- whether an outlet of this number is among those that are due and pass a test
+abbrev pub is_due_by : (Due → Bool) → ℕ → List Due → Bool
+is_due_by p j ds = list_any (λ (d : Due). (d.outlet == j) && p d) ds
 
-  -- An outlet that is called for and has no body is still due, and one that isn't called for has none.
+or_more : (b c : Bool) → c ≡ true → (b || c) ≡ true
+or_more true c e = refl
+or_more false c e = e
+
+due_there : (n : ℕ) (p : Due → Bool) (i : ℕ) (xs : List OutletState) (j : ℕ) (x : OutletState) → slice_get xs j ≡ Some x → is_filled_by n x ≡ true → ((k : ℕ) → p (due_at k x) ≡ true) → is_due_by p (i + j) (due_from n i xs) ≡ true
+due_there n p i [] j x at on passes = absurd (cc)
+due_there n p i (y ∷ xs) zero x at on passes =
+    let same : y ≡ x = cc in
+    let here : is_filled_by n y ≡ true = ap (is_filled_by n) same ∙ on in
+    let called : p (due_at i y) ≡ true = ap (λ (z : OutletState). p (due_at i z)) same ∙ passes i in
+    ap (λ (t : Bool). is_due_by p (i + 0) (cond t (due_at i y ∷ due_from n (i + 1) xs) (due_from n (i + 1) xs))) here
+    ∙ (ap (λ (t : Bool). ((i == i + 0) && t) || is_due_by p (i + 0) (due_from n (i + 1) xs)) called
+    ∙ ap (λ (t : Bool). (t && true) || is_due_by p (i + 0) (due_from n (i + 1) xs)) (eq-eqb i (i + 0) (omega arith)))
+due_there n p i (y ∷ xs) (suc j) x at on passes =
+    let more : is_due_by p (i + suc j) (due_from n (i + 1) xs) ≡ true = ap (λ (k : ℕ). is_due_by p k (due_from n (i + 1) xs)) (let e : i + suc j ≡ i + 1 + j = omega arith in e) ∙ due_there n p (i + 1) xs j x at on passes in
+    by_test (is_filled_by n y) more
+  where
+    by_test : (t : Bool) → is_due_by p (i + suc j) (due_from n (i + 1) xs) ≡ true → is_due_by p (i + suc j) (cond t (due_at i y ∷ due_from n (i + 1) xs) (due_from n (i + 1) xs)) ≡ true
+    by_test true more = or_more _ (is_due_by p (i + suc j) (due_from n (i + 1) xs)) more
+    by_test false more = more
+
+-- one that doesn't pass, or has another number, doesn't matter
+due_skip : (p : Due → Bool) (d : Due) (ds : List Due) (j : ℕ) → p d ≡ false → is_due_by p j (d ∷ ds) ≡ true → is_due_by p j ds ≡ true
+due_skip p d ds j off e = sym (ap (λ (t : Bool). (d.outlet == j && t) || is_due_by p j ds) off ∙ ap (λ (t : Bool). t || is_due_by p j ds) (and_false (d.outlet == j))) ∙ e
+
+not_eqb : (i j : ℕ) → (i ≡ j → ⊥) → (i == j) ≡ false
+not_eqb i j ne = by_test (i == j) refl
+  where
+    by_test : (t : Bool) → (i == j) ≡ t → t ≡ false
+    by_test true e = absurd (ne (eqb-true i j e))
+    by_test false e = refl
+
+due_other : (p : Due → Bool) (d : Due) (ds : List Due) (j : ℕ) → (d.outlet ≡ j → ⊥) → is_due_by p j (d ∷ ds) ≡ true → is_due_by p j ds ≡ true
+due_other p d ds j other e = sym (ap (λ (t : Bool). (t && p d) || is_due_by p j ds) (not_eqb d.outlet j other)) ∙ e
+
+module _ (n : ℕ) (cases : List Case) (v : ViewTree) where
+  -- An outlet that is called for and has no body is still due, and one that isn't called for has none. One that has rows is still due, or its
+  -- rows are those that are called for.
   pub record IsReady (ds : List Due) (j : ℕ) (x : OutletState) : Type 0 where
-    pub off : calls_for cases x.filling (Some v) ≡ false → has_bodies x.bodies ≡ false
-    pub due : calls_for cases x.filling (Some v) ≡ true → has_bodies x.bodies ≡ false → is_due j ds ≡ true
+    pub off : has_rows x.filling ≡ false → calls_for cases x.filling (Some v) ≡ false → has_bodies x.bodies ≡ false
+    pub due : calls_for cases x.filling (Some v) ≡ true → has_bodies x.bodies ≡ false → is_due_by (comes cases v) j ds ≡ true
+    pub rows : has_rows x.filling ≡ true → is_filled cases x.filling (Some v) (roles_in x.bodies) ≡ false → is_due_by (λ (d : Due). has_rows d.filling) j ds ≡ true
 
   abbrev pub AreReady : List Due → List OutletState → Type 0
   AreReady ds xs = (j : ℕ) (x : OutletState) → slice_get xs j ≡ Some x → is_filled_by n x ≡ true → IsReady ds j x
@@ -61,48 +120,35 @@ module _ (n : ℕ) (cases : List Case) (v : ViewTree) where
   abbrev pub AreOfSite : List Due → List OutletState → Type 0
   AreOfSite ds xs = AllByRecursion (λ (d : Due). (x : OutletState) → slice_get xs d.outlet ≡ Some x → IsOfDue d x) ds
 
-  due_there : (i : ℕ) (xs : List OutletState) (j : ℕ) (x : OutletState) → slice_get xs j ≡ Some x → is_filled_by n x ≡ true → comes cases v (due_at 0 x) ≡ true → is_due (i + j) (due_from n i xs) ≡ true
-  due_there i [] j x at on come = absurd (cc)
-  due_there i (y ∷ xs) zero x at on come =
-      let same : y ≡ x = cc in
-      let here : is_filled_by n y ≡ true = ap (is_filled_by n) same ∙ on in
-      let called : comes cases v (due_at i y) ≡ true = ap (λ (z : OutletState). comes cases v (due_at 0 z)) same ∙ come in
-      ap (λ (t : Bool). is_due (i + 0) (cond t (due_at i y ∷ due_from n (i + 1) xs) (due_from n (i + 1) xs))) here
-      ∙ (ap (λ (t : Bool). ((i == i + 0) && t) || is_due (i + 0) (due_from n (i + 1) xs)) called
-      ∙ ap (λ (t : Bool). (t && true) || is_due (i + 0) (due_from n (i + 1) xs)) (eq-eqb i (i + 0) (omega arith)))
-  due_there i (y ∷ xs) (suc j) x at on come =
-      let more : is_due (i + suc j) (due_from n (i + 1) xs) ≡ true = ap (λ (k : ℕ). is_due k (due_from n (i + 1) xs)) (let e : i + suc j ≡ i + 1 + j = omega arith in e) ∙ due_there (i + 1) xs j x at on come in
-      by_test (is_filled_by n y) more
-    where
-      or_more : (b c : Bool) → c ≡ true → (b || c) ≡ true
-      or_more true c e = refl
-      or_more false c e = e
-
-      by_test : (t : Bool) → is_due (i + suc j) (due_from n (i + 1) xs) ≡ true → is_due (i + suc j) (cond t (due_at i y ∷ due_from n (i + 1) xs) (due_from n (i + 1) xs)) ≡ true
-      by_test true more = or_more _ (is_due (i + suc j) (due_from n (i + 1) xs)) more
-      by_test false more = more
-
   -- ---- once all are gone that go
 
   pub ready_first : (xs ys : List OutletState) → AreSpared n v xs ys → AllByRecursion (λ (y : OutletState). leaves n v y ≡ true → has_bodies y.bodies ≡ false) ys → AreReady (due_from n 0 xs) ys
-  ready_first xs ys spared gone j y at on = record { off = off; due = λ called none. by_old (spared j y at) called none }
+  ready_first xs ys spared gone j y at on = record { off = off; due = λ called none. by_old (spared j y at) called none; rows = λ rows wrong. by_rows (spared j y at) rows }
     where
-      off : calls_for cases y.filling (Some v) ≡ false → has_bodies y.bodies ≡ false
-      off e = at_place (λ (z : OutletState). leaves n v z ≡ true → has_bodies z.bodies ≡ false) ys j y gone at (ap (λ (b : Bool). b && goes y.filling v) on ∙ off_goes cases y.filling v e)
+      off : has_rows y.filling ≡ false → calls_for cases y.filling (Some v) ≡ false → has_bodies y.bodies ≡ false
+      off one e = at_place (λ (z : OutletState). leaves n v z ≡ true → has_bodies z.bodies ≡ false) ys j y gone at (ap (λ (b : Bool). b && goes y.filling v) on ∙ off_goes cases y.filling v one e)
 
-      by_old : (x : OutletState) × (slice_get xs j ≡ Some x) × IsSpared n v x y → calls_for cases y.filling (Some v) ≡ true → has_bodies y.bodies ≡ false → is_due j (due_from n 0 xs) ≡ true
+      old_on : (x : OutletState) → IsSpared n v x y → is_filled_by n x ≡ true
+      old_on x was = ap (λ (m : ℕ). is_at (nat_cmp n) m) (sym was.serial) ∙ on
+
+      by_rows : (x : OutletState) × (slice_get xs j ≡ Some x) × IsSpared n v x y → has_rows y.filling ≡ true → is_due_by (λ (d : Due). has_rows d.filling) j (due_from n 0 xs) ≡ true
+      by_rows (x, get, was) rows =
+          ap (λ (k : ℕ). is_due_by (λ (d : Due). has_rows d.filling) k (due_from n 0 xs)) (let e : j ≡ 0 + j = omega arith in e)
+          ∙ due_there n (λ (d : Due). has_rows d.filling) 0 xs j x get (old_on x was) (λ k. ap has_rows (sym was.filling) ∙ rows)
+
+      by_old : (x : OutletState) × (slice_get xs j ≡ Some x) × IsSpared n v x y → calls_for cases y.filling (Some v) ≡ true → has_bodies y.bodies ≡ false → is_due_by (comes cases v) j (due_from n 0 xs) ≡ true
       by_old (x, get, was) called none =
-          ap (λ (k : ℕ). is_due k (due_from n 0 xs)) (let e : j ≡ 0 + j = omega arith in e)
-          ∙ due_there 0 xs j x get (ap (λ (m : ℕ). is_at (nat_cmp n) m) (sym was.serial) ∙ on) (by_goes (goes x.filling v) refl)
+          ap (λ (k : ℕ). is_due_by (comes cases v) k (due_from n 0 xs)) (let e : j ≡ 0 + j = omega arith in e)
+          ∙ due_there n (comes cases v) 0 xs j x get (old_on x was) (λ k. by_goes k (goes x.filling v) refl)
         where
           calls : calls_for cases x.filling (Some v) ≡ true
           calls = ap (λ (f : Filling). calls_for cases f (Some v)) (sym was.filling) ∙ called
 
-          by_goes : (t : Bool) → goes x.filling v ≡ t → comes cases v (due_at 0 x) ≡ true
-          by_goes true e =
+          by_goes : (k : ℕ) (t : Bool) → goes x.filling v ≡ t → comes cases v (due_at k x) ≡ true
+          by_goes k true e =
               ap (λ (t : Bool). t && not (has_bodies x.bodies && not (goes x.filling v))) calls
               ∙ (ap (λ (t : Bool). not (has_bodies x.bodies && not t)) e ∙ ap not (and_false (has_bodies x.bodies)))
-          by_goes false e =
+          by_goes k false e =
               let same = was.bodies (ap (λ (t : Bool). is_filled_by n x && t) e ∙ and_false (is_filled_by n x)) in
               let empty : has_bodies x.bodies ≡ false = ap has_bodies (sym same) ∙ none in
               ap (λ (t : Bool). t && not (has_bodies x.bodies && not (goes x.filling v))) calls ∙ ap (λ (t : Bool). not (t && not (goes x.filling v))) empty
@@ -140,80 +186,101 @@ module _ (n : ℕ) (cases : List Case) (v : ViewTree) where
 
   -- ---- one after another
 
-  -- one that isn't to get a body is done
-  pub ready_skip : (d : Due) (ds : List Due) (xs : List OutletState) → comes cases v d ≡ false → AreReady (d ∷ ds) xs → AreReady ds xs
-  ready_skip d ds xs off h j x at on =
+  -- one that isn't to get a body, and has no rows, is done
+  pub ready_skip : (d : Due) (ds : List Due) (xs : List OutletState) → has_rows d.filling ≡ false → comes cases v d ≡ false → AreReady (d ∷ ds) xs → AreReady ds xs
+  ready_skip d ds xs one off h j x at on =
       let was = h j x at on in
       record {
         off = was.off;
-        due = λ called none. sym (ap (λ (t : Bool). (d.outlet == j && t) || is_due j ds) off ∙ ap (λ (t : Bool). t || is_due j ds) (and_false (d.outlet == j))) ∙ was.due called none;
+        due = λ called none. due_skip (comes cases v) d ds j off (was.due called none);
+        rows = λ rows wrong. due_skip (λ (d : Due). has_rows d.filling) d ds j one (was.rows rows wrong);
       }
 
   -- and so is one that got a body
-  added_place : (k : ℕ) (b : Body) (xs : List OutletState) (j : ℕ) (x : OutletState) → slice_get (body_added k b xs) j ≡ Some x → (y : OutletState) × (slice_get xs j ≡ Some y) × (((k ≡ j → ⊥) × (x ≡ y)) ⊎ ((k ≡ j) × (x ≡ with_body b y)))
-  added_place k b [] j x at = absurd (cc)
-  added_place zero b (y ∷ xs) zero x at = (y, refl, inr (refl, let same : with_body b y ≡ x = cc in sym same))
-  added_place zero b (y ∷ xs) (suc j) x at = (x, at, inl ((λ e. omega (arith, e)), refl))
-  added_place (suc k) b (y ∷ xs) zero x at = (y, refl, inl ((λ e. omega (arith, e)), let same : y ≡ x = cc in sym same))
-  added_place (suc k) b (y ∷ xs) (suc j) x at = by_place (added_place k b xs j x at)
+  pub ready_next : (d : Due) (ds : List Due) (b : Body) (xs : List OutletState) → has_rows d.filling ≡ false → comes cases v d ≡ true → AreOfSite (d ∷ ds) xs → AreReady (d ∷ ds) xs → AreReady ds (body_added d.outlet 0 b xs)
+  ready_next d ds b xs one come of h j x at on = by_place (added_place d.outlet 0 b xs j x at)
     where
-      by_place : (z : OutletState) × (slice_get xs j ≡ Some z) × (((k ≡ j → ⊥) × (x ≡ z)) ⊎ ((k ≡ j) × (x ≡ with_body b z)))
-          → (z : OutletState) × (slice_get xs j ≡ Some z) × (((suc k ≡ suc j → ⊥) × (x ≡ z)) ⊎ ((suc k ≡ suc j) × (x ≡ with_body b z)))
-      by_place (z, get, inl h) = (z, get, inl ((λ e. h.0 (omega (arith, e))), h.1))
-      by_place (z, get, inr h) = (z, get, inr (ap suc h.0, h.1))
-
-  more_bodies : (b : Body) (bs : List Body) → has_bodies (bs ++ b ∷ []) ≡ true
-  more_bodies b [] = refl
-  more_bodies b (c ∷ bs) = refl
-
-  not_eqb : (i j : ℕ) → (i ≡ j → ⊥) → (i == j) ≡ false
-  not_eqb i j ne = by_test (i == j) refl
-    where
-      by_test : (t : Bool) → (i == j) ≡ t → t ≡ false
-      by_test true e = absurd (ne (eqb-true i j e))
-      by_test false e = refl
-
-  pub ready_next : (d : Due) (ds : List Due) (b : Body) (xs : List OutletState) → comes cases v d ≡ true → AreOfSite (d ∷ ds) xs → AreReady (d ∷ ds) xs → AreReady ds (body_added d.outlet b xs)
-  ready_next d ds b xs come of h j x at on = by_place (added_place d.outlet b xs j x at)
-    where
-      by_place : (y : OutletState) × (slice_get xs j ≡ Some y) × (((d.outlet ≡ j → ⊥) × (x ≡ y)) ⊎ ((d.outlet ≡ j) × (x ≡ with_body b y))) → IsReady ds j x
+      by_place : ChangedAt (with_body 0 b) d.outlet xs j x → IsReady ds j x
       by_place (y, get, inl (ne, same)) =
           let was : IsReady (d ∷ ds) j y = h j y get (ap (is_filled_by n) (sym same) ∙ on) in
           subst (IsReady ds j) (sym same)
           (record {
             off = was.off;
-            due = λ called none. sym (ap (λ (t : Bool). (t && comes cases v d) || is_due j ds) (not_eqb d.outlet j ne)) ∙ was.due called none;
+            due = λ called none. due_other (comes cases v) d ds j ne (was.due called none);
+            rows = λ rows wrong. due_other (λ (d : Due). has_rows d.filling) d ds j ne (was.rows rows wrong);
           })
       by_place (y, get, inr (e, same)) =
-          let one : IsOfDue d y = of.0 y (ap (slice_get xs) e ∙ get) in
+          let has : IsOfDue d y = of.0 y (ap (slice_get xs) e ∙ get) in
           let asked : calls_for cases d.filling (Some v) ≡ true = (both_true (calls_for cases d.filling (Some v)) (not (has_bodies d.bodies && not (goes d.filling v))) come).0 in
-          let calls : calls_for cases y.filling (Some v) ≡ true = ap (λ (f : Filling). calls_for cases f (Some v)) one.filling ∙ asked in
+          let calls : calls_for cases y.filling (Some v) ≡ true = ap (λ (f : Filling). calls_for cases f (Some v)) has.filling ∙ asked in
           subst (IsReady ds j) (sym same)
           (record {
-            off = λ off. let two : true ≡ false = sym calls ∙ off in absurd (cc);
-            due = λ called none. let two : true ≡ false = sym (more_bodies b y.bodies) ∙ none in absurd (cc);
+            off = λ no off. let two : true ≡ false = sym calls ∙ off in absurd (cc);
+            due = λ called none. let two : true ≡ false = none in absurd (cc);
+            rows = λ rows wrong. let two : true ≡ false = sym rows ∙ (ap has_rows has.filling ∙ one) in absurd (cc);
           })
 
-  pub of_next : (k : ℕ) (b : Body) (ds : List Due) (xs : List OutletState) → AreOfSite ds xs → AreOfSite ds (body_added k b xs)
-  of_next k b ds xs all = all_map (λ (d : Due). (x : OutletState) → slice_get xs d.outlet ≡ Some x → IsOfDue d x) (λ (d : Due). (x : OutletState) → slice_get (body_added k b xs) d.outlet ≡ Some x → IsOfDue d x) ds (λ d h x at. by_place d x h (added_place k b xs d.outlet x at)) all
+  -- and one whose rows are those that are called for
+  pub ready_rows : (d : Due) (ds : List Due) (xs ys : List OutletState) → has_rows d.filling ≡ true → AreOfSite (d ∷ ds) xs → Altered d.outlet xs ys
+      → ((y : OutletState) → slice_get ys d.outlet ≡ Some y → is_filled cases y.filling (Some v) (roles_in y.bodies) ≡ true) → AreReady (d ∷ ds) xs → AreReady ds ys
+  ready_rows d ds xs ys many of altered right h j y at on = by_old (altered j y at)
     where
-      by_place : (d : Due) (x : OutletState) → ((y : OutletState) → slice_get xs d.outlet ≡ Some y → IsOfDue d y)
-          → (y : OutletState) × (slice_get xs d.outlet ≡ Some y) × (((k ≡ d.outlet → ⊥) × (x ≡ y)) ⊎ ((k ≡ d.outlet) × (x ≡ with_body b y))) → IsOfDue d x
-      by_place d x h (y, get, inl (ne, same)) = subst (IsOfDue d) (sym same) (h y get)
-      by_place d x h (y, get, inr (e, same)) = subst (IsOfDue d) (sym same) (record { site = (h y get).site; filling = (h y get).filling })
+      by_old : (x : OutletState) × (slice_get xs j ≡ Some x) × IsAlike d.outlet j x y → IsReady ds j y
+      by_old (x, get, like) =
+          by_same_place (IsReady ds j y) j d.outlet
+          (λ e.
+          let rows : has_rows y.filling ≡ true = ap has_rows (like.filling ∙ (of.0 x (ap (slice_get xs) (sym e) ∙ get)).filling) ∙ many in
+          record {
+            off = λ no off. absurd (not_both (has_rows y.filling) rows no);
+            due = λ called none. absurd (not_both (calls_for cases y.filling (Some v)) called (rows_uncalled cases y.filling v rows));
+            rows = λ rows wrong. absurd (not_both (is_filled cases y.filling (Some v) (roles_in y.bodies)) (right y (ap (slice_get ys) (sym e) ∙ at)) wrong);
+          })
+          (λ other.
+          let was : IsReady (d ∷ ds) j x = h j x get (ap (λ (m : ℕ). is_at (nat_cmp n) m) (sym like.serial) ∙ on) in
+          let same : y.bodies ≡ x.bodies = like.bodies other in
+          let ne : d.outlet ≡ j → ⊥ = λ e. other (sym e) in
+          record {
+            off = λ no off. ap has_bodies same ∙ was.off (ap has_rows (sym like.filling) ∙ no) (ap (λ (f : Filling). calls_for cases f (Some v)) (sym like.filling) ∙ off);
+            due = λ called none. due_other (comes cases v) d ds j ne (was.due (ap (λ (f : Filling). calls_for cases f (Some v)) (sym like.filling) ∙ called) (ap has_bodies (sym same) ∙ none));
+            rows = λ rows wrong.
+                due_other (λ (d : Due). has_rows d.filling) d ds j ne
+                (was.rows (ap has_rows (sym like.filling) ∙ rows)
+                (ap (λ (f : Filling). is_filled cases f (Some v) (roles_in x.bodies)) (sym like.filling) ∙ (ap (λ (bs : List Body). is_filled cases y.filling (Some v) (roles_in bs)) (sym same) ∙ wrong)));
+          })
+
+  pub of_next : (o : ℕ) (ds : List Due) (xs ys : List OutletState) → Altered o xs ys → AreOfSite ds xs → AreOfSite ds ys
+  of_next o ds xs ys altered all = all_map (λ (d : Due). (x : OutletState) → slice_get xs d.outlet ≡ Some x → IsOfDue d x) (λ (d : Due). (y : OutletState) → slice_get ys d.outlet ≡ Some y → IsOfDue d y) ds (λ d h y at. by_old d h y (altered d.outlet y at)) all
+    where
+      by_old : (d : Due) → ((x : OutletState) → slice_get xs d.outlet ≡ Some x → IsOfDue d x) → (y : OutletState) → (x : OutletState) × (slice_get xs d.outlet ≡ Some x) × IsAlike o d.outlet x y → IsOfDue d y
+      by_old d h y (x, get, like) = record { site = ap (λ (m : ℕ). is_at (nat_cmp n) m) like.serial ∙ (h x get).site; filling = like.filling ∙ (h x get).filling }
 
   -- once none is due, all have what is called for
-  pub ready_last : (xs : List OutletState) → AreReady [] xs → AllByRecursion (λ (x : OutletState). is_filled_by n x ≡ true → has_bodies x.bodies ≡ calls_for cases x.filling (Some v)) xs
+  any_roles : (bs : List Body) → has_roles (roles_in bs) ≡ has_bodies bs
+  any_roles [] = refl
+  any_roles (b ∷ bs) = refl
+
+  as_called : (called : Bool) (bs : List Body) → (called ≡ false → has_bodies bs ≡ false) → (called ≡ true → has_bodies bs ≡ false → false ≡ true) → is_as_called called (roles_in bs) ≡ true
+  as_called true bs off due = any_roles bs ∙ by_bodies (has_bodies bs) refl
+    where
+      by_bodies : (b : Bool) → has_bodies bs ≡ b → has_bodies bs ≡ true
+      by_bodies true e = e
+      by_bodies false e = let two : false ≡ true = due refl e in absurd (cc)
+  as_called false bs off due = ap not (any_roles bs ∙ off refl)
+
+  one_last : (x : OutletState) (j : ℕ) → IsReady [] j x → (f : Filling) → x.filling ≡ f → is_filled cases f (Some v) (roles_in x.bodies) ≡ true
+  one_last x j was (body_if b) is =
+      as_called (calls_for cases (body_if b) (Some v)) x.bodies (λ off. was.off (ap has_rows is) (ap (λ (f : Filling). calls_for cases f (Some v)) is ∙ off)) (λ called none. was.due (ap (λ (f : Filling). calls_for cases f (Some v)) is ∙ called) none)
+  one_last x j was (on_case c b) is =
+      as_called (calls_for cases (on_case c b) (Some v)) x.bodies (λ off. was.off (ap has_rows is) (ap (λ (f : Filling). calls_for cases f (Some v)) is ∙ off)) (λ called none. was.due (ap (λ (f : Filling). calls_for cases f (Some v)) is ∙ called) none)
+  one_last x j was (for_each r b) is = by_test (is_filled cases (for_each r b) (Some v) (roles_in x.bodies)) refl
+    where
+      by_test : (t : Bool) → is_filled cases (for_each r b) (Some v) (roles_in x.bodies) ≡ t → t ≡ true
+      by_test true e = refl
+      by_test false e = let two : false ≡ true = was.rows (ap has_rows is) (ap (λ (f : Filling). is_filled cases f (Some v) (roles_in x.bodies)) is ∙ e) in absurd (cc)
+
+  pub ready_last : (xs : List OutletState) → AreReady [] xs → AllByRecursion (λ (x : OutletState). is_filled_by n x ≡ true → is_filled cases x.filling (Some v) (roles_in x.bodies) ≡ true) xs
   ready_last [] h = tt
-  ready_last (x ∷ xs) h = ((λ on. by_call (calls_for cases x.filling (Some v)) refl (h 0 x refl on)), ready_last xs (λ j y at on. again j y (h (suc j) y at on)))
+  ready_last (x ∷ xs) h = ((λ on. one_last x 0 (h 0 x refl on) x.filling refl), ready_last xs (λ j y at on. again j y (h (suc j) y at on)))
     where
       again : (j : ℕ) (y : OutletState) → IsReady [] (suc j) y → IsReady [] j y
-      again j y was = record { off = was.off; due = was.due }
-
-      by_bodies : (b : Bool) → has_bodies x.bodies ≡ b → (has_bodies x.bodies ≡ false → false ≡ true) → has_bodies x.bodies ≡ true
-      by_bodies true e due = e
-      by_bodies false e due = let two : false ≡ true = due e in absurd (cc)
-
-      by_call : (t : Bool) → calls_for cases x.filling (Some v) ≡ t → IsReady [] 0 x → has_bodies x.bodies ≡ calls_for cases x.filling (Some v)
-      by_call true e was = by_bodies (has_bodies x.bodies) refl (was.due e) ∙ sym e
-      by_call false e was = was.off e ∙ sym e
+      again j y was = record { off = was.off; due = was.due; rows = was.rows }

@@ -6,7 +6,7 @@ use Rattle.ng_base.specs.Views.{ViewTree}
 use Rattle.ng_base.specs.declared.path.Key.{Key}
 use Rattle.ng_digest.specs.declared.rounds.DigestFault.{DigestFault}
 use Rattle.ng_digest.specs.Plain.{Plain, PlainDigests}
-use Rattle.ng_fire.specs.Blocks.{site_fired}
+use Rattle.ng_fire.specs.SiteFires.{site_fired}
 use Rattle.ng_fire.specs.Fires.{fired as fires, fire_of_site, fire_run, fired_by as fired_run}
 use Rattle.ng_fire.specs.Runs.{ran}
 use Rattle.ng_fire.specs.Settling as settling

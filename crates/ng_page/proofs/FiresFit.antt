@@ -9,26 +9,32 @@ use Rattle.std.specs.declared.cmp.Ordering.{Ordering}
 use Rattle.std.specs.declared.cmp.Ordering.TheVariants.{Less, Equal, Greater}
 use Rattle.ng_base.specs.Views.{ViewTree}
 use Rattle.ng_base.specs.declared.path.Key.{Key}
-use Rattle.ng_drawing.specs.Cases.{Case, calls_for}
-use Rattle.ng_drawing.specs.Template.{Fragment}
-use Rattle.ng_fire.specs.Blocks.{Firing, begins_firing, gone, all_gone, filled, has_bodies, goes, outlets_emptied, cases_due, body_of, comes, outlet_filled, outlets_filled, outlets_fired, site_fired}
+use Rattle.ng_drawing.specs.Cases.{Case}
+use Rattle.ng_drawing.specs.Roles.{a_body}
+use Rattle.ng_drawing.specs.Rows.{is_filled}
+use Rattle.ng_drawing.specs.Template.{Fragment, Filling, body_if, on_case, for_each, Repeated}
+use Rattle.ng_fire.specs.Blocks.{Firing, begins_firing, gone, all_gone, filled, goes, outlets_emptied, cases_due, body_of, comes}
+use Rattle.ng_fire.specs.Repeats.{repeat_fired}
+use Rattle.ng_fire.specs.SiteFires.{body_filled, filled_by, outlet_filled, outlets_filled, outlets_fired, site_fired}
 use Rattle.ng_fire.specs.Fires.{fired as fires, fire_of_site, fire_run, fired_by}
-use Rattle.ng_link.specs.Calls.{keeping_at}
+use Rattle.ng_link.specs.Calls.{in_outlet, keeping_at}
 use Rattle.ng_link.specs.Due.{Due, all_due, due_from}
 use Rattle.ng_link.specs.Events.{scope_in}
 use Rattle.ng_link.specs.Instances.{Body, OutletState, Linked, linked_at, is_site_in, is_site, is_filled_by, with_outlets, body_added}
 use Rattle.ng_link.specs.Shape.{key_on}
-use Rattle.ng_link.specs.State.{State}
+use Rattle.ng_link.specs.State.{State, roles_in}
 use Rattle.ng_link.proofs.Keys.{key_is}
 use Rattle.ng_watch.specs.Keys.{key_cmp, is_key}
 use Rattle.ng_watch.specs.Table.{found}
 use Rattle.ng_page.specs.PageLaws.{told_itself}
 use Rattle.ng_page.specs.PageMachine.{with_faulted}
 use Rattle.ng_page.specs.Settled.{cases_under, CallsFor, OutletFits, IsWatched, Fits}
+use Rattle.ng_page.proofs.Altered.{added_altered}
 use Rattle.ng_page.proofs.Filled.{IsMade, filled_made}
 use Rattle.ng_page.proofs.Fitting.{IsOut, number_itself, kept_here, fits_stays, fits_keeping, fits_beside, fits_with}
-use Rattle.ng_page.proofs.Coming.{due_cases, AreReady, AreOfSite, ready_first, of_first, ready_skip, ready_next, of_next, ready_last}
+use Rattle.ng_page.proofs.Coming.{has_rows, not_both, due_cases, AreReady, AreOfSite, ready_first, of_first, ready_skip, ready_next, ready_rows, of_next, ready_last}
 use Rattle.ng_page.proofs.Going.{going, Goes, goes_first, goes_last, spared_first, due_going, same_going}
+use Rattle.ng_page.proofs.RowsFit.{outlets_in, IsRepeated, repeat_fits}
 use Rattle.ng_page.proofs.StepsStay.{run_sites}
 use Rattle.ng_page.proofs.Under.{IsUnder, IsSince, IsLeft, under_all_gone}
 use Rattle.ng_page.proofs.Watched.{all_map, all_both, watched_stays, kept_watched}
@@ -71,12 +77,8 @@ module _ (k : Key) (v : ViewTree) (scope : ℕ) (ks : List Key) (left : list_any
       pub sites : (m : Linked) → linked_at k.path h.state.instances ≡ Some m → AreSites m
       pub ready : h.faulted ≡ false → Ready ds h.state
 
-    not_both : (b : Bool) → b ≡ true → b ≡ false → ⊥
-    not_both true e f = cc
-    not_both false e f = cc
-
-    next_made : (d : Due) (ds : List Due) (g h : Firing) → comes cases v d ≡ true → IsMade k v scope ks left d.outlet g h → IsOn (d ∷ ds) g → IsOn ds h
-    next_made d ds g h come made on = record {
+    next_made : (d : Due) (ds : List Due) (g h : Firing) → has_rows d.filling ≡ false → comes cases v d ≡ true → IsMade k v scope ks left d.outlet 0 a_body g h → IsOn (d ∷ ds) g → IsOn ds h
+    next_made d ds g h one come made on = record {
       under = made.under;
       of = λ m at. by_of m (made.stood m at);
       sites = λ m at. by_sites m (made.stood m at);
@@ -84,12 +86,15 @@ module _ (k : Key) (v : ViewTree) (scope : ℕ) (ks : List Key) (left : list_any
     }
       where
         Stood : Linked → Type 0
-        Stood m = (o : Linked) × (linked_at k.path g.state.instances ≡ Some o) × (((h.faulted ≡ true) × (m ≡ o)) ⊎ ((h.faulted ≡ g.faulted) × ((b : Body) × (m ≡ with_outlets (body_added d.outlet b) o))))
+        Stood m = (o : Linked) × (linked_at k.path g.state.instances ≡ Some o)
+            × (((h.faulted ≡ true) × (m ≡ o)) ⊎ ((h.faulted ≡ g.faulted) × ((p : List ℕ) × (m ≡ with_outlets (body_added d.outlet 0 (record { path = p; role = a_body })) o))))
 
         by_of : (m : Linked) → Stood m → AreOfSite k.serial.0 cases v ds m.page.outlets
         by_of m (o, at, inl two) = subst (λ (x : Linked). AreOfSite k.serial.0 cases v ds x.page.outlets) (sym two.1) (on.of o at).1
         by_of m (o, at, inr two) =
-            subst (λ (x : Linked). AreOfSite k.serial.0 cases v ds x.page.outlets) (sym two.1.1) (of_next k.serial.0 cases v d.outlet two.1.0 ds o.page.outlets (on.of o at).1)
+            let b : Body = record { path = two.1.0; role = a_body } in
+            subst (λ (x : Linked). AreOfSite k.serial.0 cases v ds x.page.outlets) (sym two.1.1)
+            (of_next k.serial.0 cases v d.outlet ds o.page.outlets (body_added d.outlet 0 b o.page.outlets) (added_altered d.outlet 0 b o.page.outlets) (on.of o at).1)
 
         by_sites : (m : Linked) → Stood m → AreSites m
         by_sites m (o, at, inl two) = subst AreSites (sym two.1) (on.sites o at)
@@ -99,20 +104,21 @@ module _ (k : Key) (v : ViewTree) (scope : ℕ) (ks : List Key) (left : list_any
         by_ready ok m (o, at, inl two) = absurd (not_both h.faulted two.0 ok)
         by_ready ok m (o, at, inr two) =
             subst (λ (x : Linked). AreReady k.serial.0 cases v ds x.page.outlets) (sym two.1.1)
-            (ready_next k.serial.0 cases v d ds two.1.0 o.page.outlets come (on.of o at) (on.ready (sym two.0 ∙ ok) o at))
+            (ready_next k.serial.0 cases v d ds (record { path = two.1.0; role = a_body }) o.page.outlets one come (on.of o at) (on.ready (sym two.0 ∙ ok) o at))
 
-    one_on : (d : Due) (ds : List Due) (g : Firing) → IsOn (d ∷ ds) g → IsOn ds (outlet_filled k.path scope cases v d g)
-    one_on d ds g on = by_comes (comes cases v d) refl g.faulted refl
+    -- a body is made where it comes
+    body_on : (d : Due) (ds : List Due) (g : Firing) → has_rows d.filling ≡ false → IsOn (d ∷ ds) g → IsOn ds (body_filled k.path scope cases v d g)
+    body_on d ds g one on = by_comes (comes cases v d) refl g.faulted refl
       where
         done : Firing
-        done = filled k.path scope d.outlet (d.template, body_of d.filling) g
+        done = filled (in_outlet k.path d.outlet 0 a_body) scope [] (d.template, body_of d.filling) g
 
         by_comes : (b : Bool) → comes cases v d ≡ b → (f : Bool) → g.faulted ≡ f → IsOn ds (cond (b && not f) done g)
         by_comes false off f fault = record {
           under = on.under;
           of = λ m at. (on.of m at).1;
           sites = on.sites;
-          ready = λ ok m at. ready_skip k.serial.0 cases v d ds m.page.outlets off (on.ready ok m at);
+          ready = λ ok m at. ready_skip k.serial.0 cases v d ds m.page.outlets one off (on.ready ok m at);
         }
         by_comes true come true fault = record {
           under = on.under;
@@ -121,7 +127,63 @@ module _ (k : Key) (v : ViewTree) (scope : ℕ) (ks : List Key) (left : list_any
           ready = λ ok m at. absurd (not_both g.faulted fault ok);
         }
         by_comes true come false fault =
-            next_made d ds g done come (filled_made k v scope ks left d.outlet d.template (body_of d.filling) g on.under (λ m x at get. ((on.of m at).0 x get).site)) on
+            next_made d ds g done one come (filled_made k v scope ks left d.outlet 0 a_body [] d.template (body_of d.filling) g on.under (λ m x at get. ((on.of m at).0 x get).site)) on
+
+    -- rows become those of the entries
+    rows_on : (d : Due) (ds : List Due) (r : Repeated) (b : ℕ) (g : Firing) → d.filling ≡ for_each r b → IsOn (d ∷ ds) g → IsOn ds (cond g.faulted g (repeat_fired k.path scope v d.outlet (d.template, b) r g))
+    rows_on d ds r b g is on = by_fault g.faulted refl
+      where
+        xs : List OutletState
+        xs = outlets_in (linked_at k.path g.state.instances)
+
+        h : Firing
+        h = repeat_fired k.path scope v d.outlet (d.template, b) r g
+
+        of_xs : (l : Option Linked) → linked_at k.path g.state.instances ≡ l → AreOfSite k.serial.0 cases v (d ∷ ds) (outlets_in l)
+        of_xs None e = none_of (d ∷ ds)
+          where
+            none_of : (es : List Due) → AreOfSite k.serial.0 cases v es []
+            none_of [] = tt
+            none_of (e ∷ es) = ((λ x get. absurd (cc)), none_of es)
+        of_xs (Some l) e = on.of l e
+
+        ready_xs : g.faulted ≡ false → (l : Option Linked) → linked_at k.path g.state.instances ≡ l → AreReady k.serial.0 cases v (d ∷ ds) (outlets_in l)
+        ready_xs ok None e = λ j x at. absurd (cc)
+        ready_xs ok (Some l) e = on.ready ok l e
+
+        of : AreOfSite k.serial.0 cases v (d ∷ ds) xs
+        of = of_xs (linked_at k.path g.state.instances) refl
+
+        made : IsRepeated k v scope ks left d.outlet l.page.serials l.fragment g h
+        made = repeat_fits k v scope ks left d.outlet d.template b r l.page.serials l.fragment g (λ x get. (of.0 x get).site) on.sites on.under
+
+        by_fault : (t : Bool) → g.faulted ≡ t → IsOn ds (cond t g h)
+        by_fault true fault = record {
+          under = on.under;
+          of = λ m at. (on.of m at).1;
+          sites = on.sites;
+          ready = λ ok m at. absurd (not_both g.faulted fault ok);
+        }
+        by_fault false fault = record {
+          under = made.under;
+          of = λ m at. of_next k.serial.0 cases v d.outlet ds xs m.page.outlets (made.altered m at) of.1;
+          sites = made.sites;
+          ready = λ ok m at.
+              ready_rows k.serial.0 cases v d ds xs m.page.outlets (ap has_rows is) of (made.altered m at)
+              (λ y get.
+              let was = made.altered m at d.outlet y get in
+              let filling : y.filling ≡ for_each r b = was.2.filling ∙ ((of.0 was.0 was.1).filling ∙ is) in
+              ap (λ (f : Filling). is_filled cases f (Some v) (roles_in y.bodies)) filling ∙ made.rows ok m at y get)
+              (ready_xs fault (linked_at k.path g.state.instances) refl);
+        }
+
+    one_on : (d : Due) (ds : List Due) (g : Firing) → IsOn (d ∷ ds) g → IsOn ds (outlet_filled k.path scope cases v d g)
+    one_on d ds g on = by_filling d.filling refl
+      where
+        by_filling : (f : Filling) → d.filling ≡ f → IsOn ds (filled_by k.path scope cases v d f g)
+        by_filling (body_if b) is = body_on d ds g (ap has_rows is) on
+        by_filling (on_case c b) is = body_on d ds g (ap has_rows is) on
+        by_filling (for_each r b) is = rows_on d ds r b g is on
 
     all_on : (ds : List Due) (g : Firing) → IsOn ds g → IsOn [] (outlets_filled k.path scope cases v ds g)
     all_on [] g on = on
@@ -130,7 +192,7 @@ module _ (k : Key) (v : ViewTree) (scope : ℕ) (ks : List Key) (left : list_any
   -- ---- so the site's outlets have what it calls for
 
   abbrev pub IsRight : Linked → OutletState → Type 0
-  IsRight m x = is_filled_by k.serial.0 x ≡ true → has_bodies x.bodies ≡ calls_for (cases_under m.page.serials m.fragment.outlets k.serial.0) x.filling (Some v)
+  IsRight m x = is_filled_by k.serial.0 x ≡ true → is_filled (cases_under m.page.serials m.fragment.outlets k.serial.0) x.filling (Some v) (roles_in x.bodies) ≡ true
 
   pub record HasFired (h : Firing) : Type 0 where
     pub under : IsUnder k v scope ks left h.state
@@ -164,7 +226,7 @@ module _ (k : Key) (v : ViewTree) (scope : ℕ) (ks : List Key) (left : list_any
             let same = end.sites m there in
             let now : cases ≡ cases_under m.page.serials m.fragment.outlets k.serial.0 =
             those ∙ (ap (λ (ns : List ℕ). cases_under ns l.fragment.outlets k.serial.0) (sym same.0) ∙ ap (λ (f : Fragment). cases_under m.page.serials f.outlets k.serial.0) (sym same.1)) in
-            subst (λ (cs : List Case). AllByRecursion (λ (x : OutletState). is_filled_by k.serial.0 x ≡ true → has_bodies x.bodies ≡ calls_for cs x.filling (Some v)) m.page.outlets) now
+            subst (λ (cs : List Case). AllByRecursion (λ (x : OutletState). is_filled_by k.serial.0 x ≡ true → is_filled cs x.filling (Some v) (roles_in x.bodies) ≡ true) m.page.outlets) now
             (ready_last k.serial.0 cases v m.page.outlets (end.ready ok m there));
       }
 
@@ -197,7 +259,7 @@ module _ (k : Key) (v : ViewTree) (scope : ℕ) (ks : List Key) where
       let kept : w.kept ≡ Some v = u.keeps m at (ap (λ (n : ℕ). list_any (is_at (nat_cmp n)) m.page.serials) (sym number) ∙ site) w (ap (λ (q : Key). found q s.watchers) (sym same) ∙ e) in
       let on : is_filled_by k.serial.0 x ≡ true = ap (λ (n : ℕ). is_at (nat_cmp n) x.serial) (sym number) ∙ number_itself x.serial in
       subst (λ (o : Option ViewTree). CallsFor (cases_under m.page.serials m.fragment.outlets x.serial) o x) (sym kept)
-      (right on ∙ ap (λ (n : ℕ). calls_for (cases_under m.page.serials m.fragment.outlets n) x.filling (Some v)) (sym number))
+      (ap (λ (n : ℕ). is_filled (cases_under m.page.serials m.fragment.outlets n) x.filling (Some v) (roles_in x.bodies)) number ∙ right on)
 
   all_fit : (s : State) → IsUnder k v scope (insert_key key_cmp ks k) left s
       → ((m : Linked) → linked_at k.path s.instances ≡ Some m → AllByRecursion (Right m) m.page.outlets) → Fits ks s

@@ -1,6 +1,6 @@
 -- What a fire leaves of the core, and that the fault of a fire was handed over.
 use Rattle.std.proofs.Common.{◌≡◌, ◌≤◌, ◌+◌, ◌-◌, ℕ, Bool, true, false, List, [], ◌∷◌, ◌++◌, length, length-append, cond, Option, Some, Result, Ok, Err, refl, arith}
-use Rattle.std.specs.Prelude.{◌&&◌, not, is_some, nat_lt, pos}
+use Rattle.std.specs.Prelude.{is_some, nat_lt, pos}
 use Rattle.ng_core.specs.Burying.{buried}
 use Rattle.ng_core.specs.State as act
 use Rattle.ng_core.specs.State.{Run, with_fault, with_objects, with_scopes, with_serial}
@@ -18,12 +18,15 @@ use Rattle.ng_drawing.specs.Nodes.{node_limit}
 use Rattle.ng_drawing.specs.Template.{Fragment}
 use Rattle.ng_drawing.specs.Cases.{Case}
 use Rattle.ng_language.specs.Objects.{new_object, set_name}
-use Rattle.ng_fire.specs.Blocks.{Firing, begins_firing, went, gone, all_gone, object_limit, child_run, faulted_with, discarded, linked_then, body_made, filled, goes, outlet_emptied, outlets_emptied, cases_due, body_of, comes, outlet_filled, outlets_filled, outlets_fired, site_fired}
+use Rattle.ng_fire.specs.Blocks.{Firing, begins_firing, went, ended, gone, all_gone, object_limit, child_run, faulted_with, discarded, linked_then, told_on, body_made, filled, goes, outlet_emptied, outlets_emptied, cases_due}
+use Rattle.ng_fire.specs.Repeats.{items_made}
+use Rattle.ng_fire.specs.SiteFires.{outlets_filled, outlets_fired, site_fired}
+use Rattle.ng_fire.proofs.RepeatWalks.{outlets_keep}
 use Rattle.ng_fire.specs.Changes.{changed}
 use Rattle.ng_fire.specs.Fires.{fired as fires, fire_run}
 use Rattle.ng_fire.specs.Links.{Linking, begins_linking, step_linked, steps_linked, rested_on, link_by, link_at}
 use Rattle.ng_fire.specs.Runs.{program_run, destroy_run}
-use Rattle.ng_link.specs.Calls.{with_core, keeping_at, left_at, in_outlet, Place, placed_on, unlinked_at}
+use Rattle.ng_link.specs.Calls.{with_core, keeping_at, left_at, Place, placed_on, unlinked_at, arranged_at}
 use Rattle.ng_link.specs.Due.{Due, all_due}
 use Rattle.ng_link.specs.Events.{scope_in}
 use Rattle.ng_link.specs.Instances.{Body, Linked, linked_at, is_site}
@@ -31,8 +34,10 @@ use Rattle.ng_link.specs.Linking.{LinkStep, makes, starts, registers, steps, ste
 use Rattle.ng_link.specs.Shape.{linked}
 use Rattle.ng_link.specs.State.{State, live_nodes}
 use Rattle.ng_template.specs.Kept.{fragments_in}
-use Rattle.ng_act.proofs.Programs.{some_first}
+use Rattle.ng_members.specs.Leaves.{Local}
 use Rattle.ng_page.proofs.EventsStay.{part, Stays, stays_refl, stays_trans, fault_stays, number_stays, objects_stay, scopes_stay, buried_stay}
+use Rattle.ng_page.proofs.RepeatsStay.{told_stay, items_stay}
+use Rattle.ng_act.proofs.Programs.{some_first}
 use Rattle.ng_page.proofs.ScopesStay.{scopes_grow}
 use Rattle.ng_page.proofs.Sites.{SitesStay, sites_refl, sites_trans, sites_cond, core_sites, left_sites}
 use Rattle.ng_page.proofs.StepsStay.{changed_sites, followed_sites, program_stays, destroyed_stays, run_sites, fired_some}
@@ -111,6 +116,11 @@ on_fault c e g on = record {
   told = λ _. some_first g.state.core.handed.first e;
 }
 
+on_ended : (c : act.State) (p : List ℕ) (g : Firing) → Onward c g → Onward c (ended p g)
+on_ended c p g on =
+    let scope : ℕ = scope_in (linked_at p g.state.instances) in
+    on_with c g (ended p g).state (ended p g).added (followed_sites (destroy_run scope g.state.core) g.state (destroyed_stays scope g.state.core)).core on
+
 on_gone : (c : act.State) (holder : List ℕ) (b : Body) (g : Firing) → Onward c g → Onward c (gone holder b g)
 on_gone c holder b g on =
     let scope : ℕ = scope_in (linked_at b.path g.state.instances) in
@@ -131,17 +141,19 @@ on_linked c scope (Ok u) l g h on = on_with c g l.state _ h on
 on_linked c scope (Err e) l g h on =
     on_fault c e _ (on_with c g (discarded scope l.state) _ (stays_trans (part g.state.core) (part l.state.core) (part (discarded scope l.state).core) h (discarded_sites scope l.state).core) on)
 
-on_made : (c : act.State) (holder : List ℕ) (o : ℕ) (which : ℕ × ℕ) (f : Fragment) (d : act.State) (r : Result ℕ Fault) (g : Firing) → Stays (part g.state.core) (part d) → Onward c g → Onward c (body_made holder o which f d r g)
-on_made c holder o which f d (Err e) g h on = on_fault c e g on
-on_made c holder o which f d (Ok child) g h on =
-    let s : State = with_core d g.state in
-    on_linked c child (linked (live_nodes s) f.parts) (link_at (in_outlet holder o) which child f s) g
-    (stays_trans (part g.state.core) (part d) (part (link_at (in_outlet holder o) which child f s).state.core) h (link_stays (in_outlet holder o) which child f s)) on
+on_made : (c : act.State) (place : Place) (names : List Local) (which : ℕ × ℕ) (f : Fragment) (d : act.State) (r : Result ℕ Fault) (g : Firing) → Stays (part g.state.core) (part d) → Onward c g
+    → Onward c (body_made place names which f d r g)
+on_made c place names which f d (Err e) g h on = on_fault c e g on
+on_made c place names which f d (Ok child) g h on =
+    let s : State = with_core (told_on child names d) g.state in
+    let began = stays_trans (part g.state.core) (part d) (part s.core) h (told_stay child names d) in
+    on_linked c child (linked (live_nodes s) f.parts) (link_at place which child f s) g
+    (stays_trans (part g.state.core) (part s.core) (part (link_at place which child f s).state.core) began (link_stays place which child f s)) on
 
-on_filled : (c : act.State) (holder : List ℕ) (scope o : ℕ) (which : ℕ × ℕ) (g : Firing) → Onward c g → Onward c (filled holder scope o which g)
-on_filled c holder scope o which g on =
+on_filled : (c : act.State) (place : Place) (scope : ℕ) (names : List Local) (which : ℕ × ℕ) (g : Firing) → Onward c g → Onward c (filled place scope names which g)
+on_filled c place scope names which g on =
     let r : Run ℕ = child_run scope g.state.core in
-    on_made c holder o which (fragments_in g.state.templates which.0 which.1) r.0 r.1 g (child_stays scope g.state.core) on
+    on_made c place names which (fragments_in g.state.templates which.0 which.1) r.0 r.1 g (child_stays scope g.state.core) on
 
 on_either : (c : act.State) (b : Bool) (g h : Firing) → Onward c g → Onward c h → Onward c (cond b g h)
 on_either c true g h one two = one
@@ -153,10 +165,15 @@ on_emptied c holder v (d ∷ ds) g on =
     on_emptied c holder v ds (outlet_emptied holder v d g) (on_either c (goes d.filling v) (all_gone holder d.bodies g) g (on_all_gone c holder d.bodies g on) on)
 
 on_come : (c : act.State) (holder : List ℕ) (scope : ℕ) (cases : List Case) (v : ViewTree) (ds : List Due) (g : Firing) → Onward c g → Onward c (outlets_filled holder scope cases v ds g)
-on_come c holder scope cases v [] g on = on
-on_come c holder scope cases v (d ∷ ds) g on =
-    on_come c holder scope cases v ds (outlet_filled holder scope cases v d g)
-    (on_either c (comes cases v d && not g.faulted) (filled holder scope d.outlet (d.template, body_of d.filling) g) g (on_filled c holder scope d.outlet (d.template, body_of d.filling) g on) on)
+on_come c =
+    outlets_keep (Onward c)
+    (λ scope names g on. on_with c g (with_core (told_on scope names g.state.core) g.state) g.added (told_stay scope names g.state.core) on)
+    (λ e g on. on_fault c e g on)
+    (λ es g on. on_with c g (with_core (items_made es [] g.state.core).0 g.state) g.added (items_stay es [] g.state.core) on)
+    (on_ended c)
+    (λ holder p g on. on_with c g (unlinked_at holder p g.state) g.added (stays_refl (part g.state.core)) on)
+    (λ holder o bs g on. on_with c g (arranged_at holder o bs g.state) g.added (stays_refl (part g.state.core)) on)
+    (on_filled c)
 
 on_outlets : (c : act.State) (holder : List ℕ) (scope : ℕ) (v : ViewTree) (ds : List Due) (g : Firing) → Onward c g → Onward c (outlets_fired holder scope v ds g)
 on_outlets c holder scope v ds g on = on_come c holder scope (cases_due ds) v ds (outlets_emptied holder v ds g) (on_emptied c holder v ds g on)

@@ -1,6 +1,5 @@
 -- What no step of a page takes back: its templates, and the numbers of registration that were given.
 use Rattle.std.proofs.Common.{◌≡◌, ◌≤◌, ◌-◌, ◌∙◌, ℕ, Bool, true, false, cond, List, [], ◌∷◌, Option, Some, None, Result, Ok, Err, refl, sym, subst, arith}
-use Rattle.std.specs.Prelude.{◌&&◌, not}
 use Rattle.std.specs.List.{AllByRecursion}
 use Rattle.ng_core.specs.State as act
 use Rattle.ng_core.specs.State.{Run}
@@ -14,13 +13,15 @@ use Rattle.ng_drawing.specs.Cases.{Case}
 use Rattle.ng_drawing.specs.Nodes.{node_limit}
 use Rattle.ng_drawing.specs.Template.{Fragment}
 use Rattle.ng_fire.proofs.Numbered.{linking_numbered}
-use Rattle.ng_fire.specs.Blocks.{Firing, begins_firing, gone, all_gone, child_run, linked_then, body_made, filled, goes, outlet_emptied, outlets_emptied, cases_due, body_of, comes, outlet_filled, outlets_filled, outlets_fired, site_fired}
+use Rattle.ng_fire.proofs.RepeatWalks.{outlets_keep}
+use Rattle.ng_fire.specs.Blocks.{Firing, begins_firing, ended, gone, all_gone, child_run, linked_then, told_on, body_made, filled, goes, outlet_emptied, outlets_emptied, cases_due}
+use Rattle.ng_fire.specs.SiteFires.{outlets_filled, outlets_fired, site_fired}
 use Rattle.ng_fire.specs.Fires.{fired as fires}
 use Rattle.ng_fire.specs.Links.{Linking, begins_linking, steps_linked, link_by, link_at}
 use Rattle.ng_fire.specs.Runs.{followed, destroy_run}
 use Rattle.ng_fire.specs.Settling.{unset_all}
 use Rattle.ng_language.specs.Trees.{Trees}
-use Rattle.ng_link.specs.Calls.{with_core, keeping_at, is_drawn, unset_at, left_at, in_outlet, Place, placed_on}
+use Rattle.ng_link.specs.Calls.{with_core, keeping_at, is_drawn, unset_at, left_at, Place, placed_on}
 use Rattle.ng_link.specs.Due.{Due, all_due}
 use Rattle.ng_link.specs.Events.{handlers_at, scope_of, scope_in}
 use Rattle.ng_link.specs.Instances.{Body, Linked, linked_at, is_site}
@@ -28,6 +29,7 @@ use Rattle.ng_link.specs.Linking.{steps, steps_within}
 use Rattle.ng_link.specs.Shape.{linked}
 use Rattle.ng_link.specs.State.{State, live_nodes}
 use Rattle.ng_template.specs.Kept.{Named, fragments_in}
+use Rattle.ng_members.specs.Leaves.{Local}
 use Rattle.ng_watch.specs.Table.{with_kept}
 use Rattle.ng_page.specs.Answered.{DigestsWhere}
 use Rattle.ng_page.specs.Commands.{Asked, begun, asked_run}
@@ -50,10 +52,13 @@ use Rattle.ng_page.proofs.Turns.{handling_sites}
 abbrev Has : List Named → Firing → Type 0
 Has ts g = g.state.templates ≡ ts
 
-gone_has : (ts : List Named) (holder : List ℕ) (b : Body) (g : Firing) → Has ts g → Has ts (gone holder b g)
-gone_has ts holder b g h =
-    let scope : ℕ = scope_in (linked_at b.path g.state.instances) in
+ended_has : (ts : List Named) (p : List ℕ) (g : Firing) → Has ts g → Has ts (ended p g)
+ended_has ts p g h =
+    let scope : ℕ = scope_in (linked_at p g.state.instances) in
     (followed_sites (destroy_run scope g.state.core) g.state (destroyed_stays scope g.state.core)).templates ∙ h
+
+gone_has : (ts : List Named) (holder : List ℕ) (b : Body) (g : Firing) → Has ts g → Has ts (gone holder b g)
+gone_has ts holder b g h = ended_has ts b.path g h
 
 all_gone_has : (ts : List Named) (holder : List ℕ) (bs : List Body) (g : Firing) → Has ts g → Has ts (all_gone holder bs g)
 all_gone_has ts holder [] g h = h
@@ -72,16 +77,16 @@ linked_has : (ts : List Named) (scope : ℕ) (r : Result (Unit {0}) Fault) (l : 
 linked_has ts scope (Ok u) l g h = h
 linked_has ts scope (Err e) l g h = (discarded_sites scope l.state).templates ∙ h
 
-made_has : (ts : List Named) (holder : List ℕ) (o : ℕ) (which : ℕ × ℕ) (f : Fragment) (c : act.State) (r : Result ℕ Fault) (g : Firing) → Has ts g → Has ts (body_made holder o which f c r g)
-made_has ts holder o which f c (Err e) g h = h
-made_has ts holder o which f c (Ok child) g h =
-    let s : State = with_core c g.state in
-    linked_has ts child (linked (live_nodes s) f.parts) (link_at (in_outlet holder o) which child f s) g (link_templates (in_outlet holder o) which child f s ∙ h)
+made_has : (ts : List Named) (place : Place) (names : List Local) (which : ℕ × ℕ) (f : Fragment) (c : act.State) (r : Result ℕ Fault) (g : Firing) → Has ts g → Has ts (body_made place names which f c r g)
+made_has ts place names which f c (Err e) g h = h
+made_has ts place names which f c (Ok child) g h =
+    let s : State = with_core (told_on child names c) g.state in
+    linked_has ts child (linked (live_nodes s) f.parts) (link_at place which child f s) g (link_templates place which child f s ∙ h)
 
-filled_has : (ts : List Named) (holder : List ℕ) (scope o : ℕ) (which : ℕ × ℕ) (g : Firing) → Has ts g → Has ts (filled holder scope o which g)
-filled_has ts holder scope o which g h =
+filled_has : (ts : List Named) (place : Place) (scope : ℕ) (names : List Local) (which : ℕ × ℕ) (g : Firing) → Has ts g → Has ts (filled place scope names which g)
+filled_has ts place scope names which g h =
     let r : Run ℕ = child_run scope g.state.core in
-    made_has ts holder o which (fragments_in g.state.templates which.0 which.1) r.0 r.1 g h
+    made_has ts place names which (fragments_in g.state.templates which.0 which.1) r.0 r.1 g h
 
 either_has : (ts : List Named) (b : Bool) (g h : Firing) → Has ts g → Has ts h → Has ts (cond b g h)
 either_has ts true g h one two = one
@@ -93,10 +98,7 @@ emptied_has ts holder v (d ∷ ds) g h =
     emptied_has ts holder v ds (outlet_emptied holder v d g) (either_has ts (goes d.filling v) (all_gone holder d.bodies g) g (all_gone_has ts holder d.bodies g h) h)
 
 come_has : (ts : List Named) (holder : List ℕ) (scope : ℕ) (cases : List Case) (v : ViewTree) (ds : List Due) (g : Firing) → Has ts g → Has ts (outlets_filled holder scope cases v ds g)
-come_has ts holder scope cases v [] g h = h
-come_has ts holder scope cases v (d ∷ ds) g h =
-    come_has ts holder scope cases v ds (outlet_filled holder scope cases v d g)
-    (either_has ts (comes cases v d && not g.faulted) (filled holder scope d.outlet (d.template, body_of d.filling) g) g (filled_has ts holder scope d.outlet (d.template, body_of d.filling) g h) h)
+come_has ts = outlets_keep (Has ts) (λ _ _ _ h. h) (λ _ _ h. h) (λ _ _ h. h) (ended_has ts) (λ _ _ _ h. h) (λ _ _ _ _ h. h) (filled_has ts)
 
 outlets_has : (ts : List Named) (holder : List ℕ) (scope : ℕ) (v : ViewTree) (ds : List Due) (g : Firing) → Has ts g → Has ts (outlets_fired holder scope v ds g)
 outlets_has ts holder scope v ds g h = come_has ts holder scope (cases_due ds) v ds (outlets_emptied holder v ds g) (emptied_has ts holder v ds g h)

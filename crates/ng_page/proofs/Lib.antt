@@ -2,11 +2,17 @@ pub mod Keeps
 pub mod ScopesStay
 pub mod EventsStay
 pub mod ProgramsStay
+pub mod RepeatsStay
 pub mod Sites
 pub mod Watched
 pub mod Fitting
 pub mod StepsStay
 pub mod Bodies
+pub mod Altered
+pub mod Arranging
+pub mod KeptRows
+pub mod TrackedKeys
+pub mod RowsFit
 pub mod Unlinking
 pub mod Placing
 pub mod FiresTold

@@ -10,6 +10,7 @@ use Rattle.std.specs.Ordering.{nat_cmp}
 use Rattle.ng_base.specs.Order.{path_cmp, path_cmp_total}
 use Rattle.ng_base.specs.declared.path.Key.{Key}
 use Rattle.ng_behaviour.specs.Scopes.{path_at, object_at}
+use Rattle.ng_drawing.specs.Roles.{Role, a_body}
 use Rattle.ng_drawing.specs.Template.{Site, Outlet, Fragment}
 use Rattle.ng_link.specs.Calls.{outlet_on, outlets_on, linked_on, Place, at_top, in_outlet, placed_on}
 use Rattle.ng_link.specs.Instances.{OutletState, Linked, Instances, is_path, linked_at, with_outlets, body_added, with_instance}
@@ -29,7 +30,7 @@ use Rattle.ng_watch.specs.Keys.{key_cmp, key_cmp_total, is_key}
 use Rattle.ng_watch.specs.Seen.{Watcher}
 use Rattle.ng_watch.specs.Table.{Table, found, with_watch}
 use Rattle.ng_page.specs.Settled.{WatchesAt, AreWatched, AreOutlets, IsChild, IsLinked, cases_under, CallsFor, OutletFits, IsWatched, Fits}
-use Rattle.ng_page.proofs.Bodies.{added_count, added_outlets, added_all, push_all}
+use Rattle.ng_page.proofs.Bodies.{added_count, added_outlets, added_all, put_all}
 use Rattle.ng_page.proofs.ScopesStay.{scopes_refl}
 use Rattle.ng_page.proofs.Sites.{InKeys}
 use Rattle.ng_page.proofs.Unlinking.{some_changed, changed_some}
@@ -121,17 +122,17 @@ module _ (which : ℕ × ℕ) (scope : ℕ) (f : Fragment) (serials : List ℕ) 
 
   -- where it is a body, its path is that of a child of the scope of the instance that gets it, which has no body on that path yet
   pub record IsFree (holder : List ℕ) (outlet : ℕ) (m : Linked) : Type 0 where
-    pub child : IsChild s.core.scopes m.page.scope (record { path = path })
+    pub child : IsChild s.core.scopes m.page.scope (record { path = path; role = a_body })
     pub free : held_count path m.page.outlets ≡ 0
 
   abbrev pub HasRoom : Place → Type 0
   HasRoom at_top = Unit {0}
-  HasRoom (in_outlet holder o) = (holder ≡ path → ⊥) × ((m : Linked) → linked_at holder s.instances ≡ Some m → IsFree holder o m)
+  HasRoom (in_outlet holder o i role) = (holder ≡ path → ⊥) × ((m : Linked) → linked_at holder s.instances ≡ Some m → IsFree holder o m)
 
   -- what is found then: the new instance, or one that stood, with a body more where it is the holder
   abbrev IsHolder : Place → List ℕ → Linked → Type 0
   IsHolder at_top q l = ⊥
-  IsHolder (in_outlet holder o) q l = (m : Linked) × (linked_at holder s.instances ≡ Some m) × (q ≡ holder) × (l ≡ with_outlets (body_added o (record { path = path })) m)
+  IsHolder (in_outlet holder o i role) q l = (m : Linked) × (linked_at holder s.instances ≡ Some m) × (q ≡ holder) × (l ≡ with_outlets (body_added o i (record { path = path; role = role })) m)
 
   abbrev Was : Place → List ℕ → Linked → Type 0
   Was place q l = ((q ≡ path) × (l ≡ new)) ⊎ ((linked_at q s.instances ≡ Some l) ⊎ IsHolder place q l)
@@ -142,17 +143,17 @@ module _ (which : ℕ × ℕ) (scope : ℕ) (f : Fragment) (serials : List ℕ) 
       by_new : ((q ≡ path) × (l ≡ new)) ⊎ (linked_at q s.instances ≡ Some l) → Was at_top q l
       by_new (inl here) = inl here
       by_new (inr old) = inr (inl old)
-  was (in_outlet holder o) q l room at = by_holder (changed_some holder q (body_added o (record { path = path })) (with_instance path new s.instances) l at)
+  was (in_outlet holder o i role) q l room at = by_holder (changed_some holder q (body_added o i (record { path = path; role = role })) (with_instance path new s.instances) l at)
     where
-      by_new : ((q ≡ path) × (l ≡ new)) ⊎ (linked_at q s.instances ≡ Some l) → Was (in_outlet holder o) q l
+      by_new : ((q ≡ path) × (l ≡ new)) ⊎ (linked_at q s.instances ≡ Some l) → Was (in_outlet holder o i role) q l
       by_new (inl here) = inl here
       by_new (inr old) = inr (inl old)
 
-      by_old : (m : Linked) → q ≡ holder → l ≡ with_outlets (body_added o (record { path = path })) m → ((q ≡ path) × (m ≡ new)) ⊎ (linked_at q s.instances ≡ Some m) → Was (in_outlet holder o) q l
+      by_old : (m : Linked) → q ≡ holder → l ≡ with_outlets (body_added o i (record { path = path; role = role })) m → ((q ≡ path) × (m ≡ new)) ⊎ (linked_at q s.instances ≡ Some m) → Was (in_outlet holder o i role) q l
       by_old m same is (inl here) = absurd (room.0 (sym same ∙ here.0))
       by_old m same is (inr old) = inr (inr (m, ap (λ (x : List ℕ). linked_at x s.instances) (sym same) ∙ old, same, is))
 
-      by_holder : (m : Linked) × (linked_at q (with_instance path new s.instances) ≡ Some m) × ((l ≡ m) ⊎ ((q ≡ holder) × (l ≡ with_outlets (body_added o (record { path = path })) m))) → Was (in_outlet holder o) q l
+      by_holder : (m : Linked) × (linked_at q (with_instance path new s.instances) ≡ Some m) × ((l ≡ m) ⊎ ((q ≡ holder) × (l ≡ with_outlets (body_added o i (record { path = path; role = role })) m))) → Was (in_outlet holder o i role) q l
       by_holder (m, there, inl same) = by_new (came_some path q new l s.instances (there ∙ ap Some (sym same)))
       by_holder (m, there, inr here) = by_old m here.0 here.1 (came_some path q new m s.instances there)
 
@@ -187,10 +188,10 @@ module _ (which : ℕ × ℕ) (scope : ℕ) (f : Fragment) (serials : List ℕ) 
         (λ j k there same. let high : base ≤ k = all_at_place (λ (i : ℕ). base ≤ i) serials j k is.above there in let e : n ≡ k = ap (λ (x : Key). x.serial.0) same in omega (arith, low, high, e))
 
     -- the holder has the body
-    pub holder_was : (holder : List ℕ) (o : ℕ) → HasRoom (in_outlet holder o) → (l : Linked) → linked_at holder (placed_on (in_outlet holder o) which scope f serials s).instances ≡ Some l
-        → (m : Linked) × (linked_at holder s.instances ≡ Some m) × (l ≡ with_outlets (body_added o (record { path = path })) m)
-    holder_was holder o room l at =
-        let changed = some_changed (body_added o (record { path = path })) (linked_at holder (with_instance path new s.instances)) l (sym (changed_here holder (body_added o (record { path = path })) (with_instance path new s.instances)) ∙ at) in
+    pub holder_was : (holder : List ℕ) (o i : ℕ) (role : Role) → HasRoom (in_outlet holder o i role) → (l : Linked) → linked_at holder (placed_on (in_outlet holder o i role) which scope f serials s).instances ≡ Some l
+        → (m : Linked) × (linked_at holder s.instances ≡ Some m) × (l ≡ with_outlets (body_added o i (record { path = path; role = role })) m)
+    holder_was holder o i role room l at =
+        let changed = some_changed (body_added o i (record { path = path; role = role })) (linked_at holder (with_instance path new s.instances)) l (sym (changed_here holder (body_added o i (record { path = path; role = role })) (with_instance path new s.instances)) ∙ at) in
         (changed.0, sym (inserted_other path new s.instances holder (other_path holder path room.0)) ∙ changed.1, changed.2)
 
     others_linked : (q : List ℕ) (m : Linked) → linked_at q s.instances ≡ Some m → IsLinked s.core s.watchers q m → IsLinked s.core watchers q m
@@ -198,8 +199,8 @@ module _ (which : ℕ × ℕ) (scope : ℕ) (f : Fragment) (serials : List ℕ) 
         linked_stays s.core s.core s.watchers watchers q m (scopes_refl s.core.scopes) (omega arith)
         (λ j n v there watches w e. watches w (sym (others_found q m n at (number_there m.page.serials j n there)) ∙ e)) h
 
-    holder_linked : (holder : List ℕ) (o : ℕ) (m : Linked) → IsFree holder o m → IsLinked s.core watchers holder m → IsLinked s.core watchers holder (with_outlets (body_added o (record { path = path })) m)
-    holder_linked holder o m free h = record {
+    holder_linked : (holder : List ℕ) (o i : ℕ) (role : Role) (m : Linked) → IsFree holder o m → IsLinked s.core watchers holder m → IsLinked s.core watchers holder (with_outlets (body_added o i (record { path = path; role = role })) m)
+    holder_linked holder o i role m free h = record {
       path = h.path;
       scope = h.scope;
       there = h.there;
@@ -208,28 +209,28 @@ module _ (which : ℕ × ℕ) (scope : ℕ) (f : Fragment) (serials : List ℕ) 
       rising = h.rising;
       sites = h.sites;
       watched = h.watched;
-      outlets = added_outlets o (record { path = path }) m.page.serials m.fragment.outlets m.page.outlets h.outlets;
-      bodies = added_all (λ (x : OutletState). AllByRecursion (IsChild s.core.scopes m.page.scope) x.bodies) o (record { path = path }) m.page.outlets
-          (λ x at all. push_all (IsChild s.core.scopes m.page.scope) x.bodies (record { path = path }) free.child all) h.bodies;
+      outlets = added_outlets o i (record { path = path; role = role }) m.page.serials m.fragment.outlets m.page.outlets h.outlets;
+      bodies = added_all (λ (x : OutletState). AllByRecursion (IsChild s.core.scopes m.page.scope) x.bodies) o i (record { path = path; role = role }) m.page.outlets
+          (λ x at all. put_all (IsChild s.core.scopes m.page.scope) i x.bodies (record { path = path; role = role }) free.child all) h.bodies;
       once = λ q. by_path q (is_path q path) refl;
     }
       where
-        by_path : (q : List ℕ) (b : Bool) → is_path q path ≡ b → held_count q (body_added o (record { path = path }) m.page.outlets) ≤ 1
+        by_path : (q : List ℕ) (b : Bool) → is_path q path ≡ b → held_count q (body_added o i (record { path = path; role = role }) m.page.outlets) ≤ 1
         by_path q true here =
             let none : held_count q m.page.outlets ≡ 0 = ap (λ (x : List ℕ). held_count x m.page.outlets) (path_is q path here) ∙ free.free in
-            let more = added_count o (record { path = path }) q m.page.outlets in
+            let more = added_count o i (record { path = path; role = role }) q m.page.outlets in
             let one : cond {A = ℕ} (is_path q path) 1 0 ≡ 1 = ap (λ (b : Bool). cond {A = ℕ} b 1 0) here in
             omega (arith, none, more, one)
         by_path q false off =
             let few = h.once q in
-            let more = added_count o (record { path = path }) q m.page.outlets in
+            let more = added_count o i (record { path = path; role = role }) q m.page.outlets in
             let one : cond {A = ℕ} (is_path q path) 1 0 ≡ 0 = ap (λ (b : Bool). cond {A = ℕ} b 1 0) off in
             omega (arith, few, more, one)
 
     placed_paths : (place : Place) → IsStrictlySortedBy path_cmp (keys_of s.instances) → IsStrictlySortedBy path_cmp (keys_of (placed_on place which scope f serials s).instances)
     placed_paths at_top o = insert_sorted path_cmp path_cmp_total path new s.instances o
-    placed_paths (in_outlet holder n) o =
-        subst (IsStrictlySortedBy path_cmp) (sym (changed_keys holder (body_added n (record { path = path })) (with_instance path new s.instances)))
+    placed_paths (in_outlet holder n i role) o =
+        subst (IsStrictlySortedBy path_cmp) (sym (changed_keys holder (body_added n i (record { path = path; role = role })) (with_instance path new s.instances)))
         (insert_sorted path_cmp path_cmp_total path new s.instances o)
 
     pub placed_watched : (place : Place) → HasRoom place → IsWatched s → IsWatched (placed_on place which scope f serials s)
@@ -244,9 +245,9 @@ module _ (which : ℕ × ℕ) (scope : ℕ) (f : Fragment) (serials : List ℕ) 
         by_was place q l room (inl here) = subst (λ (x : List ℕ). IsLinked s.core watchers x l) (sym here.0) (subst (IsLinked s.core watchers path) (sym here.1) new_linked)
         by_was place q l room (inr (inl old)) = others_linked q l old (h.linked q l old)
         by_was at_top q l room (inr (inr none)) = absurd none
-        by_was (in_outlet holder o) q l room (inr (inr (m, old, same, has))) =
+        by_was (in_outlet holder o i role) q l room (inr (inr (m, old, same, has))) =
             subst (λ (x : List ℕ). IsLinked s.core watchers x l) (sym same)
-            (subst (IsLinked s.core watchers holder) (sym has) (holder_linked holder o m (room.1 m old) (others_linked holder m old (h.linked holder m old))))
+            (subst (IsLinked s.core watchers holder) (sym has) (holder_linked holder o i role m (room.1 m old) (others_linked holder m old (h.linked holder m old))))
 
     -- ---- and fits: the sites of what is new have kept nothing yet, and the outlet that gets the body isn't asked
 
@@ -269,7 +270,7 @@ module _ (which : ℕ × ℕ) (scope : ℕ) (f : Fragment) (serials : List ℕ) 
 
     abbrev pub IsAsked : List Key → Place → Type 0
     IsAsked ks at_top = Unit {0}
-    IsAsked ks (in_outlet holder o) = (m : Linked) (x : OutletState) → linked_at holder s.instances ≡ Some m → slice_get m.page.outlets o ≡ Some x → list_any (is_key (key_on holder x.serial)) ks ≡ true
+    IsAsked ks (in_outlet holder o i role) = (m : Linked) (x : OutletState) → linked_at holder s.instances ≡ Some m → slice_get m.page.outlets o ≡ Some x → list_any (is_key (key_on holder x.serial)) ks ≡ true
 
     pub placed_fits : (place : Place) (ks : List Key) → HasRoom place → IsAsked ks place → Fits ks s → Fits ks (placed_on place which scope f serials s)
     placed_fits place ks room asked h q l at = by_was place q l asked (was place q l room at)
@@ -280,9 +281,9 @@ module _ (which : ℕ × ℕ) (scope : ℕ) (f : Fragment) (serials : List ℕ) 
             (subst (λ (x : Linked). AllByRecursion (OutletFits watchers ks path x.page.serials x.fragment.outlets) x.page.outlets) (sym here.1) (new_fits ks))
         by_was place q l asked (inr (inl old)) = others_fit ks q l old (h q l old)
         by_was at_top q l asked (inr (inr none)) = absurd none
-        by_was (in_outlet holder o) q l asked (inr (inr (m, old, same, has))) =
+        by_was (in_outlet holder o i role) q l asked (inr (inr (m, old, same, has))) =
             subst (λ (x : List ℕ). AllByRecursion (OutletFits watchers ks x l.page.serials l.fragment.outlets) l.page.outlets) (sym same)
             (subst (λ (x : Linked). AllByRecursion (OutletFits watchers ks holder x.page.serials x.fragment.outlets) x.page.outlets) (sym has)
-            (added_all (OutletFits watchers ks holder m.page.serials m.fragment.outlets) o (record { path = path }) m.page.outlets
+            (added_all (OutletFits watchers ks holder m.page.serials m.fragment.outlets) o i (record { path = path; role = role }) m.page.outlets
             (λ x there fit site w e out. let two : true ≡ false = sym (asked m x old there) ∙ out in absurd (cc))
             (others_fit ks holder m old (h holder m old))))

@@ -1,5 +1,5 @@
 -- Programs never take back a fault that was handed over, each scope keeps its object, and no object is lost, whatever they open.
-use Rattle.std.proofs.Common.{◌≡◌, ◌×◌, ℕ, List, length, Result, Ok, Err, refl, ap, ◌∙◌}
+use Rattle.std.proofs.Common.{◌≡◌, ℕ, List, length, Result, Ok, Err, refl, ap, ◌∙◌}
 use Rattle.ng_base.specs.Views.{ViewTree}
 use Rattle.ng_base.specs.declared.fault.Fault.{Fault}
 use Rattle.ng_behaviour.specs.Scopes.{Scope, path_at}

@@ -11,7 +11,7 @@ use Rattle.ng_drawing.specs.Instance.{Instance, SiteState, instances_from, outle
 use Rattle.ng_link.specs.Events.{scope_in, scope_of}
 use Rattle.ng_link.specs.Instances.{Body, OutletState, Page, Linked, Instances, is_path, linked_at, read_bodies, read, owner_of}
 use Rattle.ng_link.specs.Shape.{key_on}
-use Rattle.ng_link.specs.State.{Resting, State, site_state, site_states, instance_join, nothing_linked, instance_at, instance, rendering}
+use Rattle.ng_link.specs.State.{Resting, State, site_state, site_states, groups_in, instance_join, nothing_linked, instance_at, instance, rendering}
 use Rattle.ng_markup.specs.Forest.{no_nodes}
 use Rattle.ng_render.specs.OverOf.{NamesStand, InstanceStands, InstancesStand, OutletsStand}
 use Rattle.ng_watch.specs.Table.{Table}
@@ -42,7 +42,7 @@ module _ (objects : List Object) (scopes : List Scope) (among : AreAmong (length
   bodies_stand is [] each = tt
   bodies_stand is (b ∷ bs) each = (each b.path, bodies_stand is bs each)
 
-  outlets_stand : (is : Instances) (xs : List OutletState) → ((p : List ℕ) → InstanceStands objects scopes (go_in is p)) → OutletsStand objects scopes (outlets_from (map instances_from (read_bodies (go_in is) xs)))
+  outlets_stand : (is : Instances) (xs : List OutletState) → ((p : List ℕ) → InstanceStands objects scopes (go_in is p)) → OutletsStand objects scopes (outlets_from (groups_in xs (map instances_from (read_bodies (go_in is) xs))))
   outlets_stand is [] each = tt
   outlets_stand is (x ∷ xs) each = (bodies_stand is x.bodies each, outlets_stand is xs each)
 

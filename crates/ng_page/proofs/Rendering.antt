@@ -20,18 +20,18 @@ use Rattle.ng_behaviour.specs.Scopes.{object_at}
 use Rattle.ng_digest.specs.declared.log.Report.{Report}
 use Rattle.ng_digest.specs.declared.rounds.DigestFault.{DigestFault}
 use Rattle.ng_drawing.specs.Drawing.{shown_as}
-use Rattle.ng_drawing.specs.Instance as drawing
-use Rattle.ng_drawing.specs.Instance.{SiteState, Instance, no_instances, instance_then, outlet_then, instances_from, outlets_from, has_any, is_filled, state_kept, kept_by, rests_in, snapshot_as, snapshot_now, rendered_now, site_now, instance_now, IsFilled, IsFresh, AllFresh, AreFilled}
-use Rattle.ng_drawing.specs.Cases.{Case, case_in, cases_of, calls_for}
+use Rattle.ng_drawing.specs.Instance.{SiteState, Instance, instances_from, outlets_from, state_kept, snapshot_as, snapshot_now, rendered_now, site_now, IsFilled, IsFresh, AllFresh, AreFilled}
+use Rattle.ng_drawing.specs.Roles.{Role}
+use Rattle.ng_drawing.specs.Rows.{is_filled}
+use Rattle.ng_drawing.specs.Cases.{Case, case_in, cases_of}
 use Rattle.ng_drawing.specs.Template.{Site, Outlet, Filling}
 use Rattle.ng_drawing.specs.declared.kind.SiteKind.{SiteKind}
 use Rattle.ng_drawing.specs.declared.kind.SiteKind.TheVariants as sites
 use Rattle.ng_drawing.proofs.FreshInstances.{fresh_instance}
-use Rattle.ng_fire.specs.Blocks.{has_bodies}
 use Rattle.ng_link.specs.Instances.{Body, OutletState, Linked, Instances, is_path, linked_at, read_bodies, read}
 use Rattle.ng_link.specs.Rows.{watch_kind, watching_site}
 use Rattle.ng_link.specs.Shape.{key_on}
-use Rattle.ng_link.specs.State.{State, Resting, kept_or, site_state, site_states, instance_join, nothing_linked, instance_at, shown, rendering}
+use Rattle.ng_link.specs.State.{State, Resting, kept_or, site_state, site_states, roles_in, groups_in, instance_join, nothing_linked, instance_at, shown, rendering}
 use Rattle.ng_link.proofs.Paths.{other_path, same_path, less_other}
 use Rattle.ng_link.proofs.Serials.{not_at}
 use Rattle.ng_link.proofs.Undrawn.{rising_differ}
@@ -125,17 +125,6 @@ module _ (c : act.State) (t : Table) (r : Resting) (settled : (k : Key) (w : Wat
 
   -- ---- an outlet has the bodies that its site has kept to call for
 
-  any_bodies : (go : List ℕ → Instance) (bs : List Body) → has_any (instances_from (map (λ (b : Body). go b.path) bs)) ≡ has_bodies bs
-  any_bodies go [] = refl
-  any_bodies go (b ∷ bs) = refl
-
-  filled_if : (cases : List Case) (filling : Filling) (v : ViewTree) (is : drawing.Instances) (b : Bool) → has_any is ≡ b → b ≡ calls_for cases filling (Some v) → is_filled cases filling (Some v) is ≡ true
-  filled_if cases filling v is b any call = by_value (calls_for cases filling (Some v)) (any ∙ call)
-    where
-      by_value : (t : Bool) → has_any is ≡ t → cond t (has_any is) (not (has_any is)) ≡ true
-      by_value true e = e
-      by_value false e = ap not e
-
   -- a site that is clean has kept a value
   kept_some : (k : Key) (w : Watcher) (x : Site) (o : ℕ) → w.watch ≡ watching_site o x → found k t ≡ Some w → (v : ViewTree) × (w.kept ≡ Some v)
   kept_some k w x o is e = let h = (clean_has_kept c.objects w (ap (λ (v : Watching). is_two_way v.kind) is ∙ one_way x.kind)).0 (settled k w e) in (h.0, h.2)
@@ -157,15 +146,15 @@ module _ (c : act.State) (t : Table) (r : Resting) (settled : (k : Key) (w : Wat
   watched_at o path (m ∷ ns) (x ∷ xs) (suc i) n e h at = watched_at o path ns xs i n (omega (arith, e)) h.1 at
 
   -- what is asked of an outlet, by the state of its site
-  abbrev FilledBy : List Case → Filling → drawing.Instances → Option SiteState → Type 0
-  FilledBy cases filling is s = option_map_or (λ (x : SiteState). x.rests) s true ≡ false → is_filled cases filling (state_kept s) is ≡ true
+  abbrev FilledBy : List Case → Filling → List Role → Option SiteState → Type 0
+  FilledBy cases filling rs s = option_map_or (λ (x : SiteState). x.rests) s true ≡ false → is_filled cases filling (state_kept s) rs ≡ true
 
-  one_filled : (p : List ℕ) (l : Linked) (o : Outlet) (x : OutletState) (go : List ℕ → Instance) → IsLinked c t p l → IsOutlet l.page.serials o x → OutletFits t [] p l.page.serials l.fragment.outlets x
-      → IsFilled (site_states t r l.page) (cases_of l.fragment.outlets) o (instances_from (map (λ (b : Body). go b.path) x.bodies))
-  one_filled p l o x go h is fit = by_place (slice_get l.page.serials o.site) refl
+  one_filled : (p : List ℕ) (l : Linked) (o : Outlet) (x : OutletState) → IsLinked c t p l → IsOutlet l.page.serials o x → OutletFits t [] p l.page.serials l.fragment.outlets x
+      → IsFilled (site_states t r l.page) (cases_of l.fragment.outlets) o (roles_in x.bodies)
+  one_filled p l o x h is fit = by_place (slice_get l.page.serials o.site) refl
     where
-      filling : drawing.Instances
-      filling = instances_from (map (λ (b : Body). go b.path) x.bodies)
+      roles : List Role
+      roles = roles_in x.bodies
 
       cases : List Case
       cases = cases_of l.fragment.outlets o.site
@@ -173,24 +162,24 @@ module _ (c : act.State) (t : Table) (r : Resting) (settled : (k : Key) (w : Wat
       under : List Case
       under = cases_under l.page.serials l.fragment.outlets x.serial
 
-      by_watcher : (n : ℕ) → slice_get l.page.serials o.site ≡ Some n → (m : Option Watcher) → found (key_on p n) t ≡ m → (rest : Option (Option ViewTree)) → not (is_some m) ≡ false → is_filled cases o.filling (kept_or m rest) filling ≡ true
+      by_watcher : (n : ℕ) → slice_get l.page.serials o.site ≡ Some n → (m : Option Watcher) → found (key_on p n) t ≡ m → (rest : Option (Option ViewTree)) → not (is_some m) ≡ false → is_filled cases o.filling (kept_or m rest) roles ≡ true
       by_watcher n at None e rest live = absurd (cc)
       by_watcher n at (Some w) e rest live =
           let number : x.serial ≡ n = is.0 ∙ number_at_place l.page.serials o.site n at in
           let site = watched_at (object_at c.scopes l.page.scope) p l.page.serials l.fragment.sites o.site n h.count h.watched at in
           let kept = kept_some (key_on p n) w site.0 (object_at c.scopes l.page.scope) (site.1 w e) e in
           let call : CallsFor under w.kept x = fit (ap (λ (k : ℕ). list_any (is_at (nat_cmp k)) l.page.serials) number ∙ number_there l.page.serials o.site n at) w (ap (λ (k : ℕ). found (key_on p k) t) number ∙ e) refl in
-          let calls_now : has_bodies x.bodies ≡ calls_for under x.filling (Some kept.0) = subst (λ (k : Option ViewTree). CallsFor under k x) kept.1 call in
+          let filled_now : is_filled under x.filling (Some kept.0) roles ≡ true = subst (λ (k : Option ViewTree). CallsFor under k x) kept.1 call in
           let those : under ≡ cases = ap (cases_under l.page.serials l.fragment.outlets) number ∙ sym (site_cases l.page.serials l.fragment.outlets o.site n h.rising h.sites at) in
-          ap (λ (k : Option ViewTree). is_filled cases o.filling k filling) kept.1
-          ∙ filled_if cases o.filling kept.0 filling (has_bodies x.bodies) (any_bodies go x.bodies)
-          (calls_now ∙ (ap (λ (f : Filling). calls_for under f (Some kept.0)) is.1 ∙ ap (λ (cs : List Case). calls_for cs o.filling (Some kept.0)) those))
+          ap (λ (k : Option ViewTree). is_filled cases o.filling k roles) kept.1
+          ∙ (ap (λ (cs : List Case). is_filled cs o.filling (Some kept.0) roles) (sym those)
+          ∙ (ap (λ (f : Filling). is_filled under f (Some kept.0) roles) (sym is.1) ∙ filled_now))
 
-      by_place : (i : Option ℕ) → slice_get l.page.serials o.site ≡ i → FilledBy cases o.filling filling (slice_get (site_states t r l.page) o.site)
-      by_place None at = subst (FilledBy cases o.filling filling) (sym (no_state (shown_at l.page.scope l.page.path) l.page.serials o.site at)) (λ live. absurd (cc))
+      by_place : (i : Option ℕ) → slice_get l.page.serials o.site ≡ i → FilledBy cases o.filling roles (slice_get (site_states t r l.page) o.site)
+      by_place None at = subst (FilledBy cases o.filling roles) (sym (no_state (shown_at l.page.scope l.page.path) l.page.serials o.site at)) (λ live. absurd (cc))
       by_place (Some n) at =
-          subst (FilledBy cases o.filling filling) (sym (state_at (shown_at l.page.scope l.page.path) l.page.serials o.site n at))
-          (subst (λ (q : List ℕ). FilledBy cases o.filling filling (Some (shown_at l.page.scope q n))) (sym h.path)
+          subst (FilledBy cases o.filling roles) (sym (state_at (shown_at l.page.scope l.page.path) l.page.serials o.site n at))
+          (subst (λ (q : List ℕ). FilledBy cases o.filling roles (Some (shown_at l.page.scope q n))) (sym h.path)
           (λ live. by_watcher n at (found (key_on p n) t) refl (lookup (is_key (key_on p n)) r) live))
 
   abbrev go_in : Instances → List ℕ → Instance
@@ -201,11 +190,11 @@ module _ (c : act.State) (t : Table) (r : Resting) (settled : (k : Key) (w : Wat
   all_fresh is (b ∷ bs) each = (each b.path, all_fresh is bs each)
 
   are_filled : (p : List ℕ) (l : Linked) (is : Instances) (os : List Outlet) (xs : List OutletState) → IsLinked c t p l → AreOutlets l.page.serials os xs → AllByRecursion (OutletFits t [] p l.page.serials l.fragment.outlets) xs → ((q : List ℕ) → IsFresh c.objects c.scopes (go_in is q))
-      → AreFilled c.objects c.scopes (site_states t r l.page) (cases_of l.fragment.outlets) os (outlets_from (map instances_from (read_bodies (go_in is) xs)))
+      → AreFilled c.objects c.scopes (site_states t r l.page) (cases_of l.fragment.outlets) os (outlets_from (groups_in xs (map instances_from (read_bodies (go_in is) xs))))
   are_filled p l is os [] h outlets fit each = tt
   are_filled p l is [] (x ∷ xs) h outlets fit each = absurd outlets
   are_filled p l is (o ∷ os) (x ∷ xs) h outlets fit each =
-      (one_filled p l o x (go_in is) h outlets.0 fit.0, all_fresh is x.bodies each, are_filled p l is os xs h outlets.1 fit.1 each)
+      (one_filled p l o x h outlets.0 fit.0, all_fresh is x.bodies each, are_filled p l is os xs h outlets.1 fit.1 each)
 
   abbrev IsRight : List ℕ × Linked → Type 0
   IsRight e = IsLinked c t e.0 e.1 × AllByRecursion (OutletFits t [] e.0 e.1.page.serials e.1.fragment.outlets) e.1.page.outlets

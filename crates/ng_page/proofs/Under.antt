@@ -6,6 +6,7 @@ use Rattle.std.specs.Ordering.{nat_cmp}
 use Rattle.ng_base.specs.Views.{ViewTree}
 use Rattle.ng_base.specs.declared.path.Key.{Key}
 use Rattle.ng_behaviour.specs.Scopes.{Scope, path_at, children_at, child_path, with_child}
+use Rattle.ng_drawing.specs.Roles.{Role, a_body}
 use Rattle.ng_drawing.specs.Template.{Fragment}
 use Rattle.ng_fire.specs.Blocks.{Firing, went, goes, gone, all_gone}
 use Rattle.ng_fire.specs.Runs.{destroy_run}
@@ -55,7 +56,7 @@ module _ (k : Key) (v : ViewTree) (scope : ℕ) (ks : List Key) (left : list_any
       }
 
   -- an outlet of the site isn't asked
-  not_asked : (x : OutletState) → is_filled_by k.serial.0 x ≡ true → list_any (is_key (key_on k.path x.serial)) ks ≡ true
+  pub not_asked : (x : OutletState) → is_filled_by k.serial.0 x ≡ true → list_any (is_key (key_on k.path x.serial)) ks ≡ true
   not_asked x on = ap (λ (n : ℕ). list_any (is_key (key_on k.path n)) ks) (let e : k.serial.0 ≡ x.serial = equal_numbers k.serial.0 x.serial on in sym e) ∙ left
 
   -- ---- a body goes
@@ -72,25 +73,26 @@ module _ (k : Key) (v : ViewTree) (scope : ℕ) (ks : List Key) (left : list_any
       by_filled x g out true on = let two : true ≡ false = sym (not_asked x (both_true (is_filled_by k.serial.0 x) (goes x.filling v) on).0) ∙ out in absurd (cc)
       by_filled x g out false off = (g.apart off).0
 
-  under_unlinked : (b : Body) (bs : List Body) (s : State) → AreGoing (b ∷ bs) s → IsUnder s → IsUnder (unlinked_at k.path b.path s)
-  under_unlinked b bs s h u = record {
-    watched = unlinked_watched k.path b.path s u.watched;
-    fits = unlinked_fits k.path b.path s ks u.watched (apart_here b bs s h) u.fits;
+  pub under_unlinked : (p : List ℕ) (s : State) → ((m : Linked) → linked_at k.path s.instances ≡ Some m → AllByRecursion (λ (x : OutletState). IsOut ks (key_on k.path x.serial) → body_count p x.bodies ≡ 0) m.page.outlets)
+      → IsUnder s → IsUnder (unlinked_at k.path p s)
+  under_unlinked p s apart u = record {
+    watched = unlinked_watched k.path p s u.watched;
+    fits = unlinked_fits k.path p s ks u.watched apart u.fits;
     there = u.there;
     on = u.on;
-    holder = λ m at. by_holder m (unlinked_some k.path b.path k.path s.instances m at);
-    keeps = λ m at site w e. by_kept m site w e (unlinked_some k.path b.path k.path s.instances m at);
+    holder = λ m at. by_holder m (unlinked_some k.path p k.path s.instances m at);
+    keeps = λ m at site w e. by_kept m site w e (unlinked_some k.path p k.path s.instances m at);
   }
     where
-      by_holder : (m : Linked) → (l : Linked) × (linked_at k.path s.instances ≡ Some l) × ((m ≡ l) ⊎ ((k.path ≡ k.path) × (m ≡ with_outlets (body_gone b.path) l))) → m.page.scope ≡ scope
+      by_holder : (m : Linked) → (l : Linked) × (linked_at k.path s.instances ≡ Some l) × ((m ≡ l) ⊎ ((k.path ≡ k.path) × (m ≡ with_outlets (body_gone p) l))) → m.page.scope ≡ scope
       by_holder m (l, at, inl same) = ap (λ (x : Linked). x.page.scope) same ∙ u.holder l at
       by_holder m (l, at, inr two) = ap (λ (x : Linked). x.page.scope) two.1 ∙ u.holder l at
 
-      kept_one : (l : Linked) → linked_at k.path s.instances ≡ Some l → list_any (is_at (nat_cmp k.serial.0)) l.page.serials ≡ true → (w : Watcher) → found k (left_at b.path s).watchers ≡ Some w → w.kept ≡ Some v
-      kept_one l at site w e = u.keeps l at site w ((left_sites b.path s).found u.watched.keys k w (site_there s.instances k.path l k.serial.0 at site) e)
+      kept_one : (l : Linked) → linked_at k.path s.instances ≡ Some l → list_any (is_at (nat_cmp k.serial.0)) l.page.serials ≡ true → (w : Watcher) → found k (left_at p s).watchers ≡ Some w → w.kept ≡ Some v
+      kept_one l at site w e = u.keeps l at site w ((left_sites p s).found u.watched.keys k w (site_there s.instances k.path l k.serial.0 at site) e)
 
-      by_kept : (m : Linked) → list_any (is_at (nat_cmp k.serial.0)) m.page.serials ≡ true → (w : Watcher) → found k (left_at b.path s).watchers ≡ Some w
-          → (l : Linked) × (linked_at k.path s.instances ≡ Some l) × ((m ≡ l) ⊎ ((k.path ≡ k.path) × (m ≡ with_outlets (body_gone b.path) l))) → w.kept ≡ Some v
+      by_kept : (m : Linked) → list_any (is_at (nat_cmp k.serial.0)) m.page.serials ≡ true → (w : Watcher) → found k (left_at p s).watchers ≡ Some w
+          → (l : Linked) × (linked_at k.path s.instances ≡ Some l) × ((m ≡ l) ⊎ ((k.path ≡ k.path) × (m ≡ with_outlets (body_gone p) l))) → w.kept ≡ Some v
       by_kept m site w e (l, at, inl same) = kept_one l at (ap (λ (x : Linked). list_any (is_at (nat_cmp k.serial.0)) x.page.serials) (sym same) ∙ site) w e
       by_kept m site w e (l, at, inr two) = kept_one l at (ap (λ (x : Linked). list_any (is_at (nat_cmp k.serial.0)) x.page.serials) (sym two.1) ∙ site) w e
 
@@ -134,7 +136,7 @@ module _ (k : Key) (v : ViewTree) (scope : ℕ) (ks : List Key) (left : list_any
       let stay : SitesStay g.state t = followed_sites (destroy_run dead g.state.core) g.state (destroyed_stays dead g.state.core) in
       let still : AreGoing (b ∷ bs) t = λ m at. h.going m (ap (linked_at k.path) (sym stay.instances) ∙ at) in
       record {
-        under = under_unlinked b bs t still (under_stays g.state t stay h.under);
+        under = under_unlinked b.path t (apart_here b bs t still) (under_stays g.state t stay h.under);
         going = going_next b bs t still;
         since = since_next l b bs t still (λ m at. h.since m (ap (linked_at k.path) (sym stay.instances) ∙ at));
       }
@@ -149,10 +151,10 @@ module _ (k : Key) (v : ViewTree) (scope : ℕ) (ks : List Key) (left : list_any
   pub child_path_there : (t u : List Scope) (object : ℕ) → ScopesStay (with_child t scope object) u → path_at u (length t) ≡ child_path t scope
   child_path_there t u object stay = stay.paths (length t) (child_there t scope object) ∙ child_on t scope object
 
-  pub child_free : (t u : List Scope) (object : ℕ) (m : Linked) → scope < length t → ScopesStay (with_child t scope object) u → m.page.scope ≡ scope → IsChild u m.page.scope (record { path = path_at u (length t) })
+  pub child_free : (t u : List Scope) (object : ℕ) (m : Linked) → scope < length t → ScopesStay (with_child t scope object) u → m.page.scope ≡ scope → IsChild u m.page.scope (record { path = path_at u (length t); role = a_body })
   child_free t u object m there stay same =
       let long : ScopesStay t u = scopes_trans t (with_child t scope object) u (scopes_grow t scope object) stay in
-      subst (λ (n : ℕ). IsChild u n (record { path = path_at u (length t) })) (sym same) (
+      subst (λ (n : ℕ). IsChild u n (record { path = path_at u (length t); role = a_body })) (sym same) (
         length (children_at t scope),
         (let one = child_counted t scope object there in let two = stay.children scope (let more = scopes_grow t scope object in let le = more.more in omega (arith, there, le)) in omega (arith, one, two)),
         child_path_there t u object stay ∙ ap (λ (p : List ℕ). p ++ length (children_at t scope) ∷ []) (sym (long.paths scope there)),
@@ -185,22 +187,22 @@ module _ (k : Key) (v : ViewTree) (scope : ℕ) (ks : List Key) (left : list_any
   abbrev pub IsOfSite : ℕ → State → Type 0
   IsOfSite o s = (m : Linked) (x : OutletState) → linked_at k.path s.instances ≡ Some m → slice_get m.page.outlets o ≡ Some x → is_filled_by k.serial.0 x ≡ true
 
-  pub under_placed : (o : ℕ) (which : ℕ × ℕ) (child : ℕ) (f : Fragment) (serials : List ℕ) (s : State) (base : ℕ) → (is : IsNew which child f serials s base) → HasRoom which child f serials s base (in_outlet k.path o)
-      → IsOfSite o s → IsUnder s → IsUnder (placed_on (in_outlet k.path o) which child f serials s)
-  under_placed o which child f serials s base is room of u = record {
-    watched = placed_watched which child f serials s base is (in_outlet k.path o) room u.watched;
-    fits = placed_fits which child f serials s base is (in_outlet k.path o) ks room (λ m x at get. not_asked x (of m x at get)) u.fits;
+  pub under_placed : (o i : ℕ) (role : Role) (which : ℕ × ℕ) (child : ℕ) (f : Fragment) (serials : List ℕ) (s : State) (base : ℕ) → (is : IsNew which child f serials s base) → HasRoom which child f serials s base (in_outlet k.path o i role)
+      → IsOfSite o s → IsUnder s → IsUnder (placed_on (in_outlet k.path o i role) which child f serials s)
+  under_placed o i role which child f serials s base is room of u = record {
+    watched = placed_watched which child f serials s base is (in_outlet k.path o i role) room u.watched;
+    fits = placed_fits which child f serials s base is (in_outlet k.path o i role) ks room (λ m x at get. not_asked x (of m x at get)) u.fits;
     there = u.there;
     on = u.on;
-    holder = λ m at. by_holder m (holder_was which child f serials s base is k.path o room m at);
-    keeps = λ m at site w e. by_kept m site w e (holder_was which child f serials s base is k.path o room m at);
+    holder = λ m at. by_holder m (holder_was which child f serials s base is k.path o i role room m at);
+    keeps = λ m at site w e. by_kept m site w e (holder_was which child f serials s base is k.path o i role room m at);
   }
     where
-      by_holder : (m : Linked) → (l : Linked) × (linked_at k.path s.instances ≡ Some l) × (m ≡ with_outlets (body_added o (record { path = path_at s.core.scopes child })) l) → m.page.scope ≡ scope
+      by_holder : (m : Linked) → (l : Linked) × (linked_at k.path s.instances ≡ Some l) × (m ≡ with_outlets (body_added o i (record { path = path_at s.core.scopes child; role = role })) l) → m.page.scope ≡ scope
       by_holder m (l, at, same) = ap (λ (x : Linked). x.page.scope) same ∙ u.holder l at
 
-      by_kept : (m : Linked) → list_any (is_at (nat_cmp k.serial.0)) m.page.serials ≡ true → (w : Watcher) → found k (placed_on (in_outlet k.path o) which child f serials s).watchers ≡ Some w
-          → (l : Linked) × (linked_at k.path s.instances ≡ Some l) × (m ≡ with_outlets (body_added o (record { path = path_at s.core.scopes child })) l) → w.kept ≡ Some v
+      by_kept : (m : Linked) → list_any (is_at (nat_cmp k.serial.0)) m.page.serials ≡ true → (w : Watcher) → found k (placed_on (in_outlet k.path o i role) which child f serials s).watchers ≡ Some w
+          → (l : Linked) × (linked_at k.path s.instances ≡ Some l) × (m ≡ with_outlets (body_added o i (record { path = path_at s.core.scopes child; role = role })) l) → w.kept ≡ Some v
       by_kept m site w e (l, at, same) =
           let there : list_any (is_at (nat_cmp k.serial.0)) l.page.serials ≡ true = ap (λ (x : Linked). list_any (is_at (nat_cmp k.serial.0)) x.page.serials) (sym same) ∙ site in
           u.keeps l at there w (sym (others_found which child f serials s base is k.path l k.serial.0 at there) ∙ e)

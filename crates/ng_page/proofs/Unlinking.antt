@@ -8,7 +8,6 @@ use Rattle.ng_core.specs.State as act
 use Rattle.ng_base.specs.Order.{path_cmp, path_cmp_total}
 use Rattle.ng_base.specs.declared.path.Key.{Key}
 use Rattle.ng_drawing.specs.Template.{Outlet}
-use Rattle.ng_fire.specs.Blocks.{has_bodies}
 use Rattle.ng_link.specs.Calls.{left_at, unlinked_at}
 use Rattle.ng_link.specs.Instances.{OutletState, Linked, Instances, is_path, linked_at, with_outlets, outlets_changed, without_body, body_gone, unlinked}
 use Rattle.ng_link.specs.Shape.{key_on}
@@ -112,7 +111,7 @@ unlinked_watched holder p s h =
 
 fits_gone : (t : Table) (ks : List Key) (p holder serials : List ℕ) (os : List Outlet) (x : OutletState) → OutletFits t ks holder serials os x → (IsOut ks (key_on holder x.serial) → body_count p x.bodies ≡ 0)
     → OutletFits t ks holder serials os (without_body p x)
-fits_gone t ks p holder serials os x fit none site w e out = calls_same (cases_under serials os x.serial) w.kept x (without_body p x) refl (ap has_bodies (filter_none p x.bodies (none out))) (fit site w e out)
+fits_gone t ks p holder serials os x fit none site w e out = calls_same (cases_under serials os x.serial) w.kept x (without_body p x) refl (filter_none p x.bodies (none out)) (fit site w e out)
 
 pub unlinked_fits : (holder p : List ℕ) (s : State) (ks : List Key) → IsWatched s
     → ((m : Linked) → linked_at holder s.instances ≡ Some m → AllByRecursion (λ (x : OutletState). IsOut ks (key_on holder x.serial) → body_count p x.bodies ≡ 0) m.page.outlets)

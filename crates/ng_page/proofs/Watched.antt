@@ -51,7 +51,7 @@ all_stay path t u o ns [] each h = tt
 all_stay path t u o [] (x ∷ xs) each h = h
 all_stay path t u o (n ∷ ns) (x ∷ xs) each h = (each 0 n (watching_site o x) refl h.0, all_stay path t u o ns xs (λ j m v at. each (suc j) m v at) h.1)
 
-child_stays : (t u : List Scope) (s : ℕ) → ScopesStay t u → s < length t → (b : Body) → IsChild t s b → IsChild u s b
+pub child_stays : (t u : List Scope) (s : ℕ) → ScopesStay t u → s < length t → (b : Body) → IsChild t s b → IsChild u s b
 child_stays t u s stay there b h = (h.0, (let more = stay.children s there in let under = h.1 in omega (arith, more, under)), h.2 ∙ ap (λ (q : List ℕ). q ++ h.0 ∷ []) (sym (stay.paths s there)))
 
 all_more : (m n : ℕ) (ns : List ℕ) → m ≤ n → AllByRecursion (λ (k : ℕ). k < m) ns → AllByRecursion (λ (k : ℕ). k < n) ns

@@ -10,15 +10,15 @@ use Rattle.ng_base.specs.Order.{path_cmp}
 use Rattle.ng_base.specs.declared.path.Key.{Key}
 use Rattle.ng_base.specs.Views.{ViewTree}
 use Rattle.ng_behaviour.specs.Scopes.{Scope, path_at, object_at, children_at}
-use Rattle.ng_drawing.specs.Cases.{Case, case_in, calls_for}
+use Rattle.ng_drawing.specs.Cases.{Case, case_in}
+use Rattle.ng_drawing.specs.Rows.{is_filled}
 use Rattle.ng_drawing.specs.Template as template
 use Rattle.ng_drawing.specs.Template.{Outlet}
-use Rattle.ng_fire.specs.Blocks.{has_bodies}
 use Rattle.ng_link.specs.Instances.{Body, OutletState, Linked, linked_at}
 use Rattle.ng_link.specs.Rows.{watching_site}
 use Rattle.ng_link.specs.Shape.{key_on}
 use Rattle.ng_link.specs.Standing.{held_count}
-use Rattle.ng_link.specs.State.{State}
+use Rattle.ng_link.specs.State.{State, roles_in}
 use Rattle.ng_template.specs.Kept.{Named}
 use Rattle.ng_template.specs.Numbering.{is_regular}
 use Rattle.ng_watch.specs.Keys.{key_cmp, is_key}
@@ -81,10 +81,10 @@ abbrev pub cases_under : List ℕ → List Outlet → ℕ → List Case
 cases_under serials [] n = []
 cases_under serials (o ∷ os) n = if is_at (nat_cmp n) (slice_index_or serials o.site 0) then case_in o.filling ++ cases_under serials os n else cases_under serials os n
 
--- a body stands exactly where it is called for, beside these cases
+-- the bodies that stand are those that are called for, beside these cases
 abbrev pub CallsFor : List Case → Option ViewTree → OutletState → Type 0
 CallsFor cases None x = Unit {0}
-CallsFor cases (Some v) x = has_bodies x.bodies ≡ calls_for cases x.filling (Some v)
+CallsFor cases (Some v) x = is_filled cases x.filling (Some v) (roles_in x.bodies) ≡ true
 
 -- Each block that is watched, whose site has kept a value, and whose fire did not fault, has the bodies that the value calls for. Its
 -- fragment has these outlets, and its sites these numbers of registration.

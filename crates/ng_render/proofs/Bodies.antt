@@ -1,15 +1,15 @@
 -- The bodies in an instance, and what is rendered of them.
-use Rattle.std.proofs.Common.{◌≡◌, ◌<◌, ◌≤◌, ◌+◌, ℕ, zero, suc, List, [], ◌∷◌, ◌++◌, map, drop, get_or, length, Bool, true, false, cond, refl, ap, sym, subst, ◌∙◌, append_assoc, append-nil, slice_index_or, arith}
+use Rattle.std.proofs.Common.{◌≡◌, ◌<◌, ◌≤◌, ◌+◌, ℕ, zero, suc, List, [], ◌∷◌, ◌++◌, map, drop, get_or, length, refl, ap, sym, subst, ◌∙◌, append_assoc, append-nil, slice_index_or, arith}
 use Rattle.std.proofs.lemmas.List.{at_drop_more, drop_all}
-use Rattle.std.proofs.lemmas.Bool.{ne_eqb}
-use Rattle.std.specs.Prelude.{slice_get, not, ◌==◌, vec_len}
+use Rattle.std.specs.Prelude.{Option, slice_get}
 use Rattle.ng_base.specs.Objects.{Object}
 use Rattle.ng_behaviour.specs.Scopes.{Scope}
 use Rattle.ng_markup.specs.Forest.{Forest, no_nodes}
 use Rattle.ng_drawing.specs.Drawing.{Now, Rendered, shown_as, render}
 use Rattle.ng_drawing.specs.Cases.{cases_of}
-use Rattle.ng_drawing.specs.Instance.{SiteState, CasesAt, Instance, Instances, Outlets, instance_with, no_instances, instance_then, no_outlets, outlet_then, instances_from, outlets_from, has_any, instance_now, outlet_at, rendering, rendering_all, rendering_in}
-use Rattle.ng_drawing.specs.InstanceOf.{state_of, Fragments, instance_step, instances_step, instance_of, instances_of}
+use Rattle.ng_drawing.specs.Instance.{SiteState, CasesAt, Instance, Instances, Group, Outlets, instance_with, no_instances, instance_then, no_outlets, outlet_then, instances_from, outlets_from, instance_now, outlet_at, rendering, rendering_all, rendering_in}
+use Rattle.ng_drawing.specs.InstanceOf.{state_of, Fragments, instance_step, instances_step, instance_of, group_of, instances_of}
+use Rattle.ng_drawing.specs.RolesOf.{role_of}
 use Rattle.ng_drawing.specs.Template.{Site, Outlet, Contents, Part, Parts, anchor_part, Fragment, no_fragment}
 use Rattle.ng_render.specs.OverOf.{NamesStand, InstanceStands, OutletsStand}
 use Rattle.ng_parse.specs.ProgramOf.{program}
@@ -25,32 +25,17 @@ use Rattle.ng_drawing.specs.declared.instance.Instance.TheFolds.{fold_out-Instan
 -- what an instance of the code has
 pub instance_out : (all : Fragments) (i : code_instance.Instance)
     → instance_of all i ≡ instance_with (all (out-Instance i).template.0 (out-Instance i).fragment) (out-Instance i).scope.0 (map state_of (out-Instance i).sites.items)
-    (outlets_from (map (instances_of all) (out-Instance i).outlets.items))
-instance_out all i = fold_out-Instance Instance Instances (instance_step all) instances_step i
+    (outlets_from (map (group_of all) (out-Instance i).outlets.items))
+instance_out all i = fold_out-Instance Instance Group (instance_step all) instances_step i
+
+pub group_out : (all : Fragments) (is : code_instances.Instances) → group_of all is ≡ (map role_of (out-Instances is).roles.items, instances_from (map (instance_of all) (out-Instances is).items.items))
+group_out all is = fold_out-Instances Instance Group (instance_step all) instances_step is
 
 pub instances_out : (all : Fragments) (is : code_instances.Instances) → instances_of all is ≡ instances_from (map (instance_of all) (out-Instances is).items.items)
-instances_out all is = fold_out-Instances Instance Instances (instance_step all) instances_step is
+instances_out all is = ap (λ (g : Group). g.1) (group_out all is)
 
--- whether there is a body
-any_from : {X : Type 0} (seen : X → Instance) (xs : List X) → has_any (instances_from (map seen xs)) ≡ not (length xs == 0)
-any_from seen [] = refl
-any_from seen (x ∷ xs) = let e : length (x ∷ xs) ≡ 0 → ⊥ = λ h. omega (arith, h) in sym (ap not (ne_eqb (length (x ∷ xs)) 0 e))
-
-pub any_of : (all : Fragments) (is : code_instances.Instances) → has_any (instances_of all is) ≡ not (vec_len (out-Instances is).items == 0)
-any_of all is =
-    let v = (out-Instances is).items in
-    let size : length v.items ≡ vec_len v = omega (arith, v.ok.0) in
-    ap has_any (instances_out all is) ∙ (any_from (instance_of all) v.items ∙ ap (λ n. not (n == 0)) size)
-
-not_not : (b : Bool) → not (not b) ≡ b
-not_not true = refl
-not_not false = refl
-
--- bodies that are there, or none, as they are called for
-pub is_filled_by : (all : Fragments) (is : code_instances.Instances) (b : Bool)
-    → cond b (has_any (instances_of all is)) (not (has_any (instances_of all is))) ≡ cond b (not (vec_len (out-Instances is).items == 0)) (vec_len (out-Instances is).items == 0)
-is_filled_by all is true = any_of all is
-is_filled_by all is false = ap not (any_of all is) ∙ not_not (vec_len (out-Instances is).items == 0)
+pub roles_out : (all : Fragments) (is : code_instances.Instances) → (group_of all is).0 ≡ map role_of (out-Instances is).roles.items
+roles_out all is = ap (λ (g : Group). g.0) (group_out all is)
 
 -- how many bodies there are in bodies
 abbrev mutual
@@ -63,13 +48,13 @@ abbrev mutual
 
   pub size_in : Outlets → ℕ
   size_in no_outlets = 0
-  size_in (outlet_then is os) = size_all is + size_in os
+  size_in (outlet_then rs is os) = size_all is + size_in os
 
 -- whatever the fragments are
 abbrev pub no_fragments : Fragments
 no_fragments t n = no_fragment
 
-pub size_out : (i : code_instance.Instance) → size (instance_of no_fragments i) ≡ 1 + size_in (outlets_from (map (instances_of no_fragments) (out-Instance i).outlets.items))
+pub size_out : (i : code_instance.Instance) → size (instance_of no_fragments i) ≡ 1 + size_in (outlets_from (map (group_of no_fragments) (out-Instance i).outlets.items))
 size_out i = ap size (instance_out no_fragments i)
 
 pub size_within : {X : Type 0} (seen : X → Instance) (xs : List X) (i : ℕ) (x : X) → i < length xs → x ≡ get_or xs i x → size (seen x) ≤ size_all (instances_from (map seen xs))
@@ -77,9 +62,9 @@ size_within seen [] i x l is = absurd (omega (arith, l))
 size_within seen (y ∷ ys) zero x l is = let e = ap (λ z. size (seen z)) is in omega (arith, e)
 size_within seen (y ∷ ys) (suc i) x l is = let h = size_within seen ys i x (omega (arith, l)) is in omega (arith, h)
 
-pub sizes_within : {X : Type 0} (seen : X → Instances) (xs : List X) (i : ℕ) (x : X) → i < length xs → x ≡ get_or xs i x → size_all (seen x) ≤ size_in (outlets_from (map seen xs))
+pub sizes_within : {X : Type 0} (seen : X → Group) (xs : List X) (i : ℕ) (x : X) → i < length xs → x ≡ get_or xs i x → size_all (seen x).1 ≤ size_in (outlets_from (map seen xs))
 sizes_within seen [] i x l is = absurd (omega (arith, l))
-sizes_within seen (y ∷ ys) zero x l is = let e = ap (λ z. size_all (seen z)) is in omega (arith, e)
+sizes_within seen (y ∷ ys) zero x l is = let e = ap (λ z. size_all (seen z).1) is in omega (arith, e)
 sizes_within seen (y ∷ ys) (suc i) x l is = let h = sizes_within seen ys i x (omega (arith, l)) is in omega (arith, h)
 
 -- an anchor of the code
@@ -99,26 +84,28 @@ drop_again [] (suc i) = let e : suc (i + 1) ≡ suc i + 1 = omega arith in ap (�
 drop_again (x ∷ xs) (suc i) = let e : suc (i + 1) ≡ suc i + 1 = omega arith in drop_again xs i ∙ ap (λ k. drop k (x ∷ xs)) e
 
 module _ (objects : List Object) (scopes : List Scope) (now : Now) (states : List SiteState) (cases : CasesAt) where
-  abbrev pub filled_by : List Outlet → List Instances → List (Rendered Forest)
-  filled_by os is = rendering_in objects scopes now states cases os (outlets_from is)
+  abbrev pub filled_by : List Outlet → List Group → List (Rendered Forest)
+  filled_by os gs = rendering_in objects scopes now states cases os (outlets_from gs)
 
-  filled_first : (os : List Outlet) (is : Instances) (rest : List Instances)
-      → filled_by os (is ∷ rest) ≡ outlet_at now states cases (slice_get os 0) is (rendering_all objects scopes is) ∷ filled_by (drop 1 os) rest
-  filled_first [] is rest = refl
-  filled_first (o ∷ os) is rest = refl
+  -- what fills an outlet
+  abbrev pub fills : Option Outlet → Group → Rendered Forest
+  fills o g = outlet_at now states cases o g.0 (rendering_all objects scopes g.1)
 
-  module _ {X : Type 0} (seen : X → Instances) (os : List Outlet) (xs : List X) (i : ℕ) where
+  filled_first : (os : List Outlet) (g : Group) (rest : List Group) → filled_by os (g ∷ rest) ≡ fills (slice_get os 0) g ∷ filled_by (drop 1 os) rest
+  filled_first [] g rest = refl
+  filled_first (o ∷ os) g rest = refl
+
+  module _ {X : Type 0} (seen : X → Group) (os : List Outlet) (xs : List X) (i : ℕ) where
     -- one outlet more
-    pub filled_turn : (x : X) (done : List (Rendered Forest)) (g : Rendered Forest) → i < length xs → x ≡ get_or xs i x → g ≡ outlet_at now states cases (slice_get os i) (seen x) (rendering_all objects scopes (seen x))
+    pub filled_turn : (x : X) (done : List (Rendered Forest)) (g : Rendered Forest) → i < length xs → x ≡ get_or xs i x → g ≡ fills (slice_get os i) (seen x)
         → (done ++ g ∷ []) ++ filled_by (drop (i + 1) os) (map seen (drop (i + 1) xs)) ≡ done ++ filled_by (drop i os) (map seen (drop i xs))
     filled_turn x done g l is shows =
-        let rest : List Instances = map seen (drop (i + 1) xs) in
-        let here : g ≡ outlet_at now states cases (slice_get (drop i os) 0) (seen (get_or xs i x)) (rendering_all objects scopes (seen (get_or xs i x)))
-        = shows ∙ (ap (λ y. outlet_at now states cases (slice_get os i) (seen y) (rendering_all objects scopes (seen y))) is
-        ∙ ap (λ o. outlet_at now states cases o (seen (get_or xs i x)) (rendering_all objects scopes (seen (get_or xs i x)))) (sym (get_dropped os i))) in
+        let rest : List Group = map seen (drop (i + 1) xs) in
+        let here : g ≡ fills (slice_get (drop i os) 0) (seen (get_or xs i x))
+        = shows ∙ (ap (λ y. fills (slice_get os i) (seen y)) is ∙ ap (λ o. fills o (seen (get_or xs i x))) (sym (get_dropped os i))) in
         append_assoc done (g ∷ []) (filled_by (drop (i + 1) os) rest)
         ∙ (ap (λ h. done ++ h ∷ filled_by (drop (i + 1) os) rest) here
-        ∙ (ap (λ qs. done ++ outlet_at now states cases (slice_get (drop i os) 0) (seen (get_or xs i x)) (rendering_all objects scopes (seen (get_or xs i x))) ∷ filled_by qs rest) (sym (drop_again os i))
+        ∙ (ap (λ qs. done ++ fills (slice_get (drop i os) 0) (seen (get_or xs i x)) ∷ filled_by qs rest) (sym (drop_again os i))
         ∙ (ap (λ rs. done ++ rs) (sym (filled_first (drop i os) (seen (get_or xs i x)) rest))
         ∙ sym (at_drop_more (λ zs. done ++ filled_by (drop i os) (map seen zs)) xs i x l))))
 
@@ -130,7 +117,7 @@ module _ (objects : List Object) (scopes : List Scope) (now : Now) (states : Lis
 
 module _ (objects : List Object) (scopes : List Scope) (all : Fragments) (i : code_instance.Instance) where
   abbrev pub outlets : Outlets
-  outlets = outlets_from (map (instances_of all) (out-Instance i).outlets.items)
+  outlets = outlets_from (map (group_of all) (out-Instance i).outlets.items)
 
   abbrev pub kept : List SiteState
   kept = map state_of (out-Instance i).sites.items

@@ -10,7 +10,7 @@ use Rattle.ng_html.specs.declared.forest.Node as code_node
 use Rattle.ng_markup.specs.Forest.{Node, Forest, no_nodes, node, with_node, forest_from}
 use Rattle.ng_drawing.specs.Template.{Part, parts_from}
 use Rattle.ng_drawing.specs.Drawing.{followed_by, Now, GroupsNow, Rendered, ◌>>-◌, shown_as, render_part, render}
-use Rattle.ng_drawing.specs.Instance.{Instance, Instances, instances_from, outlets_from, rendering, rendering_all}
+use Rattle.ng_drawing.specs.Instance.{Instance, Instances, instances_from, outlets_from, rendering, rendering_all, Group}
 use Rattle.ng_drawing.specs.Nodes.{part_nodes, nodes}
 use Rattle.ng_base.specs.Objects.{Object}
 use Rattle.ng_base.specs.declared.fault.Fault.{Fault}
@@ -131,8 +131,8 @@ body_stands objects scopes seen [] i x l is h = absurd (omega (arith, l))
 body_stands objects scopes seen (y ∷ ys) zero x l is h = subst (λ z. InstanceStands objects scopes (seen z)) (sym is) h.0
 body_stands objects scopes seen (y ∷ ys) (suc i) x l is h = body_stands objects scopes seen ys i x (omega (arith, l)) is h.1
 
-pub bodies_stand : {X : Type 0} (objects : List Object) (scopes : List Scope) (seen : X → Instances) (xs : List X) (i : ℕ) (x : X) → i < length xs → x ≡ get_or xs i x
-    → OutletsStand objects scopes (outlets_from (map seen xs)) → InstancesStand objects scopes (seen x)
+pub bodies_stand : {X : Type 0} (objects : List Object) (scopes : List Scope) (seen : X → Group) (xs : List X) (i : ℕ) (x : X) → i < length xs → x ≡ get_or xs i x
+    → OutletsStand objects scopes (outlets_from (map seen xs)) → InstancesStand objects scopes (seen x).1
 bodies_stand objects scopes seen [] i x l is h = absurd (omega (arith, l))
-bodies_stand objects scopes seen (y ∷ ys) zero x l is h = subst (λ z. InstancesStand objects scopes (seen z)) (sym is) h.0
+bodies_stand objects scopes seen (y ∷ ys) zero x l is h = subst (λ z. InstancesStand objects scopes (seen z).1) (sym is) h.0
 bodies_stand objects scopes seen (y ∷ ys) (suc i) x l is h = bodies_stand objects scopes seen ys i x (omega (arith, l)) is h.1

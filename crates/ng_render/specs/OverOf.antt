@@ -35,7 +35,7 @@ abbrev mutual
 
   pub OutletsStand : List Object → List Scope → Outlets → Type 0
   OutletsStand objects scopes no_outlets = Unit {0}
-  OutletsStand objects scopes (outlet_then is os) = InstancesStand objects scopes is × OutletsStand objects scopes os
+  OutletsStand objects scopes (outlet_then rs is os) = InstancesStand objects scopes is × OutletsStand objects scopes os
 
 -- what fills an outlet
 abbrev pub group_of : Group → Rendered Forest

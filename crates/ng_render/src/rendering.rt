@@ -1,12 +1,15 @@
 //! The rendering of an instance: the bodies in it first, and then its parts round them.
-ghost use Rattle.std.specs.Prelude.{◌≡◌, ◌==◌, [], true, not, map, option_map, slice_get, IfOk, IfErr, if◌then◌else◌};
+ghost use Rattle.std.specs.Prelude.{◌≡◌, ◌==◌, [], true, map, option_map, slice_get, IfOk, IfErr, if◌then◌else◌};
 ghost use Rattle.ng_base.specs.Faults.{is_memory};
 ghost use Rattle.ng_base.specs.Meets.{Gives};
 ghost use Rattle.std.specs.List.{list_any};
 ghost use Rattle.ng_blocks.specs.Switching.{matches};
 ghost use Rattle.ng_drawing.specs.Cases.{case_in, cases_of, is_chosen as is_chosen_of, is_chosen_by as is_chosen_by_of, calls_for as calls_for_of};
-ghost use Rattle.ng_drawing.specs.Instance.{has_any, rests_in, outlet_now, outlet_at, rendering, rendering_all, rendering_in, outlets_from};
-ghost use Rattle.ng_drawing.specs.InstanceOf.{Fragments, state_of, instance_of, instances_of};
+ghost use Rattle.ng_drawing.specs.Roles.{entries_kept};
+ghost use Rattle.ng_drawing.specs.RolesOf.{entries_of, role_of};
+ghost use Rattle.ng_drawing.specs.Rows.{is_as_called as is_as_called_of, is_filled as is_filled_of};
+ghost use Rattle.ng_drawing.specs.Instance.{rests_in, outlet_now, outlet_at, rendering, rendering_all, rendering_in, outlets_from};
+ghost use Rattle.ng_drawing.specs.InstanceOf.{state_of, instance_of, group_of as bodies_of, instances_of};
 ghost use Rattle.ng_html.specs.Seen.{forest_of};
 ghost use Rattle.ng_template.specs.Kept.{templates_of, fragments_in};
 ghost use Rattle.ng_template.specs.FragmentOf.{outlet_of, outlets_of, filling_of};
@@ -22,6 +25,7 @@ use ng_base::fault::{Fault, Memory};
 use ng_base::txt::Txt;
 use ng_drawing::cases::{has_text, kept_as_text};
 use ng_drawing::instance::{Instance, Instances, SiteState};
+use ng_drawing::roles::{Entry, Role, are_rows, entries_in};
 use ng_html::forest::Forest;
 use ng_scopes::scopes::Scopes;
 use ng_store::store::Store;
@@ -58,6 +62,7 @@ fn case_has(outlet: &Outlet, site: u32, value: &Txt) -> bool
     match &outlet.filling {
         Filling::BodyIf(_) => false,
         Filling::OnCase(case, _) => has_text(value, case),
+        Filling::ForEach(_, _) => false,
     }
 }
 
@@ -115,18 +120,47 @@ fn calls_for(
     match &outlet.filling {
         Filling::BodyIf(_) => Ok(is_kept_true(shown)),
         Filling::OnCase(case, _) => is_chosen_by(alloc, outlets, outlet.site, case, shown),
+        Filling::ForEach(_, _) => Ok(false),
     }
 }
 
 /// Whether bodies stand exactly where they are called for.
-fn is_filled(called: bool, bodies: &Instances) -> bool
-    ensures { (all : Fragments) → result ≡ (if called then has_any (instances_of all bodies.now) else not (has_any (instances_of all bodies.now))) }
+fn is_as_called(called: bool, roles: &[Role]) -> bool
+    ensures { result ≡ is_as_called_of called (map role_of roles.now) }
 {
     if called {
-        !bodies.items.is_empty()
+        !roles.is_empty()
     } else {
-        bodies.items.is_empty()
+        roles.is_empty()
     }
+}
+
+/// The entries of a collection, of which this is shown.
+fn entries_shown(alloc: Global, shown: &Option<Snap>) -> Result<Vec<Entry>, Memory>
+    ensures { IfOk result (λ v. entries_of v.items ≡ entries_kept (option_map snap_of shown.now)) }
+{
+    match shown {
+        None => Ok(Vec::new(alloc)),
+        Some(snap) => entries_in(alloc, snap.view()),
+    }
+}
+
+/// Whether the bodies that stand in an outlet, which is one of these, are those that a value of its site calls for.
+fn is_filled(
+    alloc: Global,
+    outlets: &[Outlet],
+    outlet: &Outlet,
+    shown: &Option<Snap>,
+    roles: &[Role],
+) -> Result<bool, Memory>
+    ensures { IfOk result (λ b. b ≡ is_filled_of (cases_of (outlets_of outlets.now) outlet.now.site) (filling_of outlet.now.filling) (option_map snap_of shown.now) (map role_of roles.now)) }
+{
+    if let Filling::ForEach(_, _) = &outlet.filling {
+        let entries = entries_shown(alloc, shown)?;
+        return Ok(are_rows(entries.as_slice(), roles));
+    }
+    let called = calls_for(alloc, outlets, outlet, shown)?;
+    Ok(is_as_called(called, roles))
 }
 
 /// What fills an outlet of which this was rendered, where it is what the value of the site calls for now.
@@ -134,11 +168,11 @@ fn filled(
     over: &Over<'_>,
     outlets: &[Outlet],
     outlet: &Outlet,
-    bodies: &Instances,
+    roles: &[Role],
     group: Group,
 ) -> Result<Group, Memory>
     requires { Stands over.now }
-    ensures { (all : Fragments) → IfOk result (λ g. group_of g ≡ outlet_now (now_over over.now) (map state_of over.now.states.now) (cases_of (outlets_of outlets.now)) (outlet_of outlet.now) (instances_of all bodies.now) (group_of group)) }
+    ensures { IfOk result (λ g. group_of g ≡ outlet_now (now_over over.now) (map state_of over.now.states.now) (cases_of (outlets_of outlets.now)) (outlet_of outlet.now) (map role_of roles.now) (group_of group)) }
 {
     if rests(over.states, outlet.site) {
         return Ok(group);
@@ -147,8 +181,7 @@ fn filled(
         Err(Fault::Memory(memory)) => Err(memory),
         Err(fault) => Ok(Group::Faulted(fault)),
         Ok(shown) => {
-            let called = calls_for(over.alloc, outlets, outlet, &shown)?;
-            if is_filled(called, bodies) {
+            if is_filled(over.alloc, outlets, outlet, &shown, roles)? {
                 Ok(group)
             } else {
                 Ok(Group::Unfit)
@@ -162,15 +195,15 @@ fn filled_at(
     over: &Over<'_>,
     outlets: &[Outlet],
     k: usize,
-    bodies: &Instances,
+    roles: &[Role],
     group: Group,
 ) -> Result<Group, Memory>
     requires { Stands over.now }
-    ensures { (all : Fragments) → IfOk result (λ g. group_of g ≡ outlet_at (now_over over.now) (map state_of over.now.states.now) (cases_of (outlets_of outlets.now)) (slice_get (outlets_of outlets.now) k) (instances_of all bodies.now) (group_of group)) }
+    ensures { IfOk result (λ g. group_of g ≡ outlet_at (now_over over.now) (map state_of over.now.states.now) (cases_of (outlets_of outlets.now)) (slice_get (outlets_of outlets.now) k) (map role_of roles.now) (group_of group)) }
 {
     match outlets.get(k) {
         None => Ok(group),
-        Some(outlet) => filled(over, outlets, outlet, bodies, group),
+        Some(outlet) => filled(over, outlets, outlet, roles, group),
     }
 }
 
@@ -225,14 +258,14 @@ fn rendered_outlets(
     outlets: &[Outlet],
 ) -> Result<Vec<Group>, Fault>
     requires over { Stands over.now }
-    requires stands { OutletsStand ground.now.store.now ground.now.scopes.now (outlets_from (map (instances_of (fragments_in (templates_of ground.now.all.now))) bodies.now)) }
-    ensures groups { IfOk result (λ gs. map group_of gs.items ≡ rendering_in ground.now.store.now ground.now.scopes.now (now_over over.now) (map state_of over.now.states.now) (cases_of (outlets_of outlets.now)) (outlets_of outlets.now) (outlets_from (map (instances_of (fragments_in (templates_of ground.now.all.now))) bodies.now))) }
+    requires stands { OutletsStand ground.now.store.now ground.now.scopes.now (outlets_from (map (bodies_of (fragments_in (templates_of ground.now.all.now))) bodies.now)) }
+    ensures groups { IfOk result (λ gs. map group_of gs.items ≡ rendering_in ground.now.store.now ground.now.scopes.now (now_over over.now) (map state_of over.now.states.now) (cases_of (outlets_of outlets.now)) (outlets_of outlets.now) (outlets_from (map (bodies_of (fragments_in (templates_of ground.now.all.now))) bodies.now))) }
     ensures faults { IfErr result (λ e. is_memory e ≡ true) }
 {
     let mut groups = Vec::new(ground.alloc);
     for (k, these) in bodies.iter().enumerate() {
         let group = group_from(rendered_all(ground, these))?;
-        groups.push(filled_at(over, outlets, k, these, group)?)?;
+        groups.push(filled_at(over, outlets, k, these.roles.as_slice(), group)?)?;
     }
     Ok(groups)
 }

@@ -1,22 +1,24 @@
 -- The blocks round an element, stage by stage.
-use Rattle.std.proofs.Common.{◌≡◌, ◌<◌, ◌≤◌, ◌+◌, ℕ, suc, ℤ, Bool, true, false, cond, List, [], ◌++◌, map, drop, get_or, length, Option, None, Some, Result, Ok, Err, refl, ap, sym, ◌∙◌, append_assoc, append-nil}
+use Rattle.std.proofs.Common.{◌≡◌, ◌<◌, ◌≤◌, ◌+◌, ℕ, suc, ℤ, Bool, true, false, cond, List, [], ◌∷◌, ◌++◌, map, drop, get_or, length, Option, None, Some, Result, Ok, Err, refl, ap, sym, ◌∙◌, append_assoc, append-nil}
 use Rattle.std.proofs.lemmas.List.{at_drop_more, drop_all}
 use Rattle.std.specs.Prelude.{is_none, is_some, unwrap_or, IsErrAnd}
 use Rattle.ng_base.specs.Meets.{◌>>=◌, Gives}
 use Rattle.ng_collect.specs.Collected.{collected}
+use Rattle.ng_collect.specs.Sorted.{of_core}
 use Rattle.ng_collect.specs.declared.definition.DirectiveDef.{DirectiveDef}
 use Rattle.ng_collect.specs.declared.pick.Pick.{Pick}
 use Rattle.ng_drawing.specs.Cases.{Case}
-use Rattle.ng_drawing.specs.Template.{Part}
+use Rattle.ng_drawing.specs.Template.{Site, Repeated, Outlet, Part}
 use Rattle.ng_drawing.specs.declared.kind.SiteKind.TheVariants as kinds
 use Rattle.ng_interp.specs.Parts.{Piece}
 use Rattle.ng_interp.specs.declared.pieces.InterpFault.{InterpFault}
 use Rattle.ng_markup.specs.Forest.{Node}
-use Rattle.ng_template.specs.Around.{attributes_in, picks_in, at_place, checked_as, checked, block_priority, Inside, is_plain, has_picks, Block, block_if, Around, case_at, cases_in, switched, heads_by, heads_of, heads_onto, Found, first_case, found_after, with_found, bare_around, around_these, around_picks, around_below, block_room, around_node}
+use Rattle.ng_template.specs.Around.{attributes_in, picks_in, at_place, checked_as, checked, block_priority, Inside, is_plain, has_picks, Block, block_if, block_for, is_repeat, if_heads, for_heads, Around, case_at, cases_in, switched, heads_by, heads_of, heads_onto, Found, first_case, found_after, with_found, bare_around, around_these, around_picks, around_below, block_room, around_node}
 use Rattle.ng_template.specs.Compiles.{Made, Switch, Outermost, rounds, begun_body, wrapped, in_rounds, node_made}
 use Rattle.ng_template.specs.Directives.{text_on, whole}
 use Rattle.ng_template.specs.Free.{is_tpl_want}
 use Rattle.ng_template.specs.Manners.{are_built, any_makes_plain}
+use Rattle.ng_template.specs.Repeating.{repeat_in}
 use Rattle.ng_template.specs.Texts.{refused, wrong, judged_as, judged, sites_in}
 use Rattle.ng_template.specs.declared.fault.TplFault.{TplFault}
 use Rattle.ng_template.specs.declared.fault.TplKind.{TplKind}
@@ -55,7 +57,7 @@ onto-refused place before (Err kind) go f e = cc
 
 -- a block more
 abbrev pub head_at : Pick → Result (List Block) TplKind
-head_at p = heads_by (case_at p) (text_on p.attribute)
+head_at p = heads_by (case_at p) p.directive (text_on p.attribute)
 
 module _ (place : ℕ) (xs : List Pick) (i : ℕ) (x : Pick) (l : i < length xs) (is : x ≡ get_or xs i x) (before : List Block) where
   here : at_place place (heads_onto before (head_at x)) ≡ at_place place (heads_onto before (head_at (get_or xs i x)))
@@ -75,26 +77,42 @@ module _ (place : ℕ) (xs : List Pick) (i : ℕ) (x : Pick) (l : i < length xs)
 pub heads-end : (place : ℕ) (xs : List Pick) (i : ℕ) (before : List Block) → length xs ≤ i → at_place place (heads_onto before (heads_of (drop i xs))) ≡ Ok before
 heads-end place xs i before l = ap (λ zs. at_place place (heads_onto before (heads_of zs))) (drop_all i xs l) ∙ ap Ok (append-nil before)
 
--- the block of a directive that makes no case, from what was judged of its text
-module _ (place : ℕ) (before : List Block) (p : Pick) (none : case_at p ≡ None) where
+-- the block whose text is an expression as a whole, from what was judged of that
+module _ (place : ℕ) (before : List Block) (t : List ℕ) where
   abbrev text : Result (List Piece) InterpFault
-  text = whole (text_on p.attribute)
+  text = whole t
 
   abbrev go : List Piece → Result (List Block) TplKind
   go h = Ok (map block_if (sites_in kinds.Reference h))
 
-  head-is : heads_onto before (head_at p) ≡ heads_onto before (checked text >>= go)
-  head-is = ap (λ (o : Option Case). heads_onto before (heads_by o (text_on p.attribute))) none
-
-  pub head-made : (h : List Piece) → judged place text ≡ Ok h → at_place place (heads_onto before (head_at p)) ≡ Ok (before ++ map block_if (sites_in kinds.Reference h))
-  head-made h e =
+  pub if-made : (h : List Piece) → judged place text ≡ Ok h → at_place place (heads_onto before (if_heads t)) ≡ Ok (before ++ map block_if (sites_in kinds.Reference h))
+  if-made h e =
       let c : checked text ≡ Ok h = placed_ok place (checked text) h (sym (judged-checked place text) ∙ e) in
-      ap (at_place place) head-is ∙ ap (λ (r : Result (List Piece) TplKind). at_place place (heads_onto before (r >>= go))) c
+      ap (λ (r : Result (List Piece) TplKind). at_place place (heads_onto before (r >>= go))) c
 
-  pub head-wrong : (f : TplFault) → judged place text ≡ Err f → at_place place (heads_onto before (head_at p)) ≡ Err f
-  head-wrong f e =
+  pub if-wrong : (f : TplFault) → judged place text ≡ Err f → at_place place (heads_onto before (if_heads t)) ≡ Err f
+  if-wrong f e =
       let c : at_place place (checked text) ≡ Err f = sym (judged-checked place text) ∙ e in
-      ap (at_place place) head-is ∙ refused_first place (checked text >>= go) (λ hs. Ok (before ++ hs)) f (refused_first place (checked text) go f c)
+      refused_first place (checked text >>= go) (λ hs. Ok (before ++ hs)) f (refused_first place (checked text) go f c)
+
+-- that of a repeat
+module _ (place : ℕ) (before : List Block) (t : List ℕ) where
+  abbrev went : Site × Repeated → Result (List Block) TplKind
+  went r = Ok (block_for r.0 r.1 ∷ [])
+
+  pub for-made : (r : Site × Repeated) → at_place place (repeat_in t) ≡ Ok r → at_place place (heads_onto before (for_heads t)) ≡ Ok (before ++ block_for r.0 r.1 ∷ [])
+  for-made r e = ap (λ (x : Result (Site × Repeated) TplKind). at_place place (heads_onto before (x >>= went))) (placed_ok place (repeat_in t) r e)
+
+  pub for-wrong : (f : TplFault) → at_place place (repeat_in t) ≡ Err f → at_place place (heads_onto before (for_heads t)) ≡ Err f
+  for-wrong f e = refused_first place (repeat_in t >>= went) (λ hs. Ok (before ++ hs)) f (refused_first place (repeat_in t) went f e)
+
+-- which of these a directive is that makes no case
+module _ (place : ℕ) (before : List Block) (p : Pick) (none : case_at p ≡ None) where
+  abbrev onto : Bool → Result (List Block) TplFault
+  onto b = at_place place (heads_onto before (cond b (for_heads (text_on p.attribute)) (if_heads (text_on p.attribute))))
+
+  pub head-is : (b : Bool) → of_core is_repeat p.directive ≡ b → at_place place (heads_onto before (head_at p)) ≡ onto b
+  head-is b e = ap (λ (o : Option Case). at_place place (heads_onto before (heads_by o p.directive (text_on p.attribute)))) none ∙ ap onto e
 
 -- a directive that makes no case
 pub makes_none : (o : Option Case) → false ≡ is_some o → o ≡ None
@@ -103,7 +121,7 @@ makes_none (Some c) e = absurd (cc)
 
 -- and that of one that makes a case
 pub head-none : (place : ℕ) (before : List Block) (p : Pick) (c : Case) → case_at p ≡ Some c → at_place place (heads_onto before (head_at p)) ≡ Ok before
-head-none place before p c e = ap (λ (o : Option Case). at_place place (heads_onto before (heads_by o (text_on p.attribute)))) e ∙ ap Ok (append-nil before)
+head-none place before p c e = ap (λ (o : Option Case). at_place place (heads_onto before (heads_by o p.directive (text_on p.attribute)))) e ∙ ap Ok (append-nil before)
 
 -- what directives add to what was found
 module _ (place : ℕ) (f : Found) (has_switch : Bool) (ps : List Pick) where
@@ -240,6 +258,10 @@ module _ (place : ℕ) (defs : List DirectiveDef) (n : Node) where
 
         pub inner-stage : are_built ps ≡ true → block_priority ps ≡ None → rest f has_switch room limit ≡ Ok (around_with f (has_picks ps))
         inner-stage built none = read_stage true built ∙ (ap (picked false true) none ∙ ap Ok (after-bare f (has_picks ps)))
+
+        pub last-found : are_built ps ≡ true → (o : Option ℤ) → o ≡ block_priority ps → is_none o ≡ true → rest f has_switch room limit ≡ Ok (around_with f (has_picks ps))
+        last-found built None is none = inner-stage built (sym is)
+        last-found built (Some l) is none = absurd (cc)
 
         pub block-stage : are_built ps ≡ true → (o : Option ℤ) → o ≡ block_priority ps → is_none o ≡ false → (now : Found) → at_place place (found_after f has_switch ps) ≡ Ok now
             → rest now false k o ≡ rest f has_switch room limit

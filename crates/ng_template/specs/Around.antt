@@ -1,4 +1,4 @@
--- The blocks of an element, from the outside in (guide: HTML Compiler, "How directives are compiled"; API: ngIf, ngSwitch). A block stands
+-- The blocks of an element, from the outside in (guide: HTML Compiler, "How directives are compiled"; API: ngIf, ngSwitch, ngRepeat). A block stands
 -- in place of its element, and leaves the directives of lower priority to its body. Of two blocks of one priority the second is in the first.
 -- A case of a switch is the outermost, since none has a higher priority.
 use Rattle.std.specs.Prelude.{ℕ, zero, suc, ℤ, Bool, true, false, List, [], ◌∷◌, ◌++◌, map, find, Option, None, Some, option_map, Result, Ok, Err, codes, if◌then◌else◌}
@@ -17,7 +17,7 @@ use Rattle.ng_collect.specs.declared.pick.Pick.{Pick}
 use Rattle.ng_collect.specs.declared.table.CoreDirective.{CoreDirective}
 use Rattle.ng_collect.specs.declared.table.CoreDirective.TheVariants as dirs
 use Rattle.ng_drawing.specs.Cases.{Case}
-use Rattle.ng_drawing.specs.Template.{Site}
+use Rattle.ng_drawing.specs.Template.{Site, Repeated}
 use Rattle.ng_drawing.specs.declared.kind.SiteKind.TheVariants as kinds
 use Rattle.ng_markup.specs.Forest.{Attributes, Node, element, text, comment}
 use Rattle.ng_tags.specs.declared.attrs.Attr.{Attr}
@@ -25,6 +25,7 @@ use Rattle.ng_template.specs.Directives.{text_on, whole}
 use Rattle.ng_template.specs.Manners.{are_built, any_makes_plain}
 use Rattle.ng_interp.specs.Parts.{Piece}
 use Rattle.ng_interp.specs.declared.pieces.InterpFault.{InterpFault}
+use Rattle.ng_template.specs.Repeating.{repeat_in}
 use Rattle.ng_template.specs.Texts.{refused, wrong, sites_in}
 use Rattle.ng_template.specs.declared.fault.TplFault.{TplFault}
 use Rattle.ng_template.specs.declared.fault.TplKind.{TplKind}
@@ -94,9 +95,10 @@ pub data Inside : Type 0 where
   is_plain : Inside
   has_picks : List Pick → Inside
 
--- a block round an element: its body stands while the value of its site is true
+-- a block round an element: its body stands while the value of its site is true, or there is one for each entry of that
 pub data Block : Type 0 where
   block_if : Site → Block
+  block_for : Site → Repeated → Block
 
 -- the case that an element is, the blocks round it, from the outside in, and the element itself
 pub record Around : Type 0 where
@@ -133,14 +135,29 @@ switched false (c ∷ cs) = Err CaseWithoutSwitch
 switched true (c ∷ []) = Ok (Some c)
 switched true (c ∷ d ∷ cs) = Err CaseWithoutSwitch
 
--- the blocks of directives that are no cases, whose text is an expression as a whole, or what is wrong with the first of them
-abbrev pub heads_by : Option Case → List ℕ → Result (List Block) TplKind
-heads_by (Some c) t = Ok []
-heads_by None t = checked (whole t) >>= λ h. Ok (map block_if (sites_in kinds.Reference h))
+-- a block whose text is an expression as a whole, or what is wrong with it
+abbrev pub if_heads : List ℕ → Result (List Block) TplKind
+if_heads t = checked (whole t) >>= λ h. Ok (map block_if (sites_in kinds.Reference h))
+
+-- a block whose text is a repeat, or what is wrong with it
+abbrev pub for_heads : List ℕ → Result (List Block) TplKind
+for_heads t = repeat_in t >>= λ r. Ok (block_for r.0 r.1 ∷ [])
+
+abbrev pub is_repeat : CoreDirective → Bool
+is_repeat dirs.Repeat = true
+is_repeat _ = false
+
+abbrev pub heads_for : Directive → List ℕ → Result (List Block) TplKind
+heads_for d t = if of_core is_repeat d then for_heads t else if_heads t
+
+-- the blocks of directives that are no cases, or what is wrong with the first of them
+abbrev pub heads_by : Option Case → Directive → List ℕ → Result (List Block) TplKind
+heads_by (Some c) d t = Ok []
+heads_by None d t = heads_for d t
 
 abbrev pub heads_of : List Pick → Result (List Block) TplKind
 heads_of [] = Ok []
-heads_of (p ∷ ps) = heads_by (case_at p) (text_on p.attribute) >>= λ h. heads_of ps >>= λ hs. Ok (h ++ hs)
+heads_of (p ∷ ps) = heads_by (case_at p) p.directive (text_on p.attribute) >>= λ h. heads_of ps >>= λ hs. Ok (h ++ hs)
 
 -- blocks after those that were found
 abbrev pub heads_onto : List Block → Result (List Block) TplKind → Result (List Block) TplKind

@@ -1,12 +1,13 @@
 -- What the blocks round an element stand for in the code.
 use Rattle.std.specs.Prelude.{ℕ, List, [], ◌∷◌, map, Option, None, Some, option_map}
 use Rattle.ng_drawing.specs.Cases.{Case}
-use Rattle.ng_template.specs.Around.{Inside, is_plain, has_picks, Block, block_if, Around, Found}
+use Rattle.ng_template.specs.Around.{Inside, is_plain, has_picks, Block, block_if, block_for, Around, Found}
 use Rattle.ng_template.specs.Compiles.{Outermost, the_case, the_block}
+use Rattle.ng_template.specs.RepeatedOf.{repeated_of}
 use Rattle.ng_template.specs.SiteOf.{site_of}
 use Rattle.ng_template.specs.declared.around.Around as code
 use Rattle.ng_template.specs.declared.around.Block as code_block
-use Rattle.ng_template.specs.declared.around.Block.TheVariants.{If}
+use Rattle.ng_template.specs.declared.around.Block.TheVariants.{If, For}
 use Rattle.ng_template.specs.declared.around.Case as code_case
 use Rattle.ng_template.specs.declared.around.Found as code_found
 use Rattle.ng_template.specs.declared.around.Inside as code_inside
@@ -20,6 +21,7 @@ inside_of (Picks ps) = has_picks ps.items
 
 abbrev pub block_of : code_block.Block → Block
 block_of (If h) = block_if (site_of h)
+block_of (For h r) = block_for (site_of h) (repeated_of r)
 
 abbrev pub blocks_of : List code_block.Block → List Block
 blocks_of bs = map block_of bs

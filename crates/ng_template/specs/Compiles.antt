@@ -7,11 +7,11 @@ use Rattle.ng_collect.specs.Cloak.{kept_attributes}
 use Rattle.ng_collect.specs.declared.definition.DirectiveDef.{DirectiveDef}
 use Rattle.ng_collect.specs.declared.pick.Pick.{Pick}
 use Rattle.ng_drawing.specs.Cases.{Case}
-use Rattle.ng_drawing.specs.Template.{Site, Filling, Outlet, Fragment, Template, PartClass, Part, Contents, Parts, word, text_part, comment_part, element_part, anchor_part, children, bound, no_parts, part_then, body_if, on_case}
+use Rattle.ng_drawing.specs.Template.{Site, Filling, Outlet, Fragment, Template, PartClass, Part, Contents, Parts, word, text_part, comment_part, element_part, anchor_part, children, bound, no_parts, part_then, body_if, on_case, for_each}
 use Rattle.ng_drawing.specs.declared.kind.SiteKind.TheVariants as kinds
 use Rattle.ng_interp.specs.Parts as interp
 use Rattle.ng_markup.specs.Forest.{Attributes, Node, Forest, element, text, comment, no_nodes, node}
-use Rattle.ng_template.specs.Around.{Inside, is_plain, has_picks, Block, block_if, Around, at_place, around_node}
+use Rattle.ng_template.specs.Around.{Inside, is_plain, has_picks, Block, block_if, block_for, Around, at_place, around_node}
 use Rattle.ng_template.specs.Directives.{Head, with_picks, attributes_of}
 use Rattle.ng_template.specs.Limits.{site_limit, worn}
 use Rattle.ng_template.specs.Plain.{plain_values, plain_part}
@@ -124,9 +124,11 @@ outlet_by site filling bodies = record { site = site; filling = filling (length 
 -- the site of a block, and how its body fills the outlet
 abbrev pub site_in : Block → Site
 site_in (block_if h) = h
+site_in (block_for h r) = h
 
 abbrev pub filling_in : Block → ℕ → Filling
 filling_in (block_if h) n = body_if n
+filling_in (block_for h r) n = for_each r n
 
 -- a block alone, which is the body of the block round it
 abbrev pub block_alone : Block → List Fragment → Fragment

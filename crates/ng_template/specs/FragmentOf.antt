@@ -1,11 +1,12 @@
 -- What a fragment, its sites and its outlets stand for.
 use Rattle.std.specs.Prelude.{List, map}
 use Rattle.ng_drawing.specs.Template as template
+use Rattle.ng_template.specs.RepeatedOf.{repeated_of}
 use Rattle.ng_template.specs.Seen.{parts_of}
 use Rattle.ng_template.specs.SiteOf.{site_of}
 use Rattle.ng_template.specs.declared.fragment.Fragment.{Fragment}
 use Rattle.ng_template.specs.declared.outlets.Filling.{Filling}
-use Rattle.ng_template.specs.declared.outlets.Filling.TheVariants.{BodyIf, OnCase}
+use Rattle.ng_template.specs.declared.outlets.Filling.TheVariants.{BodyIf, OnCase, ForEach}
 use Rattle.ng_template.specs.declared.outlets.Outlet.{Outlet}
 use Rattle.ng_template.specs.declared.site.Site.{Site}
 
@@ -15,6 +16,7 @@ sites_of sites = map site_of sites
 abbrev pub filling_of : Filling → template.Filling
 filling_of (BodyIf body) = template.body_if body
 filling_of (OnCase text body) = template.on_case text body
+filling_of (ForEach r body) = template.for_each (repeated_of r) body
 
 abbrev pub outlet_of : Outlet → template.Outlet
 outlet_of o = record { site = o.site; filling = filling_of o.filling }

@@ -10,6 +10,8 @@ pub mod Programs
 pub mod Directives
 pub mod Shared
 pub mod Plain
+pub mod RepeatedOf
+pub mod Repeating
 pub mod Around
 pub mod Compiles
 pub mod Numbering

@@ -1,5 +1,5 @@
 -- What each directive does with its text, and which attribute it sets beside its own (API: ngHref, ngSrc, ngChecked, ngDisabled, ngOpen,
--- ngReadonly, ngSelected, ngBind, ngClass, ngShow, ngHide, ngInit, ngClick, ngNonBindable, ngIf, ngSwitch).
+-- ngReadonly, ngSelected, ngBind, ngClass, ngShow, ngHide, ngInit, ngClick, ngNonBindable, ngIf, ngSwitch, ngRepeat).
 use Rattle.std.specs.Prelude.{ℕ, Bool, true, false, List, [], Option, None, Some, is_some, codes}
 use Rattle.std.specs.List.{list_all, list_any}
 use Rattle.ng_collect.specs.declared.pick.Directive.{Directive}
@@ -17,6 +17,7 @@ use Rattle.ng_template.specs.declared.manners.Setting.TheVariants.{Interpolates,
 abbrev pub core_manner : CoreDirective → Option Manner
 core_manner dirs.SwitchWhen = Some manners.Fills
 core_manner dirs.SwitchDefault = Some manners.Fills
+core_manner dirs.Repeat = Some manners.Fills
 core_manner dirs.If = Some manners.Fills
 core_manner dirs.Init = Some manners.Starts
 core_manner dirs.Checked = Some (manners.Sets Switches)

@@ -2,7 +2,7 @@
 -- children, and an element's attributes and contents are drawn from its own sites alone.
 use Rattle.std.specs.Prelude.{ℕ, ◌+◌, ◌==◌, ◌&&◌, Bool, true, false, not, List, [], ◌∷◌, length, Option, Some, None, option_and_then, nat_le, nat_lt, if◌then◌else◌}
 use Rattle.std.specs.List.{list_all}
-use Rattle.ng_drawing.specs.Template.{Piece, word, hole, Hiding, while_true, while_false, PartClass, PartValue, always, unless_empty, flag, classes, PartAttributes, Part, Contents, Parts, text_part, comment_part, element_part, anchor_part, children, bound, no_parts, part_then, Filling, body_if, on_case, Outlet, Fragment, Template}
+use Rattle.ng_drawing.specs.Template.{Piece, word, hole, Hiding, while_true, while_false, PartClass, PartValue, always, unless_empty, flag, classes, PartAttributes, Part, Contents, Parts, text_part, comment_part, element_part, anchor_part, children, bound, no_parts, part_then, Filling, body_if, on_case, for_each, Outlet, Fragment, Template}
 
 -- the number after those of the holes, where they are numbered from n on
 abbrev pub after_pieces : ℕ → List Piece → Option ℕ
@@ -100,6 +100,7 @@ is_number n (Some k) = k == n
 abbrev pub is_body : ℕ → Filling → Bool
 is_body bodies (body_if b) = nat_lt 0 b && nat_le b bodies
 is_body bodies (on_case c b) = nat_lt 0 b && nat_le b bodies
+is_body bodies (for_each r b) = nat_lt 0 b && nat_le b bodies
 
 abbrev pub is_outlet : ℕ → ℕ → Outlet → Bool
 is_outlet sites bodies o = nat_lt o.site sites && is_body bodies o.filling

@@ -1,4 +1,4 @@
-//! The blocks of an element, from the outside in (guide: HTML Compiler, "How directives are compiled"; API: ngIf, ngSwitch).
+//! The blocks of an element, from the outside in (guide: HTML Compiler, "How directives are compiled"; API: ngIf, ngSwitch, ngRepeat).
 ghost use Rattle.std.specs.Prelude.{◌≡◌, ◌++◌, map, true, OnOk, IfOk, is_some, option_map};
 ghost use Rattle.std.specs.List.{list_all};
 ghost use Rattle.std.specs.Map.{lookup};
@@ -10,7 +10,7 @@ ghost use Rattle.ng_collect.specs.Table.{is_block as is_block_of};
 ghost use Rattle.ng_drawing.specs.declared.kind.SiteKind.TheVariants as kinds;
 ghost use Rattle.ng_html.specs.Seen.{node_of};
 ghost use Rattle.ng_interp.specs.Parts.{piece_of};
-ghost use Rattle.ng_template.specs.Around.{block_if, attributes_in, core_source, source_of, sourced, if_empty, worded as worded_of, picks_in, at_place, block_priority as block_priority_of, case_at as case_at_pick, cases_in, switched, heads_by, heads_of, heads_onto, found_after, block_room, around_node};
+ghost use Rattle.ng_template.specs.Around.{block_if, attributes_in, core_source, source_of, sourced, if_empty, worded as worded_of, picks_in, at_place, block_priority as block_priority_of, case_at as case_at_pick, cases_in, switched, is_repeat as is_repeat_of, if_heads, for_heads, heads_by, heads_of, heads_onto, found_after, block_room, around_node};
 ghost use Rattle.ng_template.specs.AroundOf.{blocks_of, case_of, found_of, around_of};
 ghost use Rattle.ng_template.specs.Directives.{text_on};
 ghost use Rattle.ng_template.specs.Free.{is_tpl_want};
@@ -20,6 +20,8 @@ use crate::directives::{text_of, whole_parts};
 use crate::fault::{TplFault, TplKind};
 use crate::known::Known;
 use crate::manners::{any_makes_plain, are_built};
+use crate::repeated::Repeated;
+use crate::repeating::read_repeat;
 use crate::site::Site;
 use crate::texts::{refusal, want};
 use ng_base::txt::Txt;
@@ -38,10 +40,11 @@ pub(crate) enum Inside {
     Picks(Vec<Pick>),
 }
 
-/// A block round an element: its body stands while the value of its site is true.
+/// A block round an element: its body stands while the value of its site is true, or there is one for each entry of that.
 #[derive(Drop)]
 pub(crate) enum Block {
     If(Site),
+    For(Site, Repeated),
 }
 
 /// A case of a switch, with its text, or a default.
@@ -303,6 +306,46 @@ fn is_case(p: &Pick) -> bool
     }
 }
 
+/// Whether a directive is a repeat.
+fn is_repeat(p: &Pick) -> bool
+    ensures { result ≡ of_core is_repeat_of p.now.directive }
+{
+    match p.directive {
+        Directive::Core(CoreDirective::Repeat) => true,
+        _ => false,
+    }
+}
+
+/// The block of a repeat is added.
+fn push_repeat(
+    alloc: Global,
+    place: u64,
+    pick: &Pick,
+    heads: &mut Vec<Block>,
+) -> Result<(), TplFault>
+    ensures { Gives is_tpl_want (λ _. blocks_of heads.new.items) (at_place place (heads_onto (blocks_of heads.old.items) (for_heads (text_on pick.now.attribute)))) result }
+{
+    let text = text_of(alloc, &pick.attribute)?;
+    let read = read_repeat(alloc, place, &text)?;
+    heads.push(Block::For(read.site, read.repeated))?;
+    Ok(())
+}
+
+/// The block of a directive whose text is an expression as a whole is added.
+fn push_if(
+    alloc: Global,
+    known: &mut Known,
+    place: u64,
+    pick: &Pick,
+    heads: &mut Vec<Block>,
+) -> Result<(), TplFault>
+    ensures { Gives is_tpl_want (λ _. blocks_of heads.new.items) (at_place place (heads_onto (blocks_of heads.old.items) (if_heads (text_on pick.now.attribute)))) result }
+{
+    let parts = whole_parts(alloc, known, place, pick)?;
+    push_sites(heads, parts)?;
+    Ok(())
+}
+
 /// The block of a directive is added, unless it makes a case of its element.
 fn push_head(
     alloc: Global,
@@ -311,14 +354,15 @@ fn push_head(
     pick: &Pick,
     heads: &mut Vec<Block>,
 ) -> Result<(), TplFault>
-    ensures { Gives is_tpl_want (λ _. blocks_of heads.new.items) (at_place place (heads_onto (blocks_of heads.old.items) (heads_by (case_at_pick pick.now) (text_on pick.now.attribute)))) result }
+    ensures { Gives is_tpl_want (λ _. blocks_of heads.new.items) (at_place place (heads_onto (blocks_of heads.old.items) (heads_by (case_at_pick pick.now) pick.now.directive (text_on pick.now.attribute)))) result }
 {
     if is_case(pick) {
         return Ok(());
     }
-    let parts = whole_parts(alloc, known, place, pick)?;
-    push_sites(heads, parts)?;
-    Ok(())
+    if is_repeat(pick) {
+        return push_repeat(alloc, place, pick, heads);
+    }
+    push_if(alloc, known, place, pick, heads)
 }
 
 /// The blocks of one priority are added.

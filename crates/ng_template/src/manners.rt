@@ -1,5 +1,5 @@
 //! What each directive does with its text, and which attribute it sets beside its own (API: ngHref, ngSrc, ngChecked, ngDisabled,
-//! ngOpen, ngReadonly, ngSelected, ngBind, ngClass, ngShow, ngHide, ngInit, ngClick, ngNonBindable, ngIf, ngSwitch; guide: Interpolation, "How text and attribute
+//! ngOpen, ngReadonly, ngSelected, ngBind, ngClass, ngShow, ngHide, ngInit, ngClick, ngNonBindable, ngIf, ngSwitch, ngRepeat; guide: Interpolation, "How text and attribute
 //! bindings work").
 ghost use Rattle.std.specs.Prelude.{◌≡◌, IfOk};
 ghost use Rattle.ng_template.specs.Manners.{core_manner as core_manner_of, manner_of, are_built as are_built_all, core_makes_plain as core_makes_plain_of, makes_plain as makes_plain_of, any_makes_plain as any_makes_plain_of, core_target as core_target_of, target_of, event_name as event_name_of};
@@ -41,6 +41,7 @@ fn core_manner(d: CoreDirective) -> Option<Manner>
     match d {
         CoreDirective::SwitchWhen => Some(Manner::Fills),
         CoreDirective::SwitchDefault => Some(Manner::Fills),
+        CoreDirective::Repeat => Some(Manner::Fills),
         CoreDirective::If => Some(Manner::Fills),
         CoreDirective::Init => Some(Manner::Starts),
         CoreDirective::Checked => Some(Manner::Sets(Setting::Switches)),

@@ -48,6 +48,7 @@ fn split_block(block: Block, body: u32) -> (Site, Filling)
 {
     match block {
         Block::If(site) => (site, Filling::BodyIf(body)),
+        Block::For(site, repeated) => (site, Filling::ForEach(repeated, body)),
     }
 }
 

@@ -1,4 +1,4 @@
-use Rattle.std.proofs.Common.{◌≡◌, ◌∙◌, ◌+◌, List, ◌∷◌, ℕ, ap, drop, map, refl, subst, sym}
+use Rattle.std.proofs.Common.{◌≡◌, ◌∙◌, ◌+◌, List, ◌∷◌, ℕ, ap, drop, map, refl, subst, sym, arith}
 use Rattle.std.specs.List.{AllByRecursion}
 use Rattle.ng_fire.proofs.Answered.{dropped}
 use Rattle.ng_fire.proofs.Served.{due_held, due_rest, there_still}
@@ -28,6 +28,7 @@ loop-due-init c = record {
   due = c.requires.due;
   there = c.requires.due.there;
   scope = refl;
+  grown = omega arith;
   whole = c.requires.whole;
   templates = refl;
 }
@@ -51,6 +52,7 @@ loop-due-preserved c =
           (due_rest (templates_of l.works) p old new d rest (subst (λ (ds : List Due). AreDue (templates_of l.works) p old ds) e l.invariant.due) serves);
       there = subst (λ (ts : List Named). AllByRecursion (IsThere ts p new) (map due_of items)) (sym c.empty_outlet.ensures.templates) (there_still (templates_of l.works) p old new (map due_of items) serves.outlets l.invariant.there);
       scope = serves.scope ∙ l.invariant.scope;
+      grown = (let one = c.in_ok-empty_outlet.ensures.grown in let all = l.invariant.grown in omega (arith, one, all));
       whole = c.in_ok-empty_outlet.ensures.whole;
       templates = c.empty_outlet.ensures.templates ∙ l.invariant.templates;
     }

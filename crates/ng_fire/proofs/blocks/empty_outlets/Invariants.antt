@@ -1,4 +1,4 @@
-use Rattle.std.proofs.Common.{◌≡◌, drop, map}
+use Rattle.std.proofs.Common.{◌≡◌, ◌≤◌, drop, length, map}
 use Rattle.std.specs.List.{AllByRecursion}
 use Rattle.ng_fire.specs.Blocks.{outlets_emptied}
 use Rattle.ng_fire.specs.FiringOf.{firing}
@@ -17,6 +17,7 @@ invariant-loop-due l = record {
   due : AreDue (templates_of l.works) l.holder (state_of l.works).instances (map due_of (drop l.due-index l.all));
   there : AllByRecursion (IsThere (templates_of l.works) l.holder (state_of l.works).instances) (map due_of l.all);
   scope : scope_in (linked_at l.holder (state_of l.works).instances) ≡ scope_in (linked_at l.holder (state_of l.initial.works).instances);
+  grown : length l.initial.works.core.store ≤ length l.works.core.store;
   whole : IsWhole l.works;
   templates : templates_of l.works ≡ templates_of l.initial.works;
 }

@@ -1,9 +1,10 @@
-use Rattle.std.proofs.Common.{◌≡◌, ◌∙◌, ◌+◌, List, ◌∷◌, ℕ, ap, drop, map, refl, subst, sym}
+use Rattle.std.proofs.Common.{◌≡◌, ◌∙◌, ◌+◌, List, ◌∷◌, ℕ, ap, drop, length, map, refl, subst, sym}
 use Rattle.std.specs.List.{AllByRecursion}
 use Rattle.ng_drawing.specs.Cases.{Case}
 use Rattle.ng_fire.proofs.Answered.{dropped}
 use Rattle.ng_fire.proofs.Served.{there_still}
-use Rattle.ng_fire.specs.Blocks.{cases_due, outlets_filled}
+use Rattle.ng_fire.specs.Blocks.{cases_due}
+use Rattle.ng_fire.specs.SiteFires.{outlets_filled}
 use Rattle.ng_fire.specs.FiringOf.{firing}
 use Rattle.ng_fire.specs.Serving.{IsThere}
 use Rattle.ng_link.specs.Due.{Due, due_of}
@@ -12,6 +13,7 @@ use Rattle.ng_link.specs.Instances.{linked_at}
 use Rattle.ng_link.specs.State.{state_of, templates_of}
 use Rattle.ng_template.specs.Kept.{Named}
 use Rattle.ng_value.specs.Snaps.{snap_of}
+use Rattle.ng_write.proofs.More.{view_more}
 use Rattle.ng_fire.proofs.blocks.fill_outlets.Goals as goal
 
 pub fill_outlet-requires-clause-there : goal.fill_outlet-requires-clause-there
@@ -26,7 +28,7 @@ fill_outlet-requires-clause-there c =
     (subst (λ (ds : List Due). AllByRecursion (IsThere (templates_of l.works) p is) ds) e l.invariant.there).0
 
 pub loop-due-init : goal.loop-due-init
-loop-due-init c = record { fired = refl; there = c.requires.there; whole = c.requires.whole; templates = refl }
+loop-due-init c = record { fired = refl; there = c.requires.there; value = c.requires.value; whole = c.requires.whole; templates = refl }
 
 pub loop-due-preserved : goal.loop-due-preserved
 loop-due-preserved c =
@@ -41,13 +43,14 @@ loop-due-preserved c =
     let d : Due = due_of c.due-item.result in
     let rest : List Due = map due_of (drop (l.due-index + 1) items) in
     let e : map due_of (drop l.due-index items) ≡ d ∷ rest = ap (map due_of) (dropped items l.due-index c.due-item.result c.loop-due-test.true c.due-item.is) in
-    let serves = c.in_ok-fill_outlet.ensures.serves in
+    let keeps = c.in_ok-fill_outlet.ensures.keeps in
     record {
-      fired = ap (λ (n : ℕ). outlets_filled p n cases v rest (firing w c.fill_outlet.new.told)) serves.scope
+      fired = ap (λ (n : ℕ). outlets_filled p n cases v rest (firing w c.fill_outlet.new.told)) keeps.scope
           ∙ (ap (outlets_filled p (scope_in (linked_at p old)) cases v rest) c.in_ok-fill_outlet.ensures.fired
           ∙ (sym (ap (λ (ds : List Due). outlets_filled p (scope_in (linked_at p old)) cases v ds (firing l.works l.told)) e) ∙ l.invariant.fired));
       there = subst (λ (ts : List Named). AllByRecursion (IsThere ts p new) rest) (sym c.fill_outlet.ensures.templates)
-          (there_still (templates_of l.works) p old new rest serves.outlets (subst (λ (ds : List Due). AllByRecursion (IsThere (templates_of l.works) p old) ds) e l.invariant.there).1);
+          (there_still (templates_of l.works) p old new rest keeps.outlets (subst (λ (ds : List Due). AllByRecursion (IsThere (templates_of l.works) p old) ds) e l.invariant.there).1);
+      value = view_more (length l.works.core.store) (length w.core.store) c.in_ok-fill_outlet.ensures.grown v l.invariant.value;
       whole = c.in_ok-fill_outlet.ensures.whole;
       templates = c.fill_outlet.ensures.templates ∙ l.invariant.templates;
     }

@@ -1,9 +1,11 @@
-use Rattle.std.proofs.Common.{◌≡◌, drop, map}
+use Rattle.std.proofs.Common.{◌≡◌, drop, length, map}
 use Rattle.std.specs.List.{AllByRecursion}
-use Rattle.ng_fire.specs.Blocks.{cases_due, outlets_filled}
+use Rattle.ng_fire.specs.Blocks.{cases_due}
+use Rattle.ng_fire.specs.SiteFires.{outlets_filled}
 use Rattle.ng_fire.specs.FiringOf.{firing}
 use Rattle.ng_fire.specs.Serving.{IsThere}
 use Rattle.ng_fire.specs.Whole.{IsWhole}
+use Rattle.ng_language.specs.Views.{ViewStands}
 use Rattle.ng_link.specs.Due.{due_of}
 use Rattle.ng_link.specs.Events.{scope_in}
 use Rattle.ng_link.specs.Instances.{linked_at}
@@ -16,6 +18,7 @@ invariant-loop-due l = record {
   fired : outlets_filled l.holder (scope_in (linked_at l.holder (state_of l.works).instances)) (cases_due (map due_of l.all)) (snap_of l.value) (map due_of (drop l.due-index l.all)) (firing l.works l.told)
       ≡ outlets_filled l.holder (scope_in (linked_at l.holder (state_of l.initial.works).instances)) (cases_due (map due_of l.all)) (snap_of l.value) (map due_of l.all) (firing l.initial.works l.initial.told);
   there : AllByRecursion (IsThere (templates_of l.works) l.holder (state_of l.works).instances) (map due_of (drop l.due-index l.all));
+  value : ViewStands (length (l.works).core.store) (snap_of l.value);
   whole : IsWhole l.works;
   templates : templates_of l.works ≡ templates_of l.initial.works;
 }

@@ -1,6 +1,7 @@
 use Rattle.std.proofs.Common.{◌≡◌, ◌∙◌, ◌<◌, ℕ, List, [], None, ap, length, subst, sym}
 use Rattle.ng_base.specs.declared.name.ScopeId.{ScopeId}
 use Rattle.ng_behaviour.specs.Scopes.{Scope, path_at}
+use Rattle.ng_drawing.specs.Roles.{a_body}
 use Rattle.ng_fire.proofs.Answered.{ok_then, some_is, there}
 use Rattle.ng_fire.proofs.Bodies.{outlet_there, scope_path, scope_stands, then_serves}
 use Rattle.ng_fire.specs.Blocks.{Firing}
@@ -16,7 +17,7 @@ use Rattle.ng_fire.proofs.blocks.make_body.Goals as goal
 
 -- what is known of a child that was made
 abbrev IsNew : List Scope → List Scope → ℕ → Instances → ScopeId → Type 0
-IsNew t u n is x = (x.0 < length u) × IsIn (path_at t n) (record { path = path_at u x.0 }) × (linked_at (path_at u x.0) is ≡ None)
+IsNew t u n is x = (x.0 < length u) × IsIn (path_at t n) (record { path = path_at u x.0; role = a_body }) × (linked_at (path_at u x.0) is ≡ None)
 
 pub make_child-requires-clause-scope : goal.make_child-requires-clause-scope
 make_child-requires-clause-scope c =
@@ -37,7 +38,7 @@ link_body-requires-clause-free c =
     ap (path_at w.core.scopes) c.scope_on-scope.ensures
     ∙ (scope_path w.core.scopes (state_of w).instances c.args.holder.now o c.requires.outlet c.requires.whole.scopes ∙ sym c.in_ok-copied.ensures) in (
       outlet_there c.in_ok-copied.field-0 o (state_of m).instances lt,
-      subst (λ (p : List ℕ). IsIn p (record { path = path_at m.core.scopes c.in-Some.child.0 })) path made.1,
+      subst (λ (p : List ℕ). IsIn p (record { path = path_at m.core.scopes c.in-Some.child.0; role = a_body })) path made.1,
       made.2,
     )
 
@@ -54,7 +55,7 @@ returns-in-Some-clause-serves c =
     (subst (λ (is : Instances). o < outlet_count c.args.holder.now is) (sym same) c.requires.outlet) in
     let free = (some_is (IsNew w.core.scopes m.core.scopes c.scope_on-scope.result.0 (state_of m).instances) _ c.in-Some.child c.in_ok-child.ensures.free c.in-Some.is).2 in
     let q = there (fragment_in (templates_of m) c.args.template.0 c.args.body) (subst (λ (ts : List Named). IsSome (fragment_in ts c.args.template.0 c.args.body)) (sym c.make_child.ensures.templates) c.requires.template) in
-    let one = then_serves c.in_ok-copied.field-0 o (c.args.template.0, c.args.body) c.in-Some.child.0 q.0 s lt free (linked (live_nodes s) q.0.parts) (firing m c.args.told.now) in
+    let one = then_serves c.in_ok-copied.field-0 o 0 a_body (c.args.template.0, c.args.body) c.in-Some.child.0 q.0 s lt free (linked (live_nodes s) q.0.parts) (firing m c.args.told.now) in
     ok_then c.link_body.result c.link_body.ensures.fired
     (λ fired. subst (λ (is : Instances). Serves c.args.holder.now [] is (state_of v).instances) same
     (subst (λ (p : List ℕ). Serves p [] s.instances (state_of v).instances) c.in_ok-copied.ensures

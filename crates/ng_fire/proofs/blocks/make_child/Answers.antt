@@ -4,6 +4,7 @@ use Rattle.ng_base.specs.Objects.{Object}
 use Rattle.ng_behaviour.proofs.Grown.{tree-grows}
 use Rattle.ng_behaviour.proofs.ScopeTree.{grown-length}
 use Rattle.ng_behaviour.specs.Scopes.{Scope, IsScopeTree, object_at, path_at}
+use Rattle.ng_drawing.specs.Roles.{a_body}
 use Rattle.ng_fire.proofs.Bodies.{child_is, new_inside, new_path, scopes_grown}
 use Rattle.ng_fire.proofs.Wholes.{whole_wider}
 use Rattle.ng_fire.specs.Whole.{IsWhole}
@@ -25,7 +26,7 @@ returns-in-Ok-clause-free c =
     let tree : IsScopeTree u = subst IsScopeTree (sym e) (tree-grows t n o c.sound.ensures c.requires.scope) in
     let free = new_path t u n o (state_of w).instances tree e c.requires.whole.scopes in (
       omega (arith, is, count),
-      subst (λ (k : ℕ). IsIn (path_at t n) (record { path = path_at u k })) (sym is) (new_inside t u n o e),
+      subst (λ (k : ℕ). IsIn (path_at t n) (record { path = path_at u k; role = a_body })) (sym is) (new_inside t u n o e),
       subst (λ (k : ℕ). linked_at (path_at u k) (state_of w).instances ≡ None) (sym is) free,
     )
 

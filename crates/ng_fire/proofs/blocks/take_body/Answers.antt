@@ -10,23 +10,24 @@ use Rattle.ng_fire.specs.FiringOf.{firing}
 use Rattle.ng_fire.specs.Serving.{Serves}
 use Rattle.ng_link.specs.Instances.{Body, Instances, unlinked}
 use Rattle.ng_link.specs.Standing.{IsHeldIn}
-use Rattle.ng_link.specs.State.{State, state_of}
+use Rattle.ng_link.specs.State.{State, body_of, state_of}
 use Rattle.ng_fire.proofs.blocks.take_body.Goals as goal
 
 pub unlink-requires-clause-held : goal.unlink-requires-clause-held
 unlink-requires-clause-held c =
     let w = c.args.works.now in
+    let b : Body = body_of c.args.body.now in
     let m = c.end_body.new.works in
-    let same : (state_of m).instances ≡ (state_of w).instances = ap (λ (g : Firing). g.state.instances) c.in_ok-end_body.ensures.fired ∙ ended_linked c.args.body.now (firing w c.args.told.now) in
-    subst (λ (is : Instances). IsHeldIn c.args.holder.now c.args.body.now is) (sym same) c.requires.held
+    let same : (state_of m).instances ≡ (state_of w).instances = ap (λ (g : Firing). g.state.instances) c.in_ok-end_body.ensures.fired ∙ ended_linked b.path (firing w c.args.told.now) in
+    subst (λ (is : Instances). IsHeldIn c.args.holder.now b.path is) (sym same) c.requires.held
 
 pub returns-clause-serves : goal.returns-clause-serves
 returns-clause-serves c =
     let w = c.args.works.now in
+    let b : Body = body_of c.args.body.now in
     let m = c.end_body.new.works in
-    let b : Body = record { path = c.args.body.now } in
-    let same : (state_of m).instances ≡ (state_of w).instances = ap (λ (g : Firing). g.state.instances) c.in_ok-end_body.ensures.fired ∙ ended_linked c.args.body.now (firing w c.args.told.now) in
-    let held = subst (λ (is : Instances). IsHeldIn c.args.holder.now c.args.body.now is) (sym same) c.requires.held in
+    let same : (state_of m).instances ≡ (state_of w).instances = ap (λ (g : Firing). g.state.instances) c.in_ok-end_body.ensures.fired ∙ ended_linked b.path (firing w c.args.told.now) in
+    let held = subst (λ (is : Instances). IsHeldIn c.args.holder.now b.path is) (sym same) c.requires.held in
     let one : Serves c.args.holder.now (b ∷ []) (state_of m).instances (unlinked c.args.holder.now b.path (state_of m).instances) =
     unlinked_serves _ _ c.args.holder.now b (state_of m).instances c.in_ok-end_body.ensures.whole.standing.1.built.each held in
     ok_then c.unlink.result c.unlink.ensures.state
@@ -40,4 +41,4 @@ returns-clause-whole c =
     ok_and c.unlink.result c.unlink.ensures.state c.unlink.ensures.stands
     (λ state stands. whole_by m w c.in_ok-end_body.ensures.whole c.unlink.ensures.core stands
     (subst (λ (s : State). Stays m.core.scopes (length m.core.store) s) (sym state)
-    (unlinked_stays m.core.scopes (length m.core.store) c.args.holder.now c.args.body.now (state_of m) (stays_of m c.in_ok-end_body.ensures.whole))))
+    (unlinked_stays m.core.scopes (length m.core.store) c.args.holder.now c.args.body.now.path (state_of m) (stays_of m c.in_ok-end_body.ensures.whole))))

@@ -5,7 +5,7 @@ use Rattle.ng_act.specs.Running.{as_value_run}
 use Rattle.ng_core.specs.State as act
 use Rattle.ng_base.specs.ViewOf.{view_of}
 use Rattle.ng_fire.proofs.Fired.{listener_rises}
-use Rattle.ng_fire.proofs.Rows.{if_ok}
+use Rattle.ng_fire.proofs.Entries.{if_ok}
 use Rattle.ng_fire.proofs.Runs.{value_run_state}
 use Rattle.ng_fire.proofs.Wholes.{whole_run}
 use Rattle.ng_fire.specs.Changes.{has_additions}

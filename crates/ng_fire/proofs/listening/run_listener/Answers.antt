@@ -1,6 +1,6 @@
 use Rattle.std.proofs.Common.{length}
 use Rattle.std.specs.Prelude.{option_map}
-use Rattle.ng_fire.proofs.Rows.{kept_more}
+use Rattle.ng_fire.proofs.Entries.{kept_more}
 use Rattle.ng_value.specs.Snaps.{snap_of}
 use Rattle.ng_fire.proofs.listening.run_listener.Goals as goal
 

@@ -6,12 +6,13 @@ use Rattle.std.specs.Ordering.{is_lt}
 use Rattle.std.specs.Prelude.{option_map}
 use Rattle.std.proofs.lemmas.List.{drop_all}
 use Rattle.ng_base.specs.Order.{path_cmp}
-use Rattle.ng_drawing.specs.Instance.{SiteState, Instances, instance_with, instances_from, outlets_from}
-use Rattle.ng_drawing.specs.InstanceOf.{instance_of as seen_instance, instances_of as seen_instances}
-use Rattle.ng_drawing.specs.declared.instance.Instances as code_instances
+use Rattle.ng_drawing.specs.Instance.{Instance, SiteState, Group, instance_with, instances_from, outlets_from}
+use Rattle.ng_drawing.specs.InstanceOf.{instance_of as seen_instance, group_of as seen_group}
+use Rattle.ng_drawing.specs.Roles.{Role}
+use Rattle.ng_drawing.specs.RolesOf.{role_of}
 use Rattle.ng_template.specs.Kept.{fragments_in}
 use Rattle.ng_link.specs.Instances.{Body, OutletState, Linked, is_path, linked_at, read_bodies}
-use Rattle.ng_link.specs.State.{body_of, outlet_of, linked_of, templates_of, site_states, nothing_linked, instance_join, instance_at, body_at, state_of}
+use Rattle.ng_link.specs.State.{body_of, outlet_of, linked_of, templates_of, site_states, roles_in, groups_in, nothing_linked, instance_join, instance_at, body_at, state_of}
 use Rattle.ng_link.specs.declared.works.Body as code_body
 use Rattle.ng_link.specs.declared.works.Linked as code
 use Rattle.ng_link.specs.declared.works.OutletState as code_outlet
@@ -21,22 +22,31 @@ use Rattle.ng_link.proofs.Listed.{keys-seen}
 use Rattle.ng_link.proofs.Loops.{next_seen, pushed}
 use Rattle.ng_link.proofs.Places.{linked_seen}
 use Rattle.ng_link.proofs.ReadOff.{read_none}
-use Rattle.ng_link.proofs.Rolled.{instance_made, instances_made}
+use Rattle.ng_link.proofs.Rolled.{instance_made, group_made}
 use Rattle.ng_link.proofs.instance.+instance.Goals as goal
 
 -- an instance as the code's table has it
 found : (w : Works) (p : List ℕ) (i : code.Linked) → lookup (is_path p) w.instances.entries ≡ Some i → linked_at p (state_of w).instances ≡ Some (linked_of (templates_of w) p i)
 found w p i at = linked_seen (templates_of w) p w.instances.entries ∙ ap (option_map (linked_of (templates_of w) p)) at
 
+-- some bodies with what they stand for
+abbrev group_with : (List ℕ → Instance) → List Body → Group
+group_with go bs = (roles_in bs, instances_from (map (λ (b : Body). go b.path) bs))
+
 pub bodies_in-returns : goal.bodies_in-returns
 bodies_in-returns t c =
     let go = λ (b : Body). body_at (state_of c.args.works.now) c.args.holder.now b.path in
     let seen = seen_instance (fragments_in (templates_of c.args.works.now)) in
-    let items = c.loop-body.items.items in
-    let none = drop_all c.loop-body.body-index c.args.bodies.now c.loop-body-test.false in
-    let all : map seen items ≡ map go (map body_of c.args.bodies.now) =
-    sym (append-nil (map seen items)) ∙ (ap (λ (bs : List code_body.Body). map seen items ++ map go (map body_of bs)) (sym none) ∙ c.loop-body.invariant) in
-    instances_made (fragments_in (templates_of c.args.works.now)) (record { items = c.loop-body.items }) ∙ ap instances_from all
+    let bodies = c.args.bodies.now in
+    let rs = map role_of c.loop-body.roles.items in
+    let is = map seen c.loop-body.items.items in
+    let none = drop_all c.loop-body.body-index bodies c.loop-body-test.false in
+    let roles : rs ≡ roles_in (map body_of bodies) =
+    sym (append-nil rs) ∙ (ap (λ (bs : List code_body.Body). rs ++ roles_in (map body_of bs)) (sym none) ∙ c.loop-body.invariant.roles) in
+    let all : is ≡ map go (map body_of bodies) =
+    sym (append-nil is) ∙ (ap (λ (bs : List code_body.Body). is ++ map go (map body_of bs)) (sym none) ∙ c.loop-body.invariant.items) in
+    group_made (fragments_in (templates_of c.args.works.now)) (record { roles = c.loop-body.roles; items = c.loop-body.items })
+    ∙ (ap (λ (xs : List Role). (xs, instances_from is)) roles ∙ ap (λ (xs : List Instance). (roles_in (map body_of bodies), instances_from xs)) all)
 
 pub body_on-instance_on-requires : goal.body_on-instance_on-requires
 body_on-instance_on-requires t c =
@@ -72,25 +82,27 @@ instance_on-returns t c =
     let ordered : IsStrictlySortedBy path_cmp (map_keys s.instances) = subst (λ (ps : List (List ℕ)). IsStrictlySortedBy path_cmp ps) (sym (keys-seen (linked_of (templates_of w)) w.instances.entries)) c.len.ensures.ordered in
     let at : linked_at p s.instances ≡ Some l = found w p i (sym c.get.ensures.value ∙ ap option_copied c.in-Some.is) in
     let read : instance_at s.watchers s.resting s.instances p ≡ instance_join s.watchers s.resting l (read_bodies go l.page.outlets) = read_ahead nothing_linked (instance_join s.watchers s.resting) s.instances p l ordered at in
-    let many : map (seen_instances (fragments_in (templates_of w))) c.in_ok-outlets.outlets.items ≡ map instances_from (read_bodies go l.page.outlets) =
-    c.in_ok-outlets.ensures ∙ ap (λ (os : List code_outlet.OutletState). map instances_from (read_bodies go (map outlet_of os))) c.as_slice.ensures.value in
-    let outlets : List Instances = map (seen_instances (fragments_in (templates_of w))) c.in_ok-outlets.outlets.items in
+    let read_groups = λ (os : List OutletState). groups_in os (map instances_from (read_bodies go os)) in
+    let many : map (seen_group (fragments_in (templates_of w))) c.in_ok-outlets.outlets.items ≡ read_groups l.page.outlets =
+    c.in_ok-outlets.ensures ∙ ap (λ (os : List code_outlet.OutletState). read_groups (map outlet_of os)) c.as_slice.ensures.value in
+    let outlets : List Group = map (seen_group (fragments_in (templates_of w))) c.in_ok-outlets.outlets.items in
     instance_made (fragments_in (templates_of w)) (record { template = i.template; fragment = i.fragment; scope = i.scope; sites = c.in_ok-sites.sites; outlets = c.in_ok-outlets.outlets })
     ∙ (ap (λ (xs : List SiteState). instance_with l.fragment l.page.scope xs (outlets_from outlets)) c.in_ok-sites.ensures
-    ∙ (ap (λ (os : List Instances). instance_with l.fragment l.page.scope (site_states s.watchers s.resting l.page) (outlets_from os)) many ∙ sym read))
+    ∙ (ap (λ (os : List Group). instance_with l.fragment l.page.scope (site_states s.watchers s.resting l.page) (outlets_from os)) many ∙ sym read))
 
 pub outlets_in-loop-outlet-preserved : goal.outlets_in-loop-outlet-preserved
 outlets_in-loop-outlet-preserved t c =
     let w = c.args.works.now in
     let go = body_at (state_of w) c.args.holder.now in
-    let seen = seen_instances (fragments_in (templates_of w)) in
+    let seen = seen_group (fragments_in (templates_of w)) in
     let os = c.args.outlets.now in
     let i = c.loop-outlet.outlet-index in
     let x = c.outlet-item.result in
-    let read = λ (ys : List OutletState). map instances_from (read_bodies go ys) in
+    let read = λ (ys : List OutletState). groups_in ys (map instances_from (read_bodies go ys)) in
+    let group : List Body → Group = group_with go in
     let items = c.loop-outlet.all.items in
-    let one : seen c.in_ok-bodies_in.field-0 ≡ instances_from (map (λ (b : Body). go b.path) (outlet_of x).bodies) =
-    c.in_ok-bodies_in.ensures ∙ ap (λ (bs : List code_body.Body). instances_from (map (λ (b : Body). go b.path) (map body_of bs))) c.as_slice.ensures.value in
-    ap (λ (is : List code_instances.Instances). map seen is ++ read (map outlet_of (drop (i + 1) os))) c.in_ok-push.ensures.items
-    ∙ (pushed seen items c.in_ok-bodies_in.field-0 (instances_from (map (λ (b : Body). go b.path) (outlet_of x).bodies)) (read (map outlet_of (drop (i + 1) os))) one
+    let one : seen c.in_ok-bodies_in.field-0 ≡ group (outlet_of x).bodies =
+    c.in_ok-bodies_in.ensures ∙ ap (λ (bs : List code_body.Body). group (map body_of bs)) c.as_slice.ensures.value in
+    ap (λ is. map seen is ++ read (map outlet_of (drop (i + 1) os))) c.in_ok-push.ensures.items
+    ∙ (pushed seen items c.in_ok-bodies_in.field-0 (group (outlet_of x).bodies) (read (map outlet_of (drop (i + 1) os))) one
     ∙ (sym (ap (λ (ys : List OutletState). map seen items ++ read ys) (next_seen outlet_of os i x c.loop-outlet-test.true c.outlet-item.is)) ∙ c.loop-outlet.invariant))

@@ -1,7 +1,7 @@
 use Rattle.std.proofs.Common.{List, [], ap, ◌∙◌, map, arith}
 use Rattle.std.proofs.lemmas.List.{length-map}
 use Rattle.ng_drawing.specs.Instance.{instance_with, outlets_from}
-use Rattle.ng_drawing.specs.InstanceOf.{state_of as seen_state, instances_of as seen_instances}
+use Rattle.ng_drawing.specs.InstanceOf.{state_of as seen_state, group_of as seen_group}
 use Rattle.ng_drawing.specs.Template.{Fragment, no_fragment}
 use Rattle.ng_drawing.specs.declared.instance.SiteState as code_state
 use Rattle.ng_drawing.specs.declared.instance.Instances as code_instances
@@ -16,7 +16,7 @@ returns c =
     let w = c.args.works.now in
     let all = templates_of w in
     let few = w.templates.few in
-    let seen = seen_instances (fragments_in all) in
+    let seen = seen_group (fragments_in all) in
     let sites : List code_state.SiteState = c.new.result.items in
     let outlets : List code_instances.Instances = c.new-2.result.items in
     instance_made (fragments_in all) (record { template = record { 0 = 4294967295 }; fragment = 0; scope = record { 0 = 0 }; sites = c.new.result; outlets = c.new-2.result })

@@ -10,7 +10,7 @@ pub returns-clause-stood : goal.returns-clause-stood
 returns-clause-stood c =
     let keys = keys_in c.args.path.now c.args.serials.now in
     let n = next_name c.args.dom.now in
-    let F : Parts → Type 0 = λ ps. IsStood (parent_name c.args.spot.now.parent) c.args.spot.now.after (shape keys n unfilled ps) (nodes ps) c.args.dom.now c.stand_at.new.dom in
+    let F : Parts → Type 0 = λ ps. IsStood (parent_name c.args.spot.now.parent) c.args.spot.now.at (shape keys n unfilled ps) (nodes ps) c.args.dom.now c.stand_at.new.dom in
     subst F c.as_slice.ensures
     (record {
       apart = c.build_parts.new.dom;

@@ -1,4 +1,5 @@
 use Rattle.std.proofs.Common.{rules, ◌<◌, sym, length, arith}
+use Rattle.ng_link.specs.State.{body_of}
 use Rattle.ng_link.proofs.Written.{added_set, added_past}
 use Rattle.ng_link.proofs.outlets.add_body.Goals as goal
 
@@ -6,10 +7,10 @@ pub returns-in_ok-push_body : goal.returns-in_ok-push_body
 returns-in_ok-push_body c =
     let os = c.args.outlets.now.items in
     let lt : c.args.outlet < length os = search (rules) in
-    added_set (record { path = c.args.path }) c.args.outlet os c.index_mut.result.now c.push_body.new.state lt c.index_mut.ensures.value c.in_ok-push_body.ensures
+    added_set (body_of c.args.body) c.args.outlet c.args.at os c.index_mut.result.now c.push_body.new.state lt c.index_mut.ensures.value c.in_ok-push_body.ensures
 
 pub returns-else-outlet-len : goal.returns-else-outlet-len
 returns-else-outlet-len c =
     let past = c.if-outlet-len.false in
     let len = c.len.ensures in
-    sym (added_past (record { path = c.args.path }) c.args.outlet c.args.outlets.now.items (λ lt. omega (arith, lt, past, len)))
+    sym (added_past (body_of c.args.body) c.args.outlet c.args.at c.args.outlets.now.items (λ lt. omega (arith, lt, past, len)))

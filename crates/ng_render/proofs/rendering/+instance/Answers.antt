@@ -4,7 +4,8 @@ use Rattle.std.specs.Prelude.{unwrap_or, slice_get}
 use Rattle.ng_drawing.specs.Cases.{cases_of}
 use Rattle.ng_drawing.specs.Drawing.{followed_by, shown_as}
 use Rattle.ng_drawing.specs.Instance.{instances_from, outlets_from, instance_now, outlet_at, rendering, rendering_all, rendering_in}
-use Rattle.ng_drawing.specs.InstanceOf.{state_of, instance_of, instances_of}
+use Rattle.ng_drawing.specs.RolesOf.{role_of}
+use Rattle.ng_drawing.specs.InstanceOf.{state_of, instance_of, group_of as bodies_of, instances_of}
 use Rattle.ng_drawing.specs.Template.{no_fragment}
 use Rattle.ng_html.specs.Seen.{forest_of}
 use Rattle.ng_template.specs.FragmentOf.{fragment_of, outlets_of}
@@ -13,7 +14,7 @@ use Rattle.ng_template.specs.Seen.{parts_of}
 use Rattle.ng_template.specs.SiteOf.{site_of}
 use Rattle.ng_render.specs.OverOf.{group_of, now_over, NamesStand, InstancesStand, OutletsStand}
 use Rattle.ng_render.proofs.Walks.{behind, bodies_list, bodies_walk, walk_turn, walk_unfit, walk_faulted, walk_last, body_stands, bodies_stand, gives_err}
-use Rattle.ng_render.proofs.Bodies.{size_all, size_in, no_fragments, size_out, size_within, sizes_within, instances_out, instance_is, sites_stand, filled_by, filled_turn}
+use Rattle.ng_render.proofs.Bodies.{size_all, size_in, no_fragments, size_out, size_within, sizes_within, instances_out, roles_out, instance_is, sites_stand, filled_by, filled_turn}
 use Rattle.ng_render.proofs.rendering.+instance.Goals as goal
 
 pub rendered_all-rendered_instance-requires : goal.rendered_all-rendered_instance-requires
@@ -69,14 +70,14 @@ rendered_all-returns t c =
 pub rendered_instance-rendered_outlets-requires : goal.rendered_instance-rendered_outlets-requires
 rendered_instance-rendered_outlets-requires t c =
     let count = size_out c.args.i.now in
-    let outlets = ap (λ xs. size_in (outlets_from (map (instances_of no_fragments) xs))) c.as_slice-2.ensures.value in
+    let outlets = ap (λ xs. size_in (outlets_from (map (bodies_of no_fragments) xs))) c.as_slice-2.ensures.value in
     let ground = c.args.ground.now in
     let all = fragments_in (templates_of ground.all.now) in
     let h = sites_stand ground.store.now ground.scopes.now all c.args.i.now c.requires in (
       omega (arith, count, outlets, c.decreases),
       (
         record { names = subst (NamesStand ground.store.now ground.scopes.now) (ap (map state_of) (sym c.as_slice.ensures.value)) h.0; known = tt },
-        subst (λ xs. OutletsStand ground.store.now ground.scopes.now (outlets_from (map (instances_of all) xs))) (sym c.as_slice-2.ensures.value) h.1,
+        subst (λ xs. OutletsStand ground.store.now ground.scopes.now (outlets_from (map (bodies_of all) xs))) (sym c.as_slice-2.ensures.value) h.1,
       ),
     )
 
@@ -89,7 +90,7 @@ rendered_instance-returns t c =
     let os = outlets_of c.outlets.result.now in
     let groups = ap (map group_of) c.as_slice-3.ensures.value
     ∙ (c.in_ok-groups.ensures.groups
-    ∙ ap (λ xs. rendering_in ground.store.now ground.scopes.now (instance_now ground.store.now ground.scopes.now sites states) states (cases_of os) os (outlets_from (map (instances_of all) xs))) c.as_slice-2.ensures.value) in
+    ∙ ap (λ xs. rendering_in ground.store.now ground.scopes.now (instance_now ground.store.now ground.scopes.now sites states) states (cases_of os) os (outlets_from (map (bodies_of all) xs))) c.as_slice-2.ensures.value) in
     let is = instance_is ground.store.now ground.scopes.now all c.args.i.now (fragment_of c.in-Some.fragment.now) sites states os (map group_of c.as_slice-3.result.now) (parts_of c.parts.result.now)
     (ap (λ o. unwrap_or o no_fragment) (sym c.in-Some.ensures)) c.sites.ensures (ap (map state_of) c.as_slice.ensures.value) c.outlets.ensures groups c.parts.ensures in
     rw is c.rendered.ensures
@@ -97,8 +98,8 @@ rendered_instance-returns t c =
 pub rendered_outlets-rendered_all-requires : goal.rendered_outlets-rendered_all-requires
 rendered_outlets-rendered_all-requires t c =
     let ground = c.args.ground.now in
-    let less = sizes_within (instances_of no_fragments) c.args.bodies.now c.loop-k.k c.index-bodies-k.result c.loop-k-test.true c.index-bodies-k.is in
-    (omega (arith, less, c.decreases), bodies_stand ground.store.now ground.scopes.now (instances_of (fragments_in (templates_of ground.all.now))) c.args.bodies.now c.loop-k.k c.index-bodies-k.result c.loop-k-test.true c.index-bodies-k.is c.requires.stands)
+    let less = sizes_within (bodies_of no_fragments) c.args.bodies.now c.loop-k.k c.index-bodies-k.result c.loop-k-test.true c.index-bodies-k.is in
+    (omega (arith, less, c.decreases), bodies_stand ground.store.now ground.scopes.now (bodies_of (fragments_in (templates_of ground.all.now))) c.args.bodies.now c.loop-k.k c.index-bodies-k.result c.loop-k-test.true c.index-bodies-k.is c.requires.stands)
 
 pub rendered_outlets-loop-k-preserved : goal.rendered_outlets-loop-k-preserved
 rendered_outlets-loop-k-preserved t c =
@@ -108,9 +109,12 @@ rendered_outlets-loop-k-preserved t c =
     let states = map state_of c.args.over.now.states.now in
     let os = outlets_of c.args.outlets.now in
     let x = c.index-bodies-k.result in
-    let rest = filled_by ground.store.now ground.scopes.now now states (cases_of os) (drop (c.loop-k.k + 1) os) (map (instances_of all) (drop (c.loop-k.k + 1) c.args.bodies.now)) in
-    let shows = c.in_ok-filled_at.ensures all
-    ∙ ap (outlet_at now states (cases_of os) (slice_get os c.loop-k.k) (instances_of all x)) (c.in_ok-group.ensures (rendering_all ground.store.now ground.scopes.now (instances_of all x)) c.rendered_all.ensures) in
+    let rest = filled_by ground.store.now ground.scopes.now now states (cases_of os) (drop (c.loop-k.k + 1) os) (map (bodies_of all) (drop (c.loop-k.k + 1) c.args.bodies.now)) in
+    let place = outlet_at now states (cases_of os) (slice_get os c.loop-k.k) in
+    let roles = ap (map role_of) c.as_slice.ensures.value ∙ sym (roles_out all x) in
+    let shows = c.in_ok-filled_at.ensures
+    ∙ (ap (λ rs. place rs (group_of c.in_ok-group.group)) roles
+    ∙ ap (place (bodies_of all x).0) (c.in_ok-group.ensures (rendering_all ground.store.now ground.scopes.now (instances_of all x)) c.rendered_all.ensures)) in
     ap (λ gs. gs ++ rest) (ap (map group_of) c.in_ok-push.ensures.items ∙ map-append group_of c.loop-k.groups.items (c.in_ok-filled_at.field-0 ∷ []))
-    ∙ (filled_turn ground.store.now ground.scopes.now now states (cases_of os) (instances_of all) os c.args.bodies.now c.loop-k.k x (map group_of c.loop-k.groups.items) (group_of c.in_ok-filled_at.field-0) c.loop-k-test.true c.index-bodies-k.is shows
+    ∙ (filled_turn ground.store.now ground.scopes.now now states (cases_of os) (bodies_of all) os c.args.bodies.now c.loop-k.k x (map group_of c.loop-k.groups.items) (group_of c.in_ok-filled_at.field-0) c.loop-k-test.true c.index-bodies-k.is shows
     ∙ c.loop-k.invariant)

@@ -2,7 +2,7 @@ use Rattle.std.proofs.Common.{◌≡◌, ◌+◌, ◌*◌, ◌++◌, map, drop}
 use Rattle.ng_drawing.specs.Cases.{cases_of}
 use Rattle.ng_drawing.specs.Drawing.{followed_by}
 use Rattle.ng_drawing.specs.Instance.{rendering_in, outlets_from}
-use Rattle.ng_drawing.specs.InstanceOf.{state_of, instance_of, instances_of}
+use Rattle.ng_drawing.specs.InstanceOf.{state_of, instance_of, group_of as bodies_of, instances_of}
 use Rattle.ng_html.specs.Seen.{forest_of}
 use Rattle.ng_template.specs.FragmentOf.{outlets_of}
 use Rattle.ng_template.specs.Kept.{templates_of, fragments_in}
@@ -18,7 +18,7 @@ abbrev pub decreases-rendered_all : goal.decreases-rendered_all
 decreases-rendered_all l = 3 * size_all (instances_of no_fragments l.bodies.now) + 1
 
 abbrev pub decreases-rendered_outlets : goal.decreases-rendered_outlets
-decreases-rendered_outlets l = 3 * size_in (outlets_from (map (instances_of no_fragments) l.bodies.now)) + 2
+decreases-rendered_outlets l = 3 * size_in (outlets_from (map (bodies_of no_fragments) l.bodies.now)) + 2
 
 abbrev pub invariant-rendered_all-loop-body : goal.invariant-rendered_all-loop-body
 invariant-rendered_all-loop-body l =
@@ -29,5 +29,5 @@ abbrev pub invariant-rendered_outlets-loop-k : goal.invariant-rendered_outlets-l
 invariant-rendered_outlets-loop-k l =
     map group_of l.groups.items
     ++ rendering_in l.ground.store.now l.ground.scopes.now (now_over l.over) (map state_of l.over.states.now) (cases_of (outlets_of l.outlets)) (drop l.k (outlets_of l.outlets))
-    (outlets_from (map (instances_of (fragments_in (templates_of l.ground.all.now))) (drop l.k l.bodies)))
-    ≡ rendering_in l.ground.store.now l.ground.scopes.now (now_over l.over) (map state_of l.over.states.now) (cases_of (outlets_of l.outlets)) (outlets_of l.outlets) (outlets_from (map (instances_of (fragments_in (templates_of l.ground.all.now))) l.bodies))
+    (outlets_from (map (bodies_of (fragments_in (templates_of l.ground.all.now))) (drop l.k l.bodies)))
+    ≡ rendering_in l.ground.store.now l.ground.scopes.now (now_over l.over) (map state_of l.over.states.now) (cases_of (outlets_of l.outlets)) (outlets_of l.outlets) (outlets_from (map (bodies_of (fragments_in (templates_of l.ground.all.now))) l.bodies))

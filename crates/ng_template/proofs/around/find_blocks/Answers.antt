@@ -3,7 +3,7 @@ use Rattle.ng_html.specs.Seen.{node_of}
 use Rattle.ng_template.specs.Around.{at_place, block_priority, found_after, around_node}
 use Rattle.ng_template.specs.AroundOf.{found_of, around_of}
 use Rattle.ng_template.specs.Manners.{are_built, any_makes_plain}
-use Rattle.ng_template.proofs.Blocks.{gives_err, picks-refused, later-stage, heads-stage, block-stage}
+use Rattle.ng_template.proofs.Blocks.{gives_err, picks-refused, later-stage, heads-stage, last-found, block-stage}
 use Rattle.ng_template.proofs.around.find_blocks.Goals as goal
 
 pub returns-in_err-picked : goal.returns-in_err-picked
@@ -32,6 +32,16 @@ returns-in_err-find_more c =
     (λ m. sym c.loop-room.invariant ∙ heads-stage c.args.place c.args.r.now (node_of c.args.e.now) before c.loop-room.has_switch c.loop-room.room (c.loop-room.room - 1) c.loop-room.limit (omega arith) ps c.in_ok-picked.ensures plain built
     c.block_priority-below.result block (ap not c.if-is_none.ensures) c.in_err-find_more.field-0.0
     (ap (λ qs. at_place c.args.place (found_after before c.loop-room.has_switch qs)) (sym c.as_slice-in-loop-room-3.ensures.value) ∙ c.in_err-find_more.ensures m))
+
+pub returns-then-is_none : goal.returns-then-is_none
+returns-then-is_none c =
+    let ps = c.in_ok-picked.picked.items in
+    let plain : any_makes_plain ps ≡ false = ap any_makes_plain (sym c.as_slice.ensures.value) ∙ sym c.if-any_makes_plain.ensures in
+    let built : are_built ps ≡ true = ap are_built (sym c.as_slice-in-loop-room.ensures.value) ∙ sym c.if-not-are_built.ensures in
+    let block = c.block_priority-below.ensures ∙ ap block_priority c.as_slice-in-loop-room-2.ensures.value in
+    sym c.loop-room.invariant
+    ∙ last-found c.args.place c.args.r.now (node_of c.args.e.now) (found_of c.loop-room.found) c.loop-room.has_switch c.loop-room.room (c.loop-room.room - 1) c.loop-room.limit (omega arith) ps c.in_ok-picked.ensures plain built
+    c.block_priority-below.result block (ap not c.if-is_none.ensures)
 
 pub loop-room-preserved : goal.loop-room-preserved
 loop-room-preserved c =

@@ -1,20 +1,21 @@
-use Rattle.std.proofs.Common.{◌∙◌, Ok, ap, sym, map}
-use Rattle.ng_interp.specs.Parts.{piece_of}
-use Rattle.ng_template.specs.Around.{at_place, case_at, heads_by, heads_onto}
+use Rattle.std.proofs.Common.{true, false, subst, sym}
+use Rattle.ng_base.specs.Meets.{Gives}
+use Rattle.ng_template.specs.Around.{case_at}
 use Rattle.ng_template.specs.AroundOf.{blocks_of}
-use Rattle.ng_template.specs.Directives.{text_on}
-use Rattle.ng_template.proofs.Blocks.{head-made, head-wrong, makes_none, gives_err}
+use Rattle.ng_template.specs.Free.{is_tpl_want}
+use Rattle.ng_template.proofs.Blocks.{head-is, makes_none}
 use Rattle.ng_template.proofs.around.push_head.Goals as goal
 
-pub returns-in_err-parts : goal.returns-in_err-parts
-returns-in_err-parts c =
+pub returns-then-is_repeat : goal.returns-then-is_repeat
+returns-then-is_repeat c =
     let p = c.args.pick.now in
-    let before = blocks_of c.args.heads.now.items in
-    gives_err _ (at_place c.args.place (heads_onto before (heads_by (case_at p) (text_on p.attribute)))) c.from_residual.result c.in_err-parts.field-0.0 c.from_residual.ensures.1
-    (λ m. head-wrong c.args.place before p (makes_none (case_at p) c.if-is_case.ensures) c.in_err-parts.field-0.0 (c.in_err-parts.ensures.parts m))
+    subst (λ asked. Gives is_tpl_want (λ _. blocks_of c.push_repeat.new.heads.items) asked c.push_repeat.result)
+    (sym (head-is c.args.place (blocks_of c.args.heads.now.items) p (makes_none (case_at p) c.if-is_case.ensures) true (sym c.if-is_repeat.ensures)))
+    c.push_repeat.ensures
 
 pub returns : goal.returns
 returns c =
     let p = c.args.pick.now in
-    head-made c.args.place (blocks_of c.args.heads.now.items) p (makes_none (case_at p) c.if-is_case.ensures) (map piece_of c.in_ok-parts.parts.items) c.in_ok-parts.ensures.parts
-    ∙ ap Ok (sym c.in_ok-push_sites.ensures)
+    subst (λ asked. Gives is_tpl_want (λ _. blocks_of c.push_if.new.heads.items) asked c.push_if.result)
+    (sym (head-is c.args.place (blocks_of c.args.heads.now.items) p (makes_none (case_at p) c.if-is_case.ensures) false (sym c.if-is_repeat.ensures)))
+    c.push_if.ensures

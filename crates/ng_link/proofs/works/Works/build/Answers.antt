@@ -80,9 +80,9 @@ returns-clause-built c = λ g asked.
     let rows : watchers_of c.watch_all.new.watchers ≡ with_sites path (object_at (state_of old).core.scopes c.args.scope.0) serials f.sites table =
     c.in_ok-watch_all.ensures.rows
     ∙ (ap (λ (xs : List Site). with_sites path object serials xs table) c.sites.ensures ∙ ap (λ (o : ℕ). with_sites path o serials f.sites table) c.object-object.ensures) in
-    let S : Parts → Type 0 = λ ps. IsStood (parent_name c.args.spot.now.parent) c.args.spot.now.after (shape (keys_in path serials) m unfilled ps) (nodes ps) old.dom c.link_nodes.new.dom in
+    let S : Parts → Type 0 = λ ps. IsStood (parent_name c.args.spot.now.parent) c.args.spot.now.at (shape (keys_in path serials) m unfilled ps) (nodes ps) old.dom c.link_nodes.new.dom in
     let same : f ≡ g = let two : Some f ≡ Some g = sym known ∙ asked in cc in
-    let G : Fragment → Type 0 = λ h. IsPrepared (c.args.t.0, c.args.n) c.args.scope.0 path serials h (parent_name c.args.spot.now.parent, c.args.spot.now.after) old (record old { watchers = c.watch_all.new.watchers; dom = c.link_nodes.new.dom }) one in
+    let G : Fragment → Type 0 = λ h. IsPrepared (c.args.t.0, c.args.n) c.args.scope.0 path serials h (parent_name c.args.spot.now.parent, c.args.spot.now.at) old (record old { watchers = c.watch_all.new.watchers; dom = c.link_nodes.new.dom }) one in
     subst G same
     (record {
       numbered = numbered;

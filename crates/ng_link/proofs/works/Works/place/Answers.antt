@@ -28,8 +28,8 @@ use Rattle.ng_link.proofs.works.Works.place.Goals as goal
 pub build-requires-clause-there : goal.build-requires-clause-there
 build-requires-clause-there c =
     let w : Works = c.args.self.now in
-    spot_lives w c.requires.stands.0 c.requires.stands.1 (place_of c.args.place.now) (path_at (state_of w).core.scopes c.args.scope.0) c.requires.free c.in_ok-spot.spot.parent
-    (ap (λ (x : Option ℕ × ℕ). x.0) (c.in_ok-spot.ensures (templates_of w)))
+    spot_lives w c.requires.stands.0 c.requires.stands.1 (place_of c.args.place.now) (path_at (state_of w).core.scopes c.args.scope.0) c.requires.free c.spot_for-spot.result.parent
+    (ap (λ (x : Option ℕ × ℕ). x.0) (c.spot_for-spot.ensures (templates_of w)))
 
 pub build-requires-clause-room : goal.build-requires-clause-room
 build-requires-clause-room c = λ f known.
@@ -97,7 +97,7 @@ returns-clause-stands c =
     c.in_ok-note.ensures.spots k ∙ (ap (λ (x : Works). spot_in (insert_entry path_cmp x.instances.entries path one) k) rest ∙ spots_noted w.instances.entries path one k) in
     let count : length serials ≡ length f.sites = c.requires.count f known ∙ (parts_count m f.parts ∙ many_holes f m p.numbered) in
     let stood =
-    subst (λ (x : Option ℕ × ℕ). IsStood x.0 x.1 (new_stands (linked_on which scope path f serials m)) (nodes f.parts) w.dom built.dom) (c.in_ok-spot.ensures all) p.stood in
+    subst (λ (x : Option ℕ × ℕ). IsStood x.0 x.1 (new_stands (linked_on which scope path f serials m)) (nodes f.parts) w.dom built.dom) (c.spot_for-spot.ensures all) p.stood in
     subst IsStanding (sym left)
     (placed_stands w built.watchers built.dom is os one which scope (object_at (state_of w).core.scopes scope) m path f serials spotted (free_path place path (state_of w) is_free) p.numbered p.outlined
     (c.requires.objects.below scope c.requires.scope) c.requires.rising c.requires.below count (p.spots ∙ spots_are serials _ c.requires.rising) p.undrawn p.rows place is_free

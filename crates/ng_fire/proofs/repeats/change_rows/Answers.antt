@@ -1,0 +1,144 @@
+use Rattle.std.proofs.Common.{◌≡◌, ◌∙◌, ℕ, List, ap, length, map, subst, sym, arith}
+use Rattle.std.proofs.lemmas.List.{length-map}
+use Rattle.ng_core.specs.declared.core_state.Core.{Core}
+use Rattle.ng_drawing.specs.Template.{Repeated}
+use Rattle.ng_fire.proofs.Answered.{ok_then}
+use Rattle.ng_fire.proofs.KeptRows.{rows_wider}
+use Rattle.ng_fire.proofs.RowsStay.{inside_other, row_inside}
+use Rattle.ng_fire.proofs.RowsTaken.{arranged_keeps, arranged_whole, keeps_same, keeps_then, rows_among, rows_rearranged, spot_stays}
+use Rattle.ng_fire.specs.Blocks.{Firing}
+use Rattle.ng_fire.specs.FiringOf.{firing}
+use Rattle.ng_fire.specs.Repeats.{Row, all_ended, bodies_at, filled_to, kept_rows, rows_arranged, rows_at, rows_fired, rows_gone, rows_taken, with_state}
+use Rattle.ng_fire.specs.RepeatsOf.{AreRowsAt, HaveGone, RowsOfStand, rows_of}
+use Rattle.ng_fire.specs.Serving.{Keeps, RestStays}
+use Rattle.ng_link.proofs.Lookups.{changed_other}
+use Rattle.ng_link.specs.Calls.{arranged_at}
+use Rattle.ng_link.specs.Events.{scope_in}
+use Rattle.ng_link.specs.Instances.{Body, Instances, bodies_arranged, linked_at}
+use Rattle.ng_link.specs.Standing.{body_count}
+use Rattle.ng_link.specs.State.{State, body_of, state_of, templates_of}
+use Rattle.ng_template.specs.RepeatedOf.{repeated_of}
+use Rattle.ng_fire.proofs.repeats.change_rows.Goals as goal
+
+pub take_rows-requires-clause-rows : goal.take_rows-requires-clause-rows
+take_rows-requires-clause-rows c =
+    let spot = c.args.spot.now in
+    let bs : List Body = map body_of c.args.bodies.now in
+    let m = c.end_rows.new.works in
+    subst (λ (is : List ℕ). AreRowsAt spot.holder.now spot.outlet (bodies_at bs is) (state_of m).instances) (sym c.as_slice-2.ensures)
+    (rows_among spot.holder.now spot.outlet bs c.args.gone.now (rows_of c.args.rows.now) (state_of m).instances
+    (ap (rows_at spot.holder.now spot.outlet) c.in_ok-end_rows.ensures.instances ∙ c.requires.stand) c.requires.all)
+
+pub arrange-requires-clause-same : goal.arrange-requires-clause-same
+arrange-requires-clause-same c =
+    let spot = c.args.spot.now in
+    let bs : List Body = map body_of c.args.bodies.now in
+    let m = c.end_rows.new.works in
+    let t = c.take_rows.new.works in
+    let left = subst (λ (is : List ℕ). HaveGone spot.holder.now spot.outlet (bodies_at bs is) (state_of m).instances (state_of t).instances) c.as_slice-2.ensures c.in_ok-take_rows.ensures.gone in
+    rows_rearranged spot.holder.now spot.outlet bs c.args.gone.now (rows_of c.args.rows.now) (state_of m).instances (state_of t).instances _
+    (ap (rows_at spot.holder.now spot.outlet) c.in_ok-end_rows.ensures.instances ∙ c.requires.stand) c.requires.all left c.in_ok-kept_rows.ensures
+
+pub fire_rows-requires-clause-whole : goal.fire_rows-requires-clause-whole
+fire_rows-requires-clause-whole c =
+    arranged_whole c.take_rows.new.works c.arrange.new.self c.args.spot.now.holder.now c.args.spot.now.outlet _ c.in_ok-take_rows.ensures.whole c.arrange.ensures.core c.in_ok-arrange.ensures.stands c.in_ok-arrange.ensures.state
+
+pub fire_rows-requires-clause-spot : goal.fire_rows-requires-clause-spot
+fire_rows-requires-clause-spot c =
+    let first = c.args.works.now in
+    let m = c.end_rows.new.works in
+    let t = c.take_rows.new.works in
+    let v = c.arrange.new.self in
+    let spot = c.args.spot.now in
+    let kept = map body_of c.in_ok-kept_rows.field-0.items in
+    let ended = keeps_same spot.holder.now (state_of first).instances (state_of m).instances c.in_ok-end_rows.ensures.instances in
+    let taken = keeps_then spot.holder.now (state_of first).instances (state_of m).instances (state_of t).instances ended c.in_ok-take_rows.ensures.keeps in
+    let arranged : Keeps spot.holder.now (state_of t).instances (state_of v).instances =
+    subst (λ (is : Instances). Keeps spot.holder.now (state_of t).instances is) (sym (ap (λ (s : State). s.instances) c.in_ok-arrange.ensures.state)) (arranged_keeps spot.holder.now spot.outlet kept (state_of t).instances) in
+    spot_stays (templates_of first) (templates_of v) (state_of first).instances (state_of v).instances spot
+    (c.arrange.ensures.templates ∙ (c.take_rows.ensures.templates ∙ c.end_rows.ensures.templates))
+    (keeps_then spot.holder.now (state_of first).instances (state_of t).instances (state_of v).instances taken arranged) c.requires.spot
+
+pub fire_rows-requires-clause-rows : goal.fire_rows-requires-clause-rows
+fire_rows-requires-clause-rows c =
+    let first = c.args.works.now in
+    let m = c.end_rows.new.works in
+    let v = c.arrange.new.self in
+    let core = c.arrange.ensures.core ∙ c.take_rows.ensures.core in
+    subst (λ (x : Core). RowsOfStand (length x.store) (rows_of c.args.rows.now)) (sym core)
+    (rows_wider (length first.core.store) (length m.core.store) c.in_ok-end_rows.ensures.grown (rows_of c.args.rows.now) c.requires.rows)
+
+pub returns-clause-fired : goal.returns-clause-fired
+returns-clause-fired c =
+    let first = c.args.works.now in
+    let m = c.end_rows.new.works in
+    let after = c.end_rows.new.told in
+    let t = c.take_rows.new.works in
+    let v = c.arrange.new.self in
+    let spot = c.args.spot.now in
+    let holder : List ℕ = spot.holder.now in
+    let o : ℕ = spot.outlet in
+    let which : ℕ × ℕ = (spot.template.0, spot.body) in
+    let bs : List Body = map body_of c.args.bodies.now in
+    let rows : List Row = rows_of c.args.rows.now in
+    let kept = map body_of c.in_ok-kept_rows.field-0.items in
+    let gone : List Body = bodies_at bs c.args.gone.now in
+    let g : Firing = firing first c.args.told.now in
+    let w : Repeated = repeated_of c.args.repeated.now in
+    let scope : ℕ = scope_in (linked_at holder (state_of first).instances) in
+    let ended : firing m after ≡ all_ended gone g = c.in_ok-end_rows.ensures.fired ∙ ap (λ (is : List ℕ). all_ended (bodies_at bs is) g) c.as_slice.ensures in
+    let taken : state_of t ≡ rows_taken holder gone (state_of m) = c.in_ok-take_rows.ensures.state ∙ ap (λ (is : List ℕ). rows_taken holder (bodies_at bs is) (state_of m)) c.as_slice-2.ensures in
+    let state : state_of v ≡ arranged_at holder o (kept_rows rows) (rows_taken holder gone (state_of m)) =
+    c.in_ok-arrange.ensures.state ∙ (ap (λ (xs : List Body). arranged_at holder o xs (state_of t)) c.in_ok-kept_rows.ensures ∙ ap (arranged_at holder o (kept_rows rows)) taken) in
+    let ready : firing v after ≡ rows_arranged holder o (kept_rows rows) (rows_gone holder gone g) =
+    ap (λ (s : State). with_state s (firing m after)) state ∙ ap (λ (h : Firing). rows_arranged holder o (kept_rows rows) (with_state (rows_taken holder gone h.state) h)) ended in
+    let same = keeps_then holder (state_of first).instances (state_of m).instances (state_of t).instances (keeps_same holder (state_of first).instances (state_of m).instances c.in_ok-end_rows.ensures.instances) c.in_ok-take_rows.ensures.keeps in
+    let arranged : Keeps holder (state_of t).instances (state_of v).instances =
+    subst (λ (is : Instances). Keeps holder (state_of t).instances is) (sym (ap (λ (s : State). s.instances) c.in_ok-arrange.ensures.state)) (arranged_keeps holder o kept (state_of t).instances) in
+    let stays = keeps_then holder (state_of first).instances (state_of t).instances (state_of v).instances same arranged in
+    let many = c.in_ok-ground.ensures.count ∙ sym (length-map c.args.rows.now _) in
+    ok_then c.fire_rows.result c.fire_rows.ensures.fired
+    (λ fired. fired
+    ∙ (ap (λ (n : ℕ). (rows_fired holder n o which (repeated_of c.in_ok-ground.ground.repeated.now) c.in_ok-ground.ground.count 0 rows (filled_to 0 (firing v after))).firing) stays.scope
+    ∙ (ap (λ (x : Repeated). (rows_fired holder scope o which x c.in_ok-ground.ground.count 0 rows (filled_to 0 (firing v after))).firing) (ap repeated_of c.in_ok-ground.ensures.repeated)
+    ∙ (ap (λ (n : ℕ). (rows_fired holder scope o which w n 0 rows (filled_to 0 (firing v after))).firing) many
+    ∙ ap (λ (h : Firing). (rows_fired holder scope o which w (length rows) 0 rows (filled_to 0 h)).firing) ready))))
+
+pub returns-clause-keeps : goal.returns-clause-keeps
+returns-clause-keeps c =
+    let first = c.args.works.now in
+    let m = c.end_rows.new.works in
+    let t = c.take_rows.new.works in
+    let v = c.arrange.new.self in
+    let spot = c.args.spot.now in
+    let kept = map body_of c.in_ok-kept_rows.field-0.items in
+    let ended = keeps_same spot.holder.now (state_of first).instances (state_of m).instances c.in_ok-end_rows.ensures.instances in
+    let taken = keeps_then spot.holder.now (state_of first).instances (state_of m).instances (state_of t).instances ended c.in_ok-take_rows.ensures.keeps in
+    let arranged : Keeps spot.holder.now (state_of t).instances (state_of v).instances =
+    subst (λ (is : Instances). Keeps spot.holder.now (state_of t).instances is) (sym (ap (λ (s : State). s.instances) c.in_ok-arrange.ensures.state)) (arranged_keeps spot.holder.now spot.outlet kept (state_of t).instances) in
+    ok_then c.fire_rows.result c.fire_rows.ensures.keeps
+    (λ more. keeps_then spot.holder.now (state_of first).instances (state_of v).instances (state_of c.fire_rows.new.works).instances
+    (keeps_then spot.holder.now (state_of first).instances (state_of t).instances (state_of v).instances taken arranged) more)
+
+pub returns-clause-kept : goal.returns-clause-kept
+returns-clause-kept c =
+    let first = c.args.works.now in
+    let m = c.end_rows.new.works in
+    let t = c.take_rows.new.works in
+    let spot = c.args.spot.now in
+    let holder : List ℕ = spot.holder.now in
+    let o : ℕ = spot.outlet in
+    let bs : List Body = map body_of c.args.bodies.now in
+    let kept = map body_of c.in_ok-kept_rows.field-0.items in
+    let rest = subst (λ (is : List ℕ). RestStays holder (bodies_at bs is) (state_of m).instances (state_of t).instances) c.as_slice-2.ensures c.in_ok-take_rows.ensures.rest in
+    ok_then c.fire_rows.result c.fire_rows.ensures.others
+    (λ others q l some at.
+    (let both = c.requires.all q in
+    let here = ap (body_count q) c.requires.stand in
+    let inside = row_inside _ _ holder o (state_of first).instances c.requires.whole.standing.1.built.each q (omega (arith, some, both, here)) in
+    let none : body_count q (bodies_at bs c.args.gone.now) ≡ 0 = (let most = inside.2 in omega (arith, some, both, here, most)) in
+    let off = inside_other holder q inside.0 inside.1 in
+    others q l off
+    (ap (λ (s : State). linked_at q s.instances) c.in_ok-arrange.ensures.state
+    ∙ (changed_other holder (bodies_arranged o kept) (state_of t).instances q off
+    ∙ (rest q inside.0 inside.1 none ∙ (ap (linked_at q) c.in_ok-end_rows.ensures.instances ∙ at))))))

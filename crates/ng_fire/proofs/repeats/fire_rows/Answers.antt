@@ -1,0 +1,73 @@
+use Rattle.std.proofs.Common.{◌≡◌, ◌∙◌, ◌+◌, ℕ, suc, List, ◌∷◌, ap, drop, length, refl, sym, subst, arith}
+use Rattle.ng_fire.proofs.Answered.{dropped}
+use Rattle.ng_fire.proofs.KeptRows.{rows_wider}
+use Rattle.ng_fire.proofs.RowsStay.{others_same, others_then}
+use Rattle.ng_fire.proofs.RowsTaken.{keeps_same, keeps_then, spot_stays}
+use Rattle.ng_fire.specs.FiringOf.{firing}
+use Rattle.ng_fire.specs.Repeats.{Filled, Row, filled_to, row_fired, row_names, rows_fired}
+use Rattle.ng_fire.specs.RepeatsOf.{RowsOfStand, row_of, rows_of}
+use Rattle.ng_link.specs.Events.{scope_in}
+use Rattle.ng_link.specs.Instances.{linked_at}
+use Rattle.ng_link.specs.State.{state_of, templates_of}
+use Rattle.ng_template.specs.RepeatedOf.{repeated_of}
+use Rattle.ng_fire.proofs.repeats.fire_rows.Goals as goal
+
+pub fire_row-requires-clause-spot : goal.fire_row-requires-clause-spot
+fire_row-requires-clause-spot c =
+    let l = c.loop-i in
+    let first = c.args.works.now in
+    spot_stays (templates_of first) (templates_of l.works) (state_of first).instances (state_of l.works).instances c.args.spot.now l.invariant.templates l.invariant.keeps c.requires.spot
+
+pub fire_row-requires-clause-row : goal.fire_row-requires-clause-row
+fire_row-requires-clause-row c =
+    let l = c.loop-i in
+    let rows = c.args.rows.now in
+    let r : Row = row_of c.index-rows-i.result in
+    let e : rows_of (drop l.i rows) ≡ r ∷ rows_of (drop (l.i + 1) rows) = ap rows_of (dropped rows l.i c.index-rows-i.result c.loop-i-test.true c.index-rows-i.is) in
+    (subst (λ (rs : List Row). RowsOfStand (length l.works.core.store) rs) e l.invariant.rows).0
+
+pub loop-i-init : goal.loop-i-init
+loop-i-init c = record {
+  fired = refl;
+  few = omega arith;
+  keeps = keeps_same c.args.spot.now.holder.now (state_of c.args.works.now).instances (state_of c.args.works.now).instances refl;
+  others = others_same c.args.spot.now.holder.now (state_of c.args.works.now).instances (state_of c.args.works.now).instances refl;
+  rows = c.requires.rows;
+  grown = omega arith;
+  whole = c.requires.whole;
+  templates = refl;
+}
+
+pub loop-i-preserved : goal.loop-i-preserved
+loop-i-preserved c =
+    let l = c.loop-i in
+    let w = c.fire_row.new.works in
+    let first = c.args.works.now in
+    let ground = c.args.ground.now in
+    let spot = c.args.spot.now in
+    let holder : List ℕ = spot.holder.now in
+    let o : ℕ = spot.outlet in
+    let which : ℕ × ℕ = (spot.template.0, spot.body) in
+    let repeated = repeated_of ground.repeated.now in
+    let count : ℕ = ground.count in
+    let rows = c.args.rows.now in
+    let r : Row = row_of c.index-rows-i.result in
+    let rest : List Row = rows_of (drop (l.i + 1) rows) in
+    let e : rows_of (drop l.i rows) ≡ r ∷ rest = ap rows_of (dropped rows l.i c.index-rows-i.result c.loop-i-test.true c.index-rows-i.is) in
+    let scope : ℕ = scope_in (linked_at holder (state_of first).instances) in
+    let before : Filled = filled_to l.at (firing l.works l.told) in
+    let done = c.in_ok-at.ensures in
+    let names = row_names repeated count l.i r.item in
+    let next : l.i + 1 ≡ suc l.i = omega arith in
+    record {
+      fired = ap (λ (f : Filled). (rows_fired holder scope o which repeated count (l.i + 1) rest f).firing) (done.fired ∙ ap (λ (n : ℕ). row_fired holder n o which r names r.from before) l.invariant.keeps.scope)
+          ∙ (ap (λ (n : ℕ). (rows_fired holder scope o which repeated count n rest (row_fired holder scope o which r names r.from before)).firing) next
+          ∙ (sym (ap (λ (rs : List Row). (rows_fired holder scope o which repeated count l.i rs before).firing) e) ∙ l.invariant.fired));
+      few = done.few;
+      keeps = keeps_then holder (state_of first).instances (state_of l.works).instances (state_of w).instances l.invariant.keeps done.keeps;
+      others = others_then holder (state_of first).instances (state_of l.works).instances (state_of w).instances l.invariant.others done.others;
+      rows = rows_wider (length l.works.core.store) (length w.core.store) done.grown rest (subst (λ (rs : List Row). RowsOfStand (length l.works.core.store) rs) e l.invariant.rows).1;
+      grown = (let one = done.grown in let all = l.invariant.grown in omega (arith, one, all));
+      whole = done.whole;
+      templates = c.fire_row.ensures.templates ∙ l.invariant.templates;
+    }

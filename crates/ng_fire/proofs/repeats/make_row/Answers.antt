@@ -1,0 +1,168 @@
+use Rattle.std.proofs.Common.{◌≡◌, ◌∙◌, ◌<◌, ℕ, List, [], None, ap, length, refl, subst, sym}
+use Rattle.std.specs.Prelude.{IsSome, Option, Some, Ok}
+use Rattle.ng_core.specs.State as act
+use Rattle.ng_base.specs.declared.name.ScopeId.{ScopeId}
+use Rattle.ng_behaviour.specs.Scopes.{Scope, path_at}
+use Rattle.ng_drawing.specs.Roles.{Role, a_body}
+use Rattle.ng_fire.proofs.Answered.{ok_then, some_is, there}
+use Rattle.ng_fire.proofs.Bodies.{outlet_there, scope_path, scope_stands, then_holds, then_serves}
+use Rattle.ng_fire.proofs.RowsStay.{others_come, others_same}
+use Rattle.ng_fire.proofs.NewRows.{filled_on, then_same}
+use Rattle.ng_fire.proofs.RowsTaken.{serves_keeps}
+use Rattle.ng_fire.proofs.Told.{whole_told}
+use Rattle.ng_fire.specs.Blocks.{Firing, child_run, linked_then, told_on}
+use Rattle.ng_fire.specs.FiringOf.{child_made, firing}
+use Rattle.ng_fire.specs.Links.{link_at}
+use Rattle.ng_fire.specs.Repeats.{role_for, row_names}
+use Rattle.ng_fire.specs.RepeatsOf.{row_of}
+use Rattle.ng_fire.specs.Serving.{outlet_count, OthersStay, Serves}
+use Rattle.ng_fire.specs.TrackingOf.{item_of}
+use Rattle.ng_link.specs.Calls.{Place, in_outlet, with_core}
+use Rattle.ng_link.specs.Events.{scope_in}
+use Rattle.ng_link.specs.Instances.{Instances, linked_at}
+use Rattle.ng_link.specs.PlaceOf.{IsFree}
+use Rattle.ng_link.specs.Shape.{linked}
+use Rattle.ng_link.specs.Standing.{IsIn}
+use Rattle.ng_link.specs.State.{State, state_of, templates_of, live_nodes}
+use Rattle.ng_members.specs.Leaves.{Local}
+use Rattle.ng_store.proofs.Sound.{stands_more}
+use Rattle.ng_template.specs.RepeatedOf.{repeated_of}
+use Rattle.ng_template.specs.Kept.{Named, fragment_in}
+use Rattle.ng_fire.proofs.repeats.make_row.Goals as goal
+
+-- what is known of a child that was made
+abbrev IsNew : List Scope → List Scope → ℕ → Instances → ScopeId → Type 0
+IsNew t u n is x = (x.0 < length u) × IsIn (path_at t n) (record { path = path_at u x.0; role = a_body }) × (linked_at (path_at u x.0) is ≡ None)
+
+pub make_child-requires-clause-scope : goal.make_child-requires-clause-scope
+make_child-requires-clause-scope c =
+    let w = c.args.works.now in
+    subst (λ (n : ℕ). n < length w.core.scopes) (sym c.scope_on-scope.ensures) (scope_stands w.core.scopes (state_of w).instances c.args.spot.now.holder.now c.requires.whole.root c.requires.whole.scopes)
+
+pub tell_row-requires-clause-scope : goal.tell_row-requires-clause-scope
+tell_row-requires-clause-scope c =
+    let w = c.args.works.now in
+    let m = c.make_child.new.works in
+    (some_is (IsNew w.core.scopes m.core.scopes c.scope_on-scope.result.0 (state_of m).instances) _ c.in-Some.child c.in_ok-child.ensures.free c.in-Some.is).0
+
+pub tell_row-requires-clause-item : goal.tell_row-requires-clause-item
+tell_row-requires-clause-item c = stands_more _ _ c.in_ok-child.ensures.grown c.args.row.now.item.value c.requires.row
+
+pub link_body-requires-clause-whole : goal.link_body-requires-clause-whole
+link_body-requires-clause-whole c =
+    let m = c.make_child.new.works in
+    let ground = c.args.ground.now in
+    let names : List Local = row_names (repeated_of ground.repeated.now) ground.count c.args.i (item_of c.args.row.now.item) in
+    whole_told m c.tell_row.new.core c.in-Some.child.0 names c.in_ok-child.ensures.whole c.in_ok-tell_row-in-Some.ensures.told c.in_ok-tell_row-in-Some.ensures.sound c.tell_row.ensures.scopes c.tell_row.ensures.depth c.tell_row.ensures.store
+
+pub link_body-requires-clause-scope : goal.link_body-requires-clause-scope
+link_body-requires-clause-scope c =
+    let w = c.args.works.now in
+    let m = c.make_child.new.works in
+    subst (λ (t : List Scope). c.in-Some.child.0 < length t) (sym c.tell_row.ensures.scopes)
+    (some_is (IsNew w.core.scopes m.core.scopes c.scope_on-scope.result.0 (state_of m).instances) _ c.in-Some.child c.in_ok-child.ensures.free c.in-Some.is).0
+
+pub link_body-requires-clause-template : goal.link_body-requires-clause-template
+link_body-requires-clause-template c = subst (λ (ts : List Named). IsSome (fragment_in ts c.args.spot.now.template.0 c.args.spot.now.body)) (sym c.make_child.ensures.templates) c.requires.spot.body
+
+pub link_body-requires-clause-free : goal.link_body-requires-clause-free
+link_body-requires-clause-free c =
+    let w = c.args.works.now in
+    let m = c.make_child.new.works in
+    let v = record m { core = c.tell_row.new.core } in
+    let spot = c.args.spot.now in
+    let holder : List ℕ = spot.holder.now in
+    let o : ℕ = spot.outlet in
+    let role : Role = role_for (row_of c.args.row.now) in
+    let same : (state_of m).instances ≡ (state_of w).instances = ap (λ (s : State). s.instances) c.make_child.ensures.state in
+    let lt : o < outlet_count holder (state_of m).instances = subst (λ (is : Instances). o < outlet_count holder is) (sym same) c.requires.spot.outlet in
+    let made = some_is (IsNew w.core.scopes m.core.scopes c.scope_on-scope.result.0 (state_of m).instances) _ c.in-Some.child c.in_ok-child.ensures.free c.in-Some.is in
+    let path : path_at w.core.scopes c.scope_on-scope.result.0 ≡ holder =
+    ap (path_at w.core.scopes) c.scope_on-scope.ensures ∙ scope_path w.core.scopes (state_of w).instances holder o c.requires.spot.outlet c.requires.whole.scopes in
+    let free : IsFree (in_outlet holder o c.args.at role) (path_at m.core.scopes c.in-Some.child.0) (state_of m) = (
+      outlet_there holder o (state_of m).instances lt,
+      subst (λ (p : List ℕ). IsIn p (record { path = path_at m.core.scopes c.in-Some.child.0; role = role })) path made.1,
+      made.2,
+    ) in
+    subst (λ (p : Place). IsFree p (path_at v.core.scopes c.in-Some.child.0) (state_of v)) (sym c.in_ok-place.ensures)
+    (subst (λ (t : List Scope). IsFree (in_outlet holder o c.args.at role) (path_at t c.in-Some.child.0) (state_of v)) (sym c.tell_row.ensures.scopes) free)
+
+pub returns-in-Some-clause-keeps : goal.returns-in-Some-clause-keeps
+returns-in-Some-clause-keeps c =
+    let w = c.args.works.now in
+    let m = c.make_child.new.works in
+    let t = record m { core = c.tell_row.new.core } in
+    let v = c.link_body.new.works in
+    let spot = c.args.spot.now in
+    let holder : List ℕ = spot.holder.now in
+    let o : ℕ = spot.outlet in
+    let role : Role = role_for (row_of c.args.row.now) in
+    let which : ℕ × ℕ = (spot.template.0, spot.body) in
+    let child : ℕ = c.in-Some.child.0 in
+    let s : State = state_of t in
+    let g : Firing = firing t c.args.told.now in
+    let same : s.instances ≡ (state_of w).instances = ap (λ (x : State). x.instances) c.make_child.ensures.state in
+    let lt : o < outlet_count holder s.instances = subst (λ (is : Instances). o < outlet_count holder is) (sym same) c.requires.spot.outlet in
+    let made = some_is (IsNew w.core.scopes m.core.scopes c.scope_on-scope.result.0 (state_of m).instances) _ c.in-Some.child c.in_ok-child.ensures.free c.in-Some.is in
+    let free : linked_at (path_at t.core.scopes child) s.instances ≡ None = subst (λ (x : List Scope). linked_at (path_at x child) s.instances ≡ None) (sym c.tell_row.ensures.scopes) made.2 in
+    let q = there (fragment_in (templates_of t) spot.template.0 spot.body) (subst (λ (ts : List Named). IsSome (fragment_in ts spot.template.0 spot.body)) (sym c.make_child.ensures.templates) c.requires.spot.body) in
+    let one = then_serves holder o c.args.at role which child q.0 s lt free (linked (live_nodes s) q.0.parts) g in
+    let placed = ap (λ (p : Place). linked_then child (linked (live_nodes s) q.0.parts) (link_at p which child q.0 s) g) c.in_ok-place.ensures in
+    ok_then c.link_body.result c.link_body.ensures.fired
+    (λ fired. serves_keeps holder [] (state_of w).instances (state_of v).instances
+    (subst (λ (is : Instances). Serves holder [] is (state_of v).instances) same
+    (subst (λ (is : Instances). Serves holder [] s.instances is) (sym (ap (λ (x : Firing). x.state.instances) (fired q.0 q.1 ∙ placed))) one)))
+
+pub returns-in-Some-clause-others : goal.returns-in-Some-clause-others
+returns-in-Some-clause-others c =
+    let w = c.args.works.now in
+    let m = c.make_child.new.works in
+    let t = record m { core = c.tell_row.new.core } in
+    let v = c.link_body.new.works in
+    let spot = c.args.spot.now in
+    let holder : List ℕ = spot.holder.now in
+    let o : ℕ = spot.outlet in
+    let role : Role = role_for (row_of c.args.row.now) in
+    let which : ℕ × ℕ = (spot.template.0, spot.body) in
+    let child : ℕ = c.in-Some.child.0 in
+    let s : State = state_of t in
+    let g : Firing = firing t c.args.told.now in
+    let same : s.instances ≡ (state_of w).instances = ap (λ (x : State). x.instances) c.make_child.ensures.state in
+    let made = some_is (IsNew w.core.scopes m.core.scopes c.scope_on-scope.result.0 (state_of m).instances) _ c.in-Some.child c.in_ok-child.ensures.free c.in-Some.is in
+    let free : linked_at (path_at t.core.scopes child) s.instances ≡ None = subst (λ (x : List Scope). linked_at (path_at x child) s.instances ≡ None) (sym c.tell_row.ensures.scopes) made.2 in
+    let q = there (fragment_in (templates_of t) spot.template.0 spot.body) (subst (λ (ts : List Named). IsSome (fragment_in ts spot.template.0 spot.body)) (sym c.make_child.ensures.templates) c.requires.spot.body) in
+    let one = then_holds holder o c.args.at role which child q.0 s (λ (is : Instances). OthersStay holder s.instances is) (others_same holder s.instances s.instances refl)
+    (λ m. others_come holder o c.args.at role (path_at s.core.scopes child) m s.instances free) (linked (live_nodes s) q.0.parts) g in
+    let placed = ap (λ (p : Place). linked_then child (linked (live_nodes s) q.0.parts) (link_at p which child q.0 s) g) c.in_ok-place.ensures in
+    ok_then c.link_body.result c.link_body.ensures.fired
+    (λ fired. subst (λ (is : Instances). OthersStay holder is (state_of v).instances) same
+    (subst (λ (is : Instances). OthersStay holder s.instances is) (sym (ap (λ (x : Firing). x.state.instances) (fired q.0 q.1 ∙ placed))) one))
+
+pub returns-in-Some-clause-fired : goal.returns-in-Some-clause-fired
+returns-in-Some-clause-fired c =
+    let w = c.args.works.now in
+    let told = c.args.told.now in
+    let m = c.make_child.new.works in
+    let t = record m { core = c.tell_row.new.core } in
+    let ground = c.args.ground.now in
+    let spot = c.args.spot.now in
+    let holder : List ℕ = spot.holder.now in
+    let place : Place = in_outlet holder spot.outlet c.args.at (role_for (row_of c.args.row.now)) in
+    let which : ℕ × ℕ = (spot.template.0, spot.body) in
+    let child : ℕ = c.in-Some.child.0 in
+    let scope : ℕ = scope_in (linked_at holder (state_of w).instances) in
+    let names : List Local = row_names (repeated_of ground.repeated.now) ground.count c.args.i (item_of c.args.row.now.item) in
+    let g : Firing = firing w told in
+    let s : State = state_of t in
+    let q = there (fragment_in (templates_of t) spot.template.0 spot.body) (subst (λ (ts : List Named). IsSome (fragment_in ts spot.template.0 spot.body)) (sym c.make_child.ensures.templates) c.requires.spot.body) in
+    let known : fragment_in (templates_of w) spot.template.0 spot.body ≡ Some q.0 = ap (λ (ts : List Named). fragment_in ts spot.template.0 spot.body) (sym c.make_child.ensures.templates) ∙ q.1 in
+    let made : child_run scope (state_of w).core ≡ ((state_of m).core, Ok child) =
+    sym (ap (λ (n : ℕ). child_run n (state_of w).core) c.scope_on-scope.ensures) ∙ (c.in_ok-child.ensures.run ∙ ap (λ (x : Option ScopeId). child_made x (state_of m).core) c.in-Some.is) in
+    let state : s ≡ with_core (told_on child names (state_of m).core) (state_of w) =
+    ap (λ (k : act.State). with_core k (state_of m)) c.in_ok-tell_row-in-Some.ensures.told ∙ ap (with_core (told_on child names (state_of m).core)) c.make_child.ensures.state in
+    ok_then c.link_body.result c.link_body.ensures.fired
+    (λ fired. fired q.0 q.1
+    ∙ (ap (λ (p : Place). linked_then child (linked (live_nodes s) q.0.parts) (link_at p which child q.0 s) (firing t told)) c.in_ok-place.ensures
+    ∙ (then_same child (linked (live_nodes s) q.0.parts) (link_at place which child q.0 s) s (state_of w) told.faulted told.added
+    ∙ (ap (λ (x : State). linked_then child (linked (live_nodes x) q.0.parts) (link_at place which child q.0 x) g) state
+    ∙ sym (filled_on place scope names which g (state_of m).core child q.0 made known)))))

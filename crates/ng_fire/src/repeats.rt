@@ -1,0 +1,437 @@
+//! The fire of a repeat's site: rows go, are kept, and are made (API: ngRepeat).
+ghost use Rattle.std.specs.Prelude.{ℕ, ◌≡◌, ◌<◌, ◌≤◌, ◌+◌, length, map, slice_get, false, Ok, IfOk, OnOk};
+ghost use Rattle.ng_base.specs.Objects.{StandsAmong};
+ghost use Rattle.ng_base.specs.ViewOf.{view_of};
+ghost use Rattle.ng_blocks.specs.Plans.{planned, has_double as has_double_of};
+ghost use Rattle.ng_fire.specs.Blocks.{filled, told_on};
+ghost use Rattle.ng_fire.specs.FiringOf.{firing};
+ghost use Rattle.ng_fire.specs.Repeats.{all_ended, bodies_at, body_at, by_items, by_keys, filled_to, keys_of, kept_rows as kept_rows_of, repeat_fired, role_for as role_for_row, rows_from as rows_from_all, row_fired, row_names, rows_at, rows_changed, rows_fired, rows_taken};
+ghost use Rattle.ng_fire.specs.RepeatsOf.{row_of, rows_of, AreNames, AreRowsAt, HaveGone, IsSpot, KeptOrGone, RowsOfStand};
+ghost use Rattle.ng_fire.specs.Serving.{BodiesStay, Keeps, OthersStay, RestStays};
+ghost use Rattle.ng_fire.specs.TrackingOf.{item_of, items_of, ItemsStand};
+ghost use Rattle.ng_fire.specs.Whole.{IsWhole};
+ghost use Rattle.ng_language.specs.Views.{ViewStands};
+ghost use Rattle.ng_link.specs.Calls.{with_core, in_outlet};
+ghost use Rattle.ng_link.specs.Events.{scope_in};
+ghost use Rattle.ng_link.specs.Instances.{linked_at};
+ghost use Rattle.ng_link.specs.PlaceOf.{place_of as place_of_code};
+ghost use Rattle.ng_link.specs.State.{body_of, state_of, templates_of};
+ghost use Rattle.ng_template.specs.RepeatedOf.{repeated_of};
+
+use crate::blocks::{end_body, fault, link_body, make_child};
+use crate::following::Followed;
+use crate::rows::{Ground, Row, ground_for, kept_rows, plan_rows, role_for, rows_from, tell_row};
+use crate::tracking::{Item, make_items, track_keys};
+use ng_base::fault::{Fault, Memory};
+use ng_base::lists::Numbers;
+use ng_base::name::TplId;
+use ng_base::path::Path;
+use ng_base::view::View;
+use ng_blocks::{Plan, TrackKeys};
+use ng_drawing::roles::entries_in;
+use ng_link::linking::Place;
+use ng_link::works::{Body, Works};
+use ng_template::Repeated;
+use std::alloc::Global;
+
+/// An outlet of an instance, and the fragment that its rows are made of.
+#[derive(Clone, Copy)]
+pub(crate) struct Spot<'a> {
+    pub(crate) holder: &'a Path,
+    pub(crate) outlet: usize,
+    pub(crate) template: TplId,
+    pub(crate) body: u32,
+}
+
+/// The scope of the row at a place is destroyed.
+#[tactic(auto, using(crate::proofs::RowsTaken::row_at, crate::proofs::RowsTaken::no_row_at))]
+fn end_row(
+    works: &mut Works,
+    alloc: Global,
+    bodies: &[Body],
+    i: u32,
+    told: &mut Followed,
+) -> Result<(), Memory>
+    requires whole { IsWhole works.old }
+    ensures fired { OnOk result (firing works.new told.new ≡ all_ended (body_at (slice_get (map body_of bodies.now) i)) (firing works.old told.old)) }
+    ensures instances { OnOk result ((state_of works.new).instances ≡ (state_of works.old).instances) }
+    ensures grown { OnOk result (length works.old.core.store ≤ length works.new.core.store) }
+    ensures whole { OnOk result (IsWhole works.new) }
+    ensures templates { templates_of works.new ≡ templates_of works.old }
+{
+    match bodies.get(i as usize) {
+        None => Ok(()),
+        Some(body) => end_body(works, alloc, &body.path, told),
+    }
+}
+
+/// The scopes of the rows at some places are destroyed, in order.
+fn end_rows(
+    works: &mut Works,
+    alloc: Global,
+    bodies: &[Body],
+    gone: &[u32],
+    told: &mut Followed,
+) -> Result<(), Memory>
+    requires whole { IsWhole works.old }
+    ensures fired { OnOk result (firing works.new told.new ≡ all_ended (bodies_at (map body_of bodies.now) gone.now) (firing works.old told.old)) }
+    ensures instances { OnOk result ((state_of works.new).instances ≡ (state_of works.old).instances) }
+    ensures grown { OnOk result (length works.old.core.store ≤ length works.new.core.store) }
+    ensures whole { OnOk result (IsWhole works.new) }
+    ensures templates { templates_of works.new ≡ templates_of works.old }
+{
+    for i in gone {
+        end_row(works, alloc, bodies, *i, told)?;
+    }
+    Ok(())
+}
+
+/// The row at a place is taken out.
+#[tactic(auto, using(crate::proofs::RowsTaken::row_at, crate::proofs::RowsTaken::no_row_at))]
+fn take_row(works: &mut Works, spot: &Spot<'_>, bodies: &[Body], i: u32) -> Result<(), Memory>
+    requires whole { IsWhole works.old }
+    requires row { AreRowsAt spot.now.holder.now spot.now.outlet (body_at (slice_get (map body_of bodies.now) i)) (state_of works.old).instances }
+    ensures state { OnOk result (state_of works.new ≡ rows_taken spot.now.holder.now (body_at (slice_get (map body_of bodies.now) i)) (state_of works.old)) }
+    ensures gone { OnOk result (HaveGone spot.now.holder.now spot.now.outlet (body_at (slice_get (map body_of bodies.now) i)) (state_of works.old).instances (state_of works.new).instances) }
+    ensures keeps { OnOk result (Keeps spot.now.holder.now (state_of works.old).instances (state_of works.new).instances) }
+    ensures rest { OnOk result (RestStays spot.now.holder.now (body_at (slice_get (map body_of bodies.now) i)) (state_of works.old).instances (state_of works.new).instances) }
+    ensures core { works.new.core ≡ works.old.core }
+    ensures whole { OnOk result (IsWhole works.new) }
+    ensures templates { templates_of works.new ≡ templates_of works.old }
+{
+    match bodies.get(i as usize) {
+        None => Ok(()),
+        Some(body) => works.unlink(spot.holder, &body.path),
+    }
+}
+
+/// The rows whose scopes are destroyed are taken out, the last one first.
+fn take_rows(
+    works: &mut Works,
+    spot: &Spot<'_>,
+    bodies: &[Body],
+    gone: &[u32],
+) -> Result<(), Memory>
+    requires whole { IsWhole works.old }
+    requires rows { AreRowsAt spot.now.holder.now spot.now.outlet (bodies_at (map body_of bodies.now) gone.now) (state_of works.old).instances }
+    ensures state { OnOk result (state_of works.new ≡ rows_taken spot.now.holder.now (bodies_at (map body_of bodies.now) gone.now) (state_of works.old)) }
+    ensures gone { OnOk result (HaveGone spot.now.holder.now spot.now.outlet (bodies_at (map body_of bodies.now) gone.now) (state_of works.old).instances (state_of works.new).instances) }
+    ensures keeps { OnOk result (Keeps spot.now.holder.now (state_of works.old).instances (state_of works.new).instances) }
+    ensures rest { OnOk result (RestStays spot.now.holder.now (bodies_at (map body_of bodies.now) gone.now) (state_of works.old).instances (state_of works.new).instances) }
+    ensures core { works.new.core ≡ works.old.core }
+    ensures whole { OnOk result (IsWhole works.new) }
+    ensures templates { templates_of works.new ≡ templates_of works.old }
+{
+    for k in 0..gone.len() {
+        let j = gone.len() - 1 - k;
+        take_row(works, spot, bodies, gone[j])?;
+    }
+    Ok(())
+}
+
+/// A row that is kept is told its names.
+fn keep_row(
+    works: &mut Works,
+    ground: &Ground<'_>,
+    i: u32,
+    path: &Path,
+    row: &Row,
+) -> Result<(), Memory>
+    requires whole { IsWhole works.old }
+    requires names { AreNames ground.now.names }
+    requires place { i < ground.now.count }
+    requires row { StandsAmong (length works.old.core.store) row.now.item.value }
+    ensures state { OnOk result (state_of works.new ≡ with_core (told_on (scope_in (linked_at path.now (state_of works.old).instances)) (row_names (repeated_of ground.now.repeated.now) ground.now.count i (item_of row.now.item)) (state_of works.old).core) (state_of works.old)) }
+    ensures whole { OnOk result (IsWhole works.new) }
+    ensures store { length works.new.core.store ≡ length works.old.core.store }
+    ensures templates { templates_of works.new ≡ templates_of works.old }
+{
+    let scope = works.scope_on(path);
+    tell_row(&mut works.core, scope, ground, i, &row.item)
+}
+
+/// The place of a row that is made before the one at a place.
+fn place_for(alloc: Global, spot: &Spot<'_>, at: u32, row: &Row) -> Result<Place, Memory>
+    ensures { IfOk result (λ p. place_of_code p ≡ in_outlet spot.now.holder.now spot.now.outlet at (role_for_row (row_of row.now))) }
+{
+    Ok(Place::Outlet {
+        holder: spot.holder.copied()?,
+        outlet: spot.outlet,
+        at,
+        role: role_for(alloc, row)?,
+    })
+}
+
+/// A row is made before the one at a place, once its scope has been told its names.
+fn make_row(
+    works: &mut Works,
+    alloc: Global,
+    spot: &Spot<'_>,
+    ground: &Ground<'_>,
+    i: u32,
+    at: u32,
+    row: &Row,
+    told: &mut Followed,
+) -> Result<(), Memory>
+    requires whole { IsWhole works.old }
+    requires spot { IsSpot (templates_of works.old) (state_of works.old).instances spot.now }
+    requires names { AreNames ground.now.names }
+    requires place { i < ground.now.count }
+    requires row { StandsAmong (length works.old.core.store) row.now.item.value }
+    ensures fired { OnOk result (firing works.new told.new ≡ filled (in_outlet spot.now.holder.now spot.now.outlet at (role_for_row (row_of row.now))) (scope_in (linked_at spot.now.holder.now (state_of works.old).instances)) (row_names (repeated_of ground.now.repeated.now) ground.now.count i (item_of row.now.item)) (spot.now.template.0, spot.now.body) (firing works.old told.old)) }
+    ensures keeps { OnOk result (Keeps spot.now.holder.now (state_of works.old).instances (state_of works.new).instances) }
+    ensures others { OnOk result (OthersStay spot.now.holder.now (state_of works.old).instances (state_of works.new).instances) }
+    ensures grown { OnOk result (length works.old.core.store ≤ length works.new.core.store) }
+    ensures whole { OnOk result (IsWhole works.new) }
+    ensures templates { templates_of works.new ≡ templates_of works.old }
+{
+    let scope = works.scope_on(spot.holder);
+    let place = place_for(alloc, spot, at, row)?;
+    match make_child(works, scope)? {
+        Some(child) => {
+            tell_row(&mut works.core, child, ground, i, &row.item)?;
+            link_body(works, alloc, &place, spot.template, spot.body, child, told)
+        }
+        None => {
+            fault(works, Fault::StoreFull, told);
+            Ok(())
+        }
+    }
+}
+
+/// The row of an entry is kept, or made unless one before it could not be made. The answer is how many rows stand then before the next.
+fn fire_row(
+    works: &mut Works,
+    alloc: Global,
+    spot: &Spot<'_>,
+    ground: &Ground<'_>,
+    i: u32,
+    at: u32,
+    row: &Row,
+    told: &mut Followed,
+) -> Result<u32, Memory>
+    requires whole { IsWhole works.old }
+    requires spot { IsSpot (templates_of works.old) (state_of works.old).instances spot.now }
+    requires names { AreNames ground.now.names }
+    requires place { i < ground.now.count }
+    requires few { at ≤ i }
+    requires row { StandsAmong (length works.old.core.store) row.now.item.value }
+    ensures fired { IfOk result (λ n. filled_to n (firing works.new told.new) ≡ row_fired spot.now.holder.now (scope_in (linked_at spot.now.holder.now (state_of works.old).instances)) spot.now.outlet (spot.now.template.0, spot.now.body) (row_of row.now) (row_names (repeated_of ground.now.repeated.now) ground.now.count i (item_of row.now.item)) row.now.from (filled_to at (firing works.old told.old))) }
+    ensures few { IfOk result (λ n. n ≤ i + 1) }
+    ensures keeps { OnOk result (Keeps spot.now.holder.now (state_of works.old).instances (state_of works.new).instances) }
+    ensures others { OnOk result (OthersStay spot.now.holder.now (state_of works.old).instances (state_of works.new).instances) }
+    ensures grown { OnOk result (length works.old.core.store ≤ length works.new.core.store) }
+    ensures whole { OnOk result (IsWhole works.new) }
+    ensures templates { templates_of works.new ≡ templates_of works.old }
+{
+    match &row.from {
+        Some(path) => {
+            keep_row(works, ground, i, path, row)?;
+            Ok(at + 1)
+        }
+        None => {
+            if told.faulted {
+                return Ok(at);
+            }
+            make_row(works, alloc, spot, ground, i, at, row, told)?;
+            if told.faulted { Ok(at) } else { Ok(at + 1) }
+        }
+    }
+}
+
+/// The rows of all entries, in order.
+fn fire_rows(
+    works: &mut Works,
+    alloc: Global,
+    spot: &Spot<'_>,
+    ground: &Ground<'_>,
+    rows: &[Row],
+    told: &mut Followed,
+) -> Result<(), Memory>
+    requires whole { IsWhole works.old }
+    requires spot { IsSpot (templates_of works.old) (state_of works.old).instances spot.now }
+    requires names { AreNames ground.now.names }
+    requires count { length rows.now ≡ ground.now.count }
+    requires rows { RowsOfStand (length works.old.core.store) (rows_of rows.now) }
+    ensures fired { OnOk result (firing works.new told.new ≡ (rows_fired spot.now.holder.now (scope_in (linked_at spot.now.holder.now (state_of works.old).instances)) spot.now.outlet (spot.now.template.0, spot.now.body) (repeated_of ground.now.repeated.now) ground.now.count 0 (rows_of rows.now) (filled_to 0 (firing works.old told.old))).firing) }
+    ensures keeps { OnOk result (Keeps spot.now.holder.now (state_of works.old).instances (state_of works.new).instances) }
+    ensures others { OnOk result (OthersStay spot.now.holder.now (state_of works.old).instances (state_of works.new).instances) }
+    ensures grown { OnOk result (length works.old.core.store ≤ length works.new.core.store) }
+    ensures whole { OnOk result (IsWhole works.new) }
+    ensures templates { templates_of works.new ≡ templates_of works.old }
+{
+    let mut at = 0;
+    for i in 0..rows.len() {
+        at = fire_row(works, alloc, spot, ground, i as u32, at, &rows[i], told)?;
+    }
+    Ok(())
+}
+
+/// Rows go, are kept in the order of their entries, and are made. Those that are kept keep their scopes and their nodes.
+fn change_rows(
+    works: &mut Works,
+    alloc: Global,
+    spot: &Spot<'_>,
+    repeated: &Repeated,
+    bodies: &[Body],
+    gone: &Numbers,
+    rows: &[Row],
+    told: &mut Followed,
+) -> Result<(), Memory>
+    requires whole { IsWhole works.old }
+    requires spot { IsSpot (templates_of works.old) (state_of works.old).instances spot.now }
+    requires rows { RowsOfStand (length works.old.core.store) (rows_of rows.now) }
+    requires stand { rows_at spot.now.holder.now spot.now.outlet (state_of works.old).instances ≡ map body_of bodies.now }
+    requires all { KeptOrGone (map body_of bodies.now) gone.now (rows_of rows.now) }
+    ensures fired { OnOk result (firing works.new told.new ≡ rows_changed spot.now.holder.now (scope_in (linked_at spot.now.holder.now (state_of works.old).instances)) spot.now.outlet (spot.now.template.0, spot.now.body) (repeated_of repeated.now) (bodies_at (map body_of bodies.now) gone.now) (rows_of rows.now) (firing works.old told.old)) }
+    ensures keeps { OnOk result (Keeps spot.now.holder.now (state_of works.old).instances (state_of works.new).instances) }
+    ensures kept { OnOk result (BodiesStay (kept_rows_of (rows_of rows.now)) (state_of works.old).instances (state_of works.new).instances) }
+    ensures grown { OnOk result (length works.old.core.store ≤ length works.new.core.store) }
+    ensures whole { OnOk result (IsWhole works.new) }
+    ensures templates { templates_of works.new ≡ templates_of works.old }
+{
+    let ground = ground_for(alloc, repeated, rows.len())?;
+    end_rows(works, alloc, bodies, gone.as_slice(), told)?;
+    take_rows(works, spot, bodies, gone.as_slice())?;
+    works.arrange(spot.holder, spot.outlet, kept_rows(alloc, rows)?)?;
+    fire_rows(works, alloc, spot, &ground, rows, told)
+}
+
+/// Rows by a plan.
+fn fire_plan(
+    works: &mut Works,
+    alloc: Global,
+    spot: &Spot<'_>,
+    repeated: &Repeated,
+    bodies: &[Body],
+    items: Vec<Item>,
+    keys: &TrackKeys,
+    plan: &Plan,
+    told: &mut Followed,
+) -> Result<(), Memory>
+    requires whole { IsWhole works.old }
+    requires spot { IsSpot (templates_of works.old) (state_of works.old).instances spot.now }
+    requires items { ItemsStand (length works.old.core.store) (items_of items.items) }
+    requires stand { rows_at spot.now.holder.now spot.now.outlet (state_of works.old).instances ≡ map body_of bodies.now }
+    requires old { has_double_of (keys_of (map body_of bodies.now)) ≡ false }
+    requires as_many { length (items_of items.items) ≡ length keys.now }
+    requires plan { planned (keys_of (map body_of bodies.now)) keys.now ≡ Ok plan.now }
+    ensures fired { OnOk result (firing works.new told.new ≡ by_keys spot.now.holder.now (scope_in (linked_at spot.now.holder.now (state_of works.old).instances)) spot.now.outlet (spot.now.template.0, spot.now.body) (repeated_of repeated.now) (map body_of bodies.now) (items_of items.items) (Ok keys.now) (firing works.old told.old)) }
+    ensures keeps { OnOk result (Keeps spot.now.holder.now (state_of works.old).instances (state_of works.new).instances) }
+    ensures kept { OnOk result (BodiesStay (kept_rows_of (rows_from_all (map body_of bodies.now) (items_of items.items) keys.now plan.now.from)) (state_of works.old).instances (state_of works.new).instances) }
+    ensures grown { OnOk result (length works.old.core.store ≤ length works.new.core.store) }
+    ensures whole { OnOk result (IsWhole works.new) }
+    ensures templates { templates_of works.new ≡ templates_of works.old }
+{
+    let rows = rows_from(alloc, bodies, items, keys, &plan.from)?;
+    change_rows(
+        works,
+        alloc,
+        spot,
+        repeated,
+        bodies,
+        &plan.gone,
+        rows.as_slice(),
+        told,
+    )
+}
+
+/// The rows that items of these keys call for, unless two have one key.
+fn fire_keyed(
+    works: &mut Works,
+    alloc: Global,
+    spot: &Spot<'_>,
+    repeated: &Repeated,
+    items: Vec<Item>,
+    keys: &TrackKeys,
+    told: &mut Followed,
+) -> Result<(), Memory>
+    requires whole { IsWhole works.old }
+    requires spot { IsSpot (templates_of works.old) (state_of works.old).instances spot.now }
+    requires items { ItemsStand (length works.old.core.store) (items_of items.items) }
+    requires as_many { length (items_of items.items) ≡ length keys.now }
+    ensures fired { OnOk result (firing works.new told.new ≡ by_keys spot.now.holder.now (scope_in (linked_at spot.now.holder.now (state_of works.old).instances)) spot.now.outlet (spot.now.template.0, spot.now.body) (repeated_of repeated.now) (rows_at spot.now.holder.now spot.now.outlet (state_of works.old).instances) (items_of items.items) (Ok keys.now) (firing works.old told.old)) }
+    ensures keeps { OnOk result (Keeps spot.now.holder.now (state_of works.old).instances (state_of works.new).instances) }
+    ensures grown { OnOk result (length works.old.core.store ≤ length works.new.core.store) }
+    ensures whole { OnOk result (IsWhole works.new) }
+    ensures templates { templates_of works.new ≡ templates_of works.old }
+{
+    let bodies = works.bodies_in(spot.holder, spot.outlet)?;
+    match plan_rows(alloc, bodies.as_slice(), keys)? {
+        Err(f) => {
+            fault(works, f, told);
+            Ok(())
+        }
+        Ok(plan) => fire_plan(
+            works,
+            alloc,
+            spot,
+            repeated,
+            bodies.as_slice(),
+            items,
+            keys,
+            &plan,
+            told,
+        ),
+    }
+}
+
+/// The rows that items call for, unless a track expression faults.
+fn fire_items(
+    works: &mut Works,
+    alloc: Global,
+    spot: &Spot<'_>,
+    repeated: &Repeated,
+    items: Vec<Item>,
+    told: &mut Followed,
+) -> Result<(), Memory>
+    requires whole { IsWhole works.old }
+    requires spot { IsSpot (templates_of works.old) (state_of works.old).instances spot.now }
+    requires items { ItemsStand (length works.old.core.store) (items_of items.items) }
+    ensures fired { OnOk result (firing works.new told.new ≡ by_items spot.now.holder.now (scope_in (linked_at spot.now.holder.now (state_of works.old).instances)) spot.now.outlet (spot.now.template.0, spot.now.body) (repeated_of repeated.now) (Ok (items_of items.items)) (firing works.old told.old)) }
+    ensures keeps { OnOk result (Keeps spot.now.holder.now (state_of works.old).instances (state_of works.new).instances) }
+    ensures grown { OnOk result (length works.old.core.store ≤ length works.new.core.store) }
+    ensures whole { OnOk result (IsWhole works.new) }
+    ensures templates { templates_of works.new ≡ templates_of works.old }
+{
+    let object = works.core.scopes.object(works.scope_on(spot.holder));
+    let tracked = track_keys(alloc, &works.core.store, object, repeated, items.as_slice());
+    match tracked {
+        Err(Fault::Memory(memory)) => Err(memory),
+        Err(f) => {
+            fault(works, f, told);
+            Ok(())
+        }
+        Ok(keys) => fire_keyed(works, alloc, spot, repeated, items, &keys, told),
+    }
+}
+
+/// The rows of an outlet become those that a collection calls for, of which this is kept.
+pub(crate) fn fire_repeat(
+    works: &mut Works,
+    alloc: Global,
+    spot: &Spot<'_>,
+    repeated: &Repeated,
+    value: &View,
+    told: &mut Followed,
+) -> Result<(), Memory>
+    requires whole { IsWhole works.old }
+    requires spot { IsSpot (templates_of works.old) (state_of works.old).instances spot.now }
+    requires value { ViewStands (length works.old.core.store) (view_of value.now) }
+    ensures fired { OnOk result (firing works.new told.new ≡ repeat_fired spot.now.holder.now (scope_in (linked_at spot.now.holder.now (state_of works.old).instances)) (view_of value.now) spot.now.outlet (spot.now.template.0, spot.now.body) (repeated_of repeated.now) (firing works.old told.old)) }
+    ensures keeps { OnOk result (Keeps spot.now.holder.now (state_of works.old).instances (state_of works.new).instances) }
+    ensures grown { OnOk result (length works.old.core.store ≤ length works.new.core.store) }
+    ensures whole { OnOk result (IsWhole works.new) }
+    ensures templates { templates_of works.new ≡ templates_of works.old }
+{
+    let entries = entries_in(alloc, value)?;
+    let made = make_items(&mut works.core, alloc, entries);
+    match made {
+        Err(Fault::Memory(memory)) => Err(memory),
+        Err(f) => {
+            fault(works, f, told);
+            Ok(())
+        }
+        Ok(items) => fire_items(works, alloc, spot, repeated, items, told),
+    }
+}
