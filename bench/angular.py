@@ -3,15 +3,17 @@
 
 usage: bench/angular.py [--cmd PROGRAM] [--only TEXT] [--times N] [--without jsdom|chromium ..]
 AngularJS, jsdom and Chromium are those of Debian's packages libjs-angularjs, node-jsdom and chromium; a column whose package is not
-there is left empty. All columns of one table are of one run, and of one machine: let nothing else run beside it.
+there is left empty. All columns of one table are of one run, on one machine, in processor time; what else runs there still takes
+room in its caches.
 
 A workload is a page, its data, and commands that are applied one after another: `eval E` here, `$apply(E)` on the root scope there. All run the
 same template, data and expressions. The time of a step is the mean of all commands, the least of N rounds (default 3).
   ngrun      a step is the processor time of a whole run less that of one without the script, over the number of commands. It is taken
              without the print of the document (one more hole faults, so that each step digests and prints none) and, beside it, with it.
              An opening is a whole run of the program: start, files, parsing and compiling among it.
-  AngularJS  by the page's clock, in one page: compiling, linking and the first digest are an opening, `$apply` alone a step; start of the
-             browser, parsing of its HTML, layout and painting are not in it. From the second round on its code is warm.
+  AngularJS  the processor time of its process in jsdom, and of the page's own thread in Chromium, in one page: compiling, linking and the first
+             digest are an opening, `$apply` alone a step; start of the browser, parsing of its HTML, layout and painting are not in it, nor
+             what Chromium does beside the page's thread. From the second round on its code is warm.
 A row is 'right' where the texts of the page's elements are the same at the end."""
 import argparse
 import json
@@ -111,32 +113,12 @@ def here(cmd, made, folder, times):
     return start, steps[0], steps[1], texts(done.stdout.decode().rstrip('\n').split('\n')[-1])
 
 
-def in_jsdom(job):
-    run = ['node', os.path.join(TOOLS, 'in_jsdom.js'), ANGULAR, job]
+def in_node(*words):
+    """What a script of the folder of tools gives, or nothing where it failed."""
     paths = ':'.join(['/usr/share/nodejs', '/usr/lib/nodejs'])
+    run = ['node', os.path.join(TOOLS, words[0])] + list(words[1:])
     done = subprocess.run(run, stdin=subprocess.DEVNULL, stdout=subprocess.PIPE, env=os.environ | {'NODE_PATH': paths})
     return json.loads(done.stdout) if not done.returncode else None
-
-
-def in_chromium(job, folder):
-    page = os.path.join(folder, 'page.html')
-    with open(job, encoding='utf-8') as file:
-        # no end tag of a script may stand in a script
-        given = file.read().replace('</', '<\\/')
-    with open(os.path.join(TOOLS, 'measure.js'), encoding='utf-8') as file:
-        measure = file.read()
-    with open(page, 'w', encoding='utf-8') as file:
-        file.write(f'<!DOCTYPE html><meta charset="utf-8"><body><script src="file://{ANGULAR}"></script><script>{measure}</script><script>'
-                   f'const told = measure(angular, document, () => performance.now(), {given});'
-                   'document.body.innerHTML = "<pre>" + encodeURIComponent(JSON.stringify(told)) + "</pre>"</script>')
-    words = ['chromium', '--headless=new', '--no-sandbox', '--disable-gpu', '--user-data-dir=' + os.path.join(folder, 'profile'), '--dump-dom', 'file://' + page]
-    done = subprocess.run(words, stdin=subprocess.DEVNULL, stdout=subprocess.PIPE, stderr=subprocess.DEVNULL)
-    found = re.search(r'<pre>([^<]*)</pre>', done.stdout.decode())
-    return json.loads(unquoted(found[1])) if found else None
-
-
-def unquoted(text):
-    return re.sub(rb'%([0-9A-F]{2})', lambda m: bytes([int(m[1], 16)]), text.encode()).decode()
 
 
 def told(amount):
@@ -156,7 +138,8 @@ def row(name, opens, made, cmd, times, without):
         with open(job, 'w', encoding='utf-8') as file:
             json.dump({'template': template, 'data': data, 'commands': commands, 'rounds': times}, file)
         ours = here(cmd, made, folder, times)
-        theirs = [None if 'jsdom' in without else in_jsdom(job), None if 'chromium' in without else in_chromium(job, folder)]
+        theirs = [None if 'jsdom' in without else in_node('in_jsdom.js', ANGULAR, job)]
+        theirs.append(None if 'chromium' in without else in_node('in_chromium.js', ANGULAR, job, os.path.join(folder, 'profile')))
     key = 'opening' if opens else 'step'
     times_there = [None if found is None else found[key] / 1000 for found in theirs]
     first = [None, None] if ours is None else [ours[0], None] if opens else [ours[1], ours[2]]

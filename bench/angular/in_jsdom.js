@@ -1,11 +1,19 @@
-// in_jsdom.js ANGULAR JOB: the workload of a file on AngularJS in jsdom; prints what measure gives.
+// in_jsdom.js ANGULAR JOB: the workload of a file on AngularJS in jsdom, by the processor time of this process; prints what rounds gives.
 const fs = require('fs');
 const { JSDOM } = require('jsdom');
+const rounds = require('./rounds.js');
 
-const [angular, job] = process.argv.slice(2);
+const [angular, file] = process.argv.slice(2);
+const job = JSON.parse(fs.readFileSync(file, 'utf8'));
 const { window } = new JSDOM('<!DOCTYPE html><body></body>', { runScripts: 'outside-only' });
 window.eval(fs.readFileSync(angular, 'utf8'));
-window.eval(fs.readFileSync(require.resolve('./measure.js'), 'utf8').replace(/^if \(typeof module.*$/m, ''));
-window.clock = () => performance.now();
-window.job = JSON.parse(fs.readFileSync(job, 'utf8'));
-console.log(window.eval('JSON.stringify(measure(angular, document, clock, job))'));
+window.eval(fs.readFileSync(require.resolve('./workload.js'), 'utf8'));
+window.job = job;
+window.eval('var page = workload(angular, document, job)');
+
+function clock() {
+  const { user, system } = process.cpuUsage();
+  return (user + system) / 1000;
+}
+
+rounds(job, (name) => window.eval(`page.${name}()`), clock).then((told) => console.log(JSON.stringify(told)));

@@ -1,0 +1,43 @@
+// One workload on AngularJS. A job has a template, data and commands: expressions that are applied to the root scope one after another.
+// A round is begin, open, run and end; open compiles, links and digests the page, run applies the commands, end gives what stood at last.
+function workload(angular, document, job) {
+  let compile, root, host;
+  return {
+    begin() {
+      const injector = angular.injector(['ng', plain]);
+      compile = injector.get('$compile');
+      root = injector.get('$rootScope');
+      Object.assign(root, JSON.parse(JSON.stringify(job.data)));
+      host = document.createElement('main');
+      host.style.display = 'none';
+      host.innerHTML = job.template;
+      document.body.appendChild(host);
+    },
+    open() {
+      compile(host.childNodes)(root);
+      root.$digest();
+    },
+    run() {
+      for (const command of job.commands) root.$apply(command);
+    },
+    end() {
+      const shown = seen(host);
+      root.$destroy();
+      host.remove();
+      return shown;
+    },
+  };
+}
+
+// As a page in use is told to: no debug classes, no directives in comments and classes.
+function plain($compileProvider) {
+  $compileProvider.debugInfoEnabled(false);
+  $compileProvider.commentDirectivesEnabled(false);
+  $compileProvider.cssClassDirectivesEnabled(false);
+}
+plain.$inject = ['$compileProvider'];
+
+// The texts of the page's innermost elements.
+function seen(host) {
+  return Array.from(host.querySelectorAll('*')).filter((one) => !one.firstElementChild).map((one) => one.textContent).join('|');
+}
