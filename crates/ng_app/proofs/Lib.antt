@@ -1,3 +1,4 @@
 pub mod Json
 pub mod Registered
 pub mod Installed
+pub mod Compiled

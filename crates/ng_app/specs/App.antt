@@ -11,10 +11,12 @@ use Rattle.ng_base.specs.Objects.{Object}
 use Rattle.ng_language.specs.Trees.{Trees}
 use Rattle.ng_store.specs.declared.json.JsonFault.{JsonFault}
 use Rattle.ng_store.specs.declared.json.JsonFault.TheVariants as json
-use Rattle.ng_app.specs.Entries.{function_entries, watch_entries, listener_entries, run_entry}
+use Rattle.ng_app.specs.Entries.{template_entries, function_entries, watch_entries, listener_entries, run_entry}
 use Rattle.ng_app.specs.Programs.{Declared, Watched, Heard, program_at, functions_read, watches_read, listeners_read}
 use Rattle.ng_app.specs.Refused.{fault}
+use Rattle.ng_app.specs.Templates.{Partial, templates_read}
 use Rattle.ng_app.specs.declared.entries.FunctionEntry.{FunctionEntry}
+use Rattle.ng_app.specs.declared.entries.TemplateEntry.{TemplateEntry}
 use Rattle.ng_app.specs.declared.entries.WatchEntry.{WatchEntry}
 use Rattle.ng_app.specs.declared.entries.ListenerEntry.{ListenerEntry}
 use Rattle.ng_app.specs.declared.fault.Member.{Member}
@@ -22,10 +24,11 @@ use Rattle.ng_app.specs.declared.fault.Member.TheVariants as the
 use Rattle.ng_app.specs.declared.fault.AppKind.TheVariants as kind
 use Rattle.ng_app.specs.declared.fault.AppFault.{AppFault}
 
--- what a page begins with: the data stands in the object of the root scope; and what is installed and registered there, and
--- runs, before the template is linked
+-- what a page begins with: the data stands in the object of the root scope; the templates that may be included; and what is installed and
+-- registered on the root scope, and runs there, before the page's template is linked
 pub record Facts : Type 0 where
   pub core : act.State
+  pub templates : List Partial
   pub functions : List Declared
   pub run : Trees
   pub watches : List Watched
@@ -51,12 +54,9 @@ are_known (member k d ms) = is_some (member_named k) && are_known ms
 abbrev pub has : List ℕ → Members → Bool
 has n ms = is_some (get_member n ms)
 
--- the first member, in the order of the table, that is there and not built yet
+-- a member that is there and not built yet
 abbrev pub first_later : Members → Option Member
-first_later ms =
-    if has (codes "templates") ms then Some the.Templates
-    else if has (codes "directives") ms then Some the.Directives
-    else None
+first_later ms = if has (codes "directives") ms then Some the.Directives else None
 
 -- the one format is the whole number 1, which is meant too where none is named
 abbrev pub is_one : Option ℕ → Bool
@@ -79,6 +79,7 @@ data_given (Some d) = d
 
 -- the entries of the members, each of its form
 pub record Written : Type 0 where
+  pub templates : List TemplateEntry
   pub functions : List FunctionEntry
   pub run : List ℕ
   pub watches : List WatchEntry
@@ -86,11 +87,12 @@ pub record Written : Type 0 where
 
 abbrev pub written : Members → Result Written AppFault
 written ms =
+    template_entries (get_member (codes "templates") ms) >>= λ ts.
     function_entries (get_member (codes "functions") ms) >>= λ fs.
     run_entry (get_member (codes "run") ms) >>= λ r.
     watch_entries (get_member (codes "watch") ms) >>= λ ws.
     listener_entries (get_member (codes "on") ms) >>= λ ls.
-    Ok (record { functions = fs; run = r; watches = ws; listeners = ls })
+    Ok (record { templates = ts; functions = fs; run = r; watches = ws; listeners = ls })
 
 -- why JSON is not read as data
 abbrev pub data_fault : JsonFault → AppFault
@@ -106,15 +108,16 @@ begun_with objects (Err e) = Err (data_fault e)
 abbrev pub core_with : Data → Result act.State AppFault
 core_with d = begun_with (first_objects d).0 (first_objects d).1
 
--- the data is read, and then the programs, member by member
+-- the data is read, and then the templates and the programs, member by member
 abbrev pub facts_with : Data → Written → Result Facts AppFault
 facts_with d w =
     core_with d >>= λ c.
+    templates_read [] w.templates >>= λ ts.
     functions_read [] w.functions >>= λ fs.
     program_at the.Run 0 w.run >>= λ r.
     watches_read [] w.watches >>= λ ws.
     listeners_read [] w.listeners >>= λ ls.
-    Ok (record { core = c; functions = fs; run = r; watches = ws; listeners = ls })
+    Ok (record { core = c; templates = ts; functions = fs; run = r; watches = ws; listeners = ls })
 
 -- the members are of their kinds, in the order of the table
 abbrev pub facts_of_data : Option Data → Members → Result Facts AppFault

@@ -14,6 +14,7 @@ use Rattle.ng_app.specs.declared.fault.AppFault.{AppFault}
 use Rattle.ng_app.specs.declared.entries.Form.{Form}
 use Rattle.ng_app.specs.declared.entries.Form.TheVariants as form
 use Rattle.ng_app.specs.declared.entries.FunctionEntry.{FunctionEntry}
+use Rattle.ng_app.specs.declared.entries.TemplateEntry.{TemplateEntry}
 use Rattle.ng_app.specs.declared.entries.WatchEntry.{WatchEntry}
 use Rattle.ng_app.specs.declared.entries.ListenerEntry.{ListenerEntry}
 
@@ -110,10 +111,18 @@ listener_entry d =
     option_map (λ t. record { name = n; body = t })
     (text_in (codes "do") ms)) (text_in (codes "name") ms)) (formed form.Listener d)
 
+abbrev pub template_entry : List ℕ → Data → Option TemplateEntry
+template_entry name d = option_map (λ t. record { name = name; text = t }) (text_of (Some d))
+
 -- an entry is of its form, or it is refused
 abbrev pub with_entry : {A B : Type 0} → AppFault → Option A → (A → Result B AppFault) → Result B AppFault
 with_entry f None go = Err f
 with_entry f (Some x) go = go x
+
+-- the templates in the order of their names, after those that are read
+abbrev pub templates_after : List TemplateEntry → Members → Result (List TemplateEntry) AppFault
+templates_after done no_members = Ok done
+templates_after done (member k d ms) = with_entry (fault_at the.Templates (length done) kind.Shape) (template_entry (chars k) d) (λ t. templates_after (done ++ t ∷ []) ms)
 
 -- the functions in the order of their names, after those that are read
 abbrev pub functions_after : List FunctionEntry → Members → Result (List FunctionEntry) AppFault
@@ -129,6 +138,10 @@ listeners_after done no_items = Ok done
 listeners_after done (item d ds) = with_entry (fault_at the.On (length done) kind.Shape) (listener_entry d) (λ l. listeners_after (done ++ l ∷ []) ds)
 
 -- a member that may be missing
+abbrev pub template_entries : Option Data → Result (List TemplateEntry) AppFault
+template_entries None = Ok []
+template_entries (Some d) = with_entry (fault the.Templates kind.Shape) (as_object d) (templates_after [])
+
 abbrev pub function_entries : Option Data → Result (List FunctionEntry) AppFault
 function_entries None = Ok []
 function_entries (Some d) = with_entry (fault the.Functions kind.Shape) (as_object d) (functions_after [])

@@ -2,6 +2,7 @@ pub mod Free
 pub mod Refused
 pub mod Entries
 pub mod Programs
+pub mod Templates
 pub mod App
 pub mod Installing
 pub mod Fresh

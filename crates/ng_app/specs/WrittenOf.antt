@@ -3,4 +3,4 @@ use Rattle.ng_app.specs.App.{Written}
 use Rattle.ng_app.specs.declared.reading.Written.{Written as Entries}
 
 abbrev pub written_of : Entries → Written
-written_of w = record { functions = w.functions.items; run = w.run; watches = w.watches.items; listeners = w.listeners.items }
+written_of w = record { templates = w.templates.items; functions = w.functions.items; run = w.run; watches = w.watches.items; listeners = w.listeners.items }

@@ -2,16 +2,17 @@
 ghost use Rattle.std.specs.Prelude.{◌≡◌, length};
 ghost use Rattle.ng_app.specs.Fresh.{IsFresh};
 
-use crate::items::{AppFunction, AppListener, AppWatch};
+use crate::items::{AppFunction, AppListener, AppTemplate, AppWatch};
 use ng_collect::Registry;
 use ng_core::core_state::Core;
 use ng_parse::Program;
 
-/// An application that was read: the core that its page begins with, what is to be installed and registered there, the
-/// program that runs first, and its directives.
+/// An application that was read: the core that its page begins with, the templates that may be included, what is to be installed and
+/// registered on the root scope, the program that runs first, and its directives.
 #[derive(Drop)]
 pub struct App {
     pub(crate) core: Core,
+    pub(crate) templates: Vec<AppTemplate>,
     pub(crate) functions: Vec<AppFunction>,
     pub(crate) run: Program,
     pub(crate) watches: Vec<AppWatch>,

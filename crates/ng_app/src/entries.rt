@@ -3,7 +3,7 @@ ghost use Rattle.std.specs.Prelude.{◌≡◌, [], codes, Some, None, option_map
 ghost use Rattle.std.specs.Str.{chars};
 ghost use Rattle.serde_json.specs.View.{view, members_view, items_view};
 ghost use Rattle.ng_base.specs.Meets.{Gives};
-ghost use Rattle.ng_app.specs.Entries.{is_function_name, is_watch_name, is_listener_name, is_name_of, has_form, formed, kind_named, kind_of, function_entry, watch_entry, listener_entry, functions_after, watches_after, listeners_after, function_entries, watch_entries, listener_entries, run_entry};
+ghost use Rattle.ng_app.specs.Entries.{is_function_name, is_watch_name, is_listener_name, is_name_of, has_form, formed, kind_named, kind_of, template_entry, function_entry, watch_entry, listener_entry, templates_after, functions_after, watches_after, listeners_after, template_entries, function_entries, watch_entries, listener_entries, run_entry};
 ghost use Rattle.ng_app.specs.Free.{is_app_want};
 
 use crate::fault::{AppFault, AppKind, Member};
@@ -21,6 +21,13 @@ pub enum Form {
     Function,
     Watch,
     Listener,
+}
+
+/// A template: its name and its text.
+#[derive(Drop)]
+pub struct TemplateEntry {
+    pub(crate) name: Txt,
+    pub(crate) text: Txt,
 }
 
 /// A function: its name, its parameters, the text of its program.
@@ -139,6 +146,21 @@ fn kind_of(value: Option<&Json>) -> Option<SnapKind>
     }
 }
 
+/// A template under its name.
+fn template_entry(
+    alloc: Global,
+    name: &str,
+    value: &Json,
+) -> Result<Option<TemplateEntry>, AllocError>
+    ensures { IfOk result (λ t. t ≡ template_entry (chars name.now) (view value.now)) }
+{
+    let Some(text) = text_of(alloc, value)? else {
+        return Ok(None);
+    };
+    let name = Txt::from_str(alloc, name)?;
+    Ok(Some(TemplateEntry { name, text }))
+}
+
 /// A function under its name.
 fn function_entry(
     alloc: Global,
@@ -197,6 +219,23 @@ fn listener_entry(alloc: Global, value: &Json) -> Result<Option<ListenerEntry>, 
     Ok(Some(ListenerEntry { name, body }))
 }
 
+/// The templates of an object, in the order of their names.
+fn templates_from(
+    alloc: Global,
+    members: &Map<String, Json>,
+) -> Result<Vec<TemplateEntry>, AppFault>
+    ensures { Gives is_app_want (λ v. v.items) (templates_after [] (members_view members.now.entries)) result }
+{
+    let mut entries = Vec::new(alloc);
+    for (name, value) in members {
+        match template_entry(alloc, name.as_str(), value)? {
+            None => return Err(fault_at(Member::Templates, entries.len(), AppKind::Shape)),
+            Some(entry) => entries.push(entry)?,
+        }
+    }
+    Ok(entries)
+}
+
 /// The functions of an object, in the order of their names.
 fn functions_from(
     alloc: Global,
@@ -238,6 +277,20 @@ fn listeners_from(alloc: Global, items: &[Json]) -> Result<Vec<ListenerEntry>, A
         }
     }
     Ok(entries)
+}
+
+/// The entries of `templates`.
+pub(crate) fn template_entries(
+    alloc: Global,
+    value: Option<&Json>,
+) -> Result<Vec<TemplateEntry>, AppFault>
+    ensures { Gives is_app_want (λ v. v.items) (template_entries (option_map (λ v. view v.now) value.entry)) result }
+{
+    match value {
+        None => Ok(Vec::new(alloc)),
+        Some(Json::Object(members)) => templates_from(alloc, members),
+        Some(_) => Err(fault(Member::Templates, AppKind::Shape)),
+    }
 }
 
 /// The entries of `functions`.

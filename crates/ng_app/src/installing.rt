@@ -1,11 +1,13 @@
 //! What is installed and registered on the root scope before the application's program runs.
-ghost use Rattle.std.specs.Prelude.{◌≡◌, ◌<◌, length, map, IfOk, OnOk, IsOk};
+ghost use Rattle.std.specs.Prelude.{◌≡◌, ◌<◌, ◌++◌, length, map, IfOk, OnOk, IsOk};
 ghost use Rattle.ng_core.specs.Frames.{state_of, IsSound};
+ghost use Rattle.ng_app.specs.Templates.{all_named};
+ghost use Rattle.ng_template.specs.Kept.{templates_of};
 ghost use Rattle.ng_app.specs.Installing.{installs, declares, registers, installs_all, declares_all, registers_all};
-ghost use Rattle.ng_app.specs.ProgramsOf.{function_of, watch_of, listener_of};
+ghost use Rattle.ng_app.specs.ProgramsOf.{partial_of, function_of, watch_of, listener_of};
 
 use crate::app::App;
-use crate::items::{AppFunction, AppListener, AppWatch};
+use crate::items::{AppFunction, AppListener, AppTemplate, AppWatch};
 use ng_base::fault::{Fault, Memory};
 use ng_base::name::{FunId, ScopeId};
 use ng_base::value::Value;
@@ -13,6 +15,7 @@ use ng_base::view::View;
 use ng_core::core_state::{Core, Function};
 use ng_core::scope_calls::{listen, watch_declared};
 use ng_parse::Program;
+use ng_template::Templates;
 
 /// Registering asks for memory alone.
 fn registered(end: Result<View, Fault>) -> Result<(), Memory>
@@ -121,15 +124,27 @@ fn register_all(core: &mut Core, listeners: Vec<AppListener>) -> Result<(), Memo
     Ok(())
 }
 
+/// Templates are kept by their names.
+fn keep_all(templates: &mut Templates, all: Vec<AppTemplate>) -> Result<(), Memory>
+    ensures { OnOk result (templates_of templates.new ≡ templates_of templates.old ++ all_named (map partial_of all.items)) }
+{
+    for one in all {
+        let AppTemplate { name, template } = one;
+        templates.add(Some(name), template)?;
+    }
+    Ok(())
+}
+
 impl App {
     ghost use Rattle.ng_app.specs.AppOf.{facts};
     ghost use Rattle.ng_app.specs.Installing.{installed};
     ghost use Rattle.ng_parse.specs.ProgramOf.{program as trees_of};
 
-    /// Installs the functions, declares the watches and registers the listeners. Gives the core, and the program that runs
-    /// next.
-    pub fn begin(self) -> Result<(Core, Program), Memory>
+    /// Keeps the templates by their names after those that are there, installs the functions, declares the watches and registers the
+    /// listeners. Gives the core, and the program that runs next.
+    pub fn begin(self, templates: &mut Templates) -> Result<(Core, Program), Memory>
         ensures state { IfOk result (λ r. state_of r.0 ≡ installed (facts self)) }
+        ensures templates { OnOk result (templates_of templates.new ≡ templates_of templates.old ++ all_named (facts self).templates) }
         ensures run { IfOk result (λ r. trees_of r.1 ≡ (facts self).run) }
         ensures sound { IfOk result (λ r. IsSound r.0) }
         ensures root { IfOk result (λ r. length r.0.scopes ≡ 1) }
@@ -137,6 +152,7 @@ impl App {
     {
         let App {
             core,
+            templates: all,
             functions,
             run,
             watches,
@@ -144,6 +160,7 @@ impl App {
             ..
         } = self;
         let mut core = core;
+        keep_all(templates, all)?;
         install_all(&mut core, functions)?;
         declare_all(&mut core, watches)?;
         register_all(&mut core, listeners)?;

@@ -1,4 +1,4 @@
-//! What an application installs and registers on the root scope.
+//! What an application includes, and what it installs and registers on the root scope.
 ghost use Rattle.std.specs.Prelude.{◌≡◌, true};
 ghost use Rattle.ng_parse.specs.ProgramOf.{program as trees_of};
 ghost use Rattle.ng_view.specs.Purity.{are_pure, all_filters_known};
@@ -7,6 +7,14 @@ use ng_base::lists::Names;
 use ng_base::txt::Txt;
 use ng_language::snapshots::SnapKind;
 use ng_parse::Program;
+use ng_template::Tpl;
+
+/// A template that may be included, by its name.
+#[derive(Drop)]
+pub struct AppTemplate {
+    pub(crate) name: Txt,
+    pub(crate) template: Tpl,
+}
 
 /// A function that is to be installed: its name, its parameters, its program.
 #[derive(Drop)]

@@ -1,7 +1,7 @@
 //! The application: what its file gives a page to begin with.
 //!
 //! `App::read` reads the file, a JSON object whose members are optional: `data` becomes the properties of the root scope, in
-//! the core that the page begins with; `functions` are installed on the root scope; `run` is a program that runs there; `watch`
+//! the core that the page begins with; `templates` are what `ng-include` knows by name; `functions` are installed on the root scope; `run` is a program that runs there; `watch`
 //! and `on` are watches and listeners of the root scope (guide: Scopes; API: `$rootScope.Scope`, `$watch`, `$on`).
 //! `App::begin` installs and registers them, and gives the core and the program that is still to run.
 //!
@@ -9,10 +9,10 @@
 //! the number of its entry, and why; want of memory alone is free. `installed` (specs/Installing) says what `App::begin` does.
 //!
 //! In reading order: `fault` has the refusals; `members` looks into JSON; `entries` reads what an entry is, as it is written,
-//! and `parameters` the names in it; `items` are what the entries spell, and `programs` reads that; `app` and `reading` are the application;
+//! and `parameters` the names in it; `items` are what the entries spell, `programs` reads that, and `templates` compiles the templates; `app` and `reading` are the application;
 //! `installing` is its beginning.
 //!
-//! Nothing here knows of templates, watchers or documents. Templates and directives of an application are not built yet.
+//! Nothing here knows of watchers or of a page's document. Directives of an application are not built yet.
 #![tactic(auto)]
 
 pub mod app;
@@ -24,6 +24,7 @@ mod members;
 mod parameters;
 mod programs;
 mod reading;
+mod templates;
 
 pub use app::App;
 pub use fault::{AppFault, AppKind, Member};

@@ -13,12 +13,13 @@ ghost use Rattle.ng_app.specs.WrittenOf.{written_of};
 
 use crate::app::App;
 use crate::entries::{
-    FunctionEntry, ListenerEntry, WatchEntry, function_entries, listener_entries, run_entry,
-    watch_entries,
+    FunctionEntry, ListenerEntry, TemplateEntry, WatchEntry, function_entries, listener_entries,
+    run_entry, template_entries, watch_entries,
 };
 use crate::fault::{AppFault, AppKind, Member};
 use crate::members::{fault, is_there, member};
 use crate::programs::{functions_read, listeners_read, program_at, watches_read};
+use crate::templates::templates_read;
 use ng_base::fault::Memory;
 use ng_base::txt::Txt;
 use ng_collect::Registry;
@@ -75,13 +76,11 @@ fn has_format(members: &Map<String, Json>) -> bool
     }
 }
 
-/// The first member, in the order of the table, that is there and not built yet.
+/// A member that is there and not built yet.
 fn later_member(members: &Map<String, Json>) -> Option<Member>
     ensures { result ≡ first_later (members_view members.now.entries) }
 {
-    if is_there(members, "templates") {
-        Some(Member::Templates)
-    } else if is_there(members, "directives") {
+    if is_there(members, "directives") {
         Some(Member::Directives)
     } else {
         None
@@ -134,6 +133,7 @@ fn is_data(data_member: Option<&Json>) -> bool
 /// The entries of the members.
 #[derive(Drop)]
 struct Written {
+    templates: Vec<TemplateEntry>,
     functions: Vec<FunctionEntry>,
     run: Txt,
     watches: Vec<WatchEntry>,
@@ -144,11 +144,13 @@ struct Written {
 fn read_entries(alloc: Global, members: &Map<String, Json>) -> Result<Written, AppFault>
     ensures { Gives is_app_want written_of (written_in (members_view members.now.entries)) result }
 {
+    let templates = template_entries(alloc, member(members, "templates"))?;
     let functions = function_entries(alloc, member(members, "functions"))?;
     let run = run_entry(alloc, member(members, "run"))?;
     let watches = watch_entries(alloc, member(members, "watch"))?;
     let listeners = listener_entries(alloc, member(members, "on"))?;
     Ok(Written {
+        templates,
         functions,
         run,
         watches,
@@ -156,7 +158,7 @@ fn read_entries(alloc: Global, members: &Map<String, Json>) -> Result<Written, A
     })
 }
 
-/// The data is read, and then the programs, member by member.
+/// The data is read, and then the templates and the programs, member by member.
 fn read_programs(
     alloc: Global,
     data_member: Option<&Json>,
@@ -165,19 +167,22 @@ fn read_programs(
     ensures { Gives is_app_want facts (facts_with (data_given (option_map (λ v. view v.now) data_member.entry)) (written_of entries)) result }
 {
     let Written {
+        templates,
         functions,
         run,
         watches,
         listeners,
     } = entries;
     let core = read_core(alloc, data_member)?;
+    let registry = Registry::new(alloc)?;
+    let templates = templates_read(alloc, templates, &registry)?;
     let functions = functions_read(alloc, functions)?;
     let run = program_at(alloc, Member::Run, 0, run)?;
     let watches = watches_read(alloc, watches)?;
     let listeners = listeners_read(alloc, listeners)?;
-    let registry = Registry::new(alloc)?;
     Ok(App {
         core,
+        templates,
         functions,
         run,
         watches,
@@ -245,7 +250,8 @@ fn parsed(alloc: Global, bytes: &[u8]) -> Result<Json, AppFault>
 impl App {
     /// Reads an application file. The refusals come in this order: JSON that is broken; no object, or a member of another name;
     /// a member that is not built yet; a member that is not of its kind, in the order of the table; a number of the data that is
-    /// not whole or out of range, and more than 1,000,000 objects and arrays; then of `functions`, `run`, `watch` and `on`, entry
+    /// not whole or out of range, and more than 1,000,000 objects and arrays; then of `templates`, entry by entry, a text that is no document
+    /// and one that is no template; then of `functions`, `run`, `watch` and `on`, entry
     /// by entry, a program that is none, and of what is watched one that is not pure.
     pub fn read(alloc: Global, bytes: &[u8]) -> Result<App, AppFault>
         ensures { Gives is_app_want facts (facts_of bytes.now) result }

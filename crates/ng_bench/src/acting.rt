@@ -13,6 +13,7 @@ use ng_core::core_state::Core;
 use ng_core::scope_calls::listen;
 use ng_lex::lex;
 use ng_parse::{Program, parse};
+use ng_template::Templates;
 use std::alloc::Global;
 
 /// An application with a function.
@@ -29,7 +30,8 @@ fn begun(alloc: Global) -> Option<Core>
     ensures root { IfSome result (λ core. 0 < length core.scopes) }
 {
     let app = App::read(alloc, APPLICATION).ok()?;
-    match app.begin() {
+    let mut templates = Templates::new(alloc);
+    match app.begin(&mut templates) {
         Ok((core, _)) => Some(core),
         Err(_) => None,
     }

@@ -1,11 +1,11 @@
--- Which bodies a value calls for; and of a switch, which cases: those that have its text, or else the defaults (API: ngIf, ngSwitch).
+-- Which bodies a value calls for; and of a switch, which cases: those that have its text, or else the defaults (API: ngIf, ngSwitch, ngInclude).
 use Rattle.std.specs.Prelude.{ℕ, ◌==◌, Bool, false, not, List, [], ◌∷◌, ◌++◌, Option, Some, None, if◌then◌else◌}
 use Rattle.std.specs.List.{list_any}
 use Rattle.ng_base.specs.Views.{ViewTree}
 use Rattle.ng_blocks.specs.Switching.{matches}
 use Rattle.ng_language.specs.Texts.{text_of}
 use Rattle.ng_drawing.specs.Looks.{is_kept_true}
-use Rattle.ng_drawing.specs.Template.{Filling, body_if, on_case, for_each, Outlet}
+use Rattle.ng_drawing.specs.Template.{Filling, body_if, on_case, for_each, by_name, Outlet}
 
 -- a case has a text, or it is a default
 abbrev pub Case : Type 0
@@ -15,6 +15,7 @@ abbrev pub case_in : Filling → List Case
 case_in (body_if b) = []
 case_in (on_case c b) = c ∷ []
 case_in (for_each r b) = []
+case_in (by_name b) = []
 
 -- the cases of a switch, by its site, in document order
 abbrev pub cases_of : List Outlet → ℕ → List Case
@@ -36,3 +37,4 @@ abbrev pub calls_for : List Case → Filling → Option ViewTree → Bool
 calls_for cases (body_if b) v = is_kept_true v
 calls_for cases (on_case c b) v = is_chosen_by cases v c
 calls_for cases (for_each r b) v = false
+calls_for cases (by_name b) v = is_kept_true v

@@ -1,5 +1,5 @@
--- What an instance of the code stands for, where the fragments of templates are known by their numbers.
-use Rattle.std.specs.Prelude.{ℕ, List, map, option_map}
+-- What an instance of the code stands for, where it is known of which fragment each is one.
+use Rattle.std.specs.Prelude.{List, map, option_map}
 use Rattle.ng_value.specs.Snaps.{snap_of}
 use Rattle.ng_drawing.specs.Instance.{SiteState, Instance, Instances, Group, instance_with, instances_from, outlets_from}
 use Rattle.ng_drawing.specs.Roles.{Role}
@@ -11,17 +11,18 @@ use Rattle.ng_drawing.specs.declared.instance.Instances as code_instances
 use Rattle.ng_drawing.specs.declared.instance.Instance.{fold-Instance}
 use Rattle.ng_drawing.specs.declared.instance.Instances.{fold-Instances}
 use Rattle.ng_drawing.specs.declared.instance.Instance.TheOpen.{Instance-F, Instances-F}
+use Rattle.ng_drawing.specs.declared.origin.Origin.{Origin}
 
 abbrev pub state_of : code_state.SiteState → SiteState
 state_of s = record { key = s.key; scope = s.scope.0; kept = option_map snap_of s.kept; rests = s.rests }
 
--- the fragment of a number, of the template of a number
+-- the fragment that an instance is one of
 abbrev pub Fragments : Type 0
-Fragments = ℕ → ℕ → Fragment
+Fragments = Origin → Fragment
 
 -- one level, with the bodies inside seen already
 abbrev pub instance_step : Fragments → Instance-F Instance Group → Instance
-instance_step fragments v = instance_with (fragments v.template.0 v.fragment) v.scope.0 (map state_of v.sites.items) (outlets_from v.outlets.items)
+instance_step fragments v = instance_with (fragments v.origin) v.scope.0 (map state_of v.sites.items) (outlets_from v.outlets.items)
 
 abbrev pub instances_step : Instances-F Instance Group → Group
 instances_step v = (map role_of v.roles.items, instances_from v.items.items)

@@ -5,6 +5,8 @@ pub mod Cases
 pub mod Roles
 pub mod RolesOf
 pub mod Rows
+pub mod Included
+pub mod Origins
 pub mod Drawing
 pub mod Instance
 pub mod InstanceOf

@@ -1,4 +1,5 @@
--- What a body stands for: nothing but itself, or an entry of a collection, by which a repeat knows its rows (API: ngRepeat).
+-- What a body stands for: nothing but itself; or an entry of a collection, by which a repeat knows its rows (API: ngRepeat); or the template
+-- of a name (API: ngInclude).
 use Rattle.std.specs.Prelude.{ℕ, ◌&&◌, Bool, true, false, List, [], ◌∷◌, Option, None, Some, if◌then◌else◌}
 use Rattle.std.specs.Str.{bytes_eq}
 use Rattle.ng_base.specs.Views.{ViewTree, ViewTrees, ViewFields, prim, list, rec, no_views, view_then, no_fields, field_then}
@@ -11,10 +12,11 @@ pub record Entry : Type 0 where
   pub name : Option (List ℕ)
   pub value : ViewTree
 
--- a body alone, or the row of an entry, which is known by its track key
+-- a body alone, or the row of an entry, which is known by its track key, or a body with the template of a name in it
 pub data Role : Type 0 where
   a_body : Role
   a_row : TrackKey → Entry → Role
+  a_named : List ℕ → Role
 
 abbrev pub item_entries : ViewTrees → List Entry
 item_entries no_views = []
@@ -47,12 +49,24 @@ same_entry e f = same_name e.name f.name && same_view e.value f.value
 abbrev pub is_row_of : Entry → Role → Bool
 is_row_of e a_body = false
 is_row_of e (a_row k f) = same_entry e f
+is_row_of e (a_named w) = false
 
 -- whether bodies are the rows of these entries, in their order
 abbrev pub are_rows : List Entry → List Role → Bool
 are_rows [] [] = true
 are_rows (e ∷ es) (r ∷ rs) = is_row_of e r && are_rows es rs
 are_rows es rs = false
+
+-- whether there is one body, with the template of a name in it
+abbrev pub is_named_so : List ℕ → Role → Bool
+is_named_so w a_body = false
+is_named_so w (a_row k f) = false
+is_named_so w (a_named v) = bytes_eq v w
+
+abbrev pub is_one_named : List ℕ → List Role → Bool
+is_one_named w [] = false
+is_one_named w (r ∷ []) = is_named_so w r
+is_one_named w (r ∷ s ∷ rs) = false
 
 -- whether there is a body
 abbrev pub has_roles : List Role → Bool

@@ -82,11 +82,13 @@ pub record Repeated : Type 0 where
   pub track : Option Trees
 
 -- How an outlet is filled: the body of this number stands while the value of its site is true (API: ngIf); or it is a case of a switch, with
--- its text, or a default (API: ngSwitch); or there is one of it for each entry of a collection (API: ngRepeat).
+-- its text, or a default (API: ngSwitch); or there is one of it for each entry of a collection (API: ngRepeat); or it stands while the value is
+-- true, with the template in it that the value names (API: ngInclude).
 pub data Filling : Type 0 where
   body_if : (body : ℕ) → Filling
   on_case : (text : Option (List ℕ)) → (body : ℕ) → Filling
   for_each : Repeated → (body : ℕ) → Filling
+  by_name : (body : ℕ) → Filling
 
 -- an outlet is filled by the value of a site
 pub record Outlet : Type 0 where

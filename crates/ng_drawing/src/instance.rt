@@ -1,6 +1,7 @@
 //! An instance of a fragment in the code. `specs/InstanceOf.antt` says what it stands for.
+use crate::origin::Origin;
 use crate::roles::Role;
-use ng_base::name::{ScopeId, TplId};
+use ng_base::name::ScopeId;
 use ng_base::path::Key;
 use ng_value::snapshot::Snap;
 
@@ -14,13 +15,11 @@ pub struct SiteState {
     pub rests: bool,
 }
 
-/// An instance of a fragment, which is known by its number in its template: its scope, what was added to each site, by the site's
-/// number, and the bodies that fill each outlet.
+/// An instance of a fragment: its scope, what was added to each site, by the site's number, and the bodies that fill each outlet.
 #[cycle(instance)]
 #[derive(Drop)]
 pub struct Instance {
-    pub template: TplId,
-    pub fragment: u32,
+    pub origin: Origin,
     pub scope: ScopeId,
     pub sites: Vec<SiteState>,
     pub outlets: Vec<Instances>,

@@ -1,9 +1,9 @@
-//! What a body stands for: nothing but itself, or an entry of a collection (API: ngRepeat).
+//! What a body stands for: nothing but itself, an entry of a collection (API: ngRepeat), or the template of a name (API: ngInclude).
 ghost use Rattle.std.specs.Prelude.{◌≡◌, ◌∷◌, [], map, MatchOption, IfOk};
 ghost use Rattle.ng_base.specs.Views.{views_from, fields_from};
 ghost use Rattle.ng_base.specs.ViewOf.{view_of, fields_of, field_of};
 ghost use Rattle.ng_language.specs.Unfolding.{is_dollar as begins_with_dollar};
-ghost use Rattle.ng_drawing.specs.Roles.{item_entries, named_entries, entries_in as entries_of_view, same_name as same_names, same_entry as same_entries, is_row_of as is_row, are_rows as are_rows_of};
+ghost use Rattle.ng_drawing.specs.Roles.{item_entries, named_entries, entries_in as entries_of_view, same_name as same_names, same_entry as same_entries, is_row_of as is_row, are_rows as are_rows_of, is_named_so, is_one_named as is_one_named_of};
 ghost use Rattle.ng_drawing.specs.RolesOf.{entry_of, entries_of, role_of};
 
 use crate::classes::parts_in;
@@ -23,11 +23,12 @@ pub struct Entry {
     pub value: Snap,
 }
 
-/// What a body stands for: nothing but itself, or an entry of a collection, whose row is known by its track key.
+/// What a body stands for: nothing but itself; or an entry of a collection, whose row is known by its track key; or the template of a name.
 #[derive(Drop)]
 pub enum Role {
     Body,
     Row(TrackKey, Entry),
+    Named(Txt),
 }
 
 /// Whether a name begins with `$`, so that it has no row.
@@ -114,6 +115,7 @@ fn is_row_of(entry: &Entry, role: &Role) -> bool
     match role {
         Role::Body => false,
         Role::Row(_, row) => same_entry(entry, row),
+        Role::Named(_) => false,
     }
 }
 
@@ -150,6 +152,27 @@ pub fn are_rows(entries: &[Entry], roles: &[Role]) -> bool
     right.is_empty()
 }
 
+/// Whether a body has the template of a name in it.
+fn is_named(name: &Txt, role: &Role) -> bool
+    ensures { result ≡ is_named_so name.now (role_of role.now) }
+{
+    match role {
+        Role::Body => false,
+        Role::Row(_, _) => false,
+        Role::Named(own) => own.same(name),
+    }
+}
+
+/// Whether there is one body, with the template of a name in it.
+pub fn is_one_named(name: &Txt, roles: &[Role]) -> bool
+    ensures { result ≡ is_one_named_of name.now (map role_of roles.now) }
+{
+    match first_role(roles) {
+        None => false,
+        Some((role, others)) => others.is_empty() && is_named(name, role),
+    }
+}
+
 impl Entry {
     /// The same entry again.
     pub fn copied(&self, alloc: Global) -> Result<Entry, Memory>
@@ -174,6 +197,7 @@ impl Role {
         match self {
             Role::Body => Ok(Role::Body),
             Role::Row(key, entry) => Ok(Role::Row(key.copied()?, entry.copied(alloc)?)),
+            Role::Named(name) => Ok(Role::Named(name.copied()?)),
         }
     }
 }

@@ -1,12 +1,16 @@
 -- What the steps of a block's fire leave.
-use Rattle.std.proofs.Common.{◌≡◌, ◌∙◌, ◌<◌, ℕ, zero, suc, Bool, true, false, List, [], ◌∷◌, length, Option, Some, None, refl, ap, sym, subst, arith, if◌then◌else◌}
+use Rattle.std.proofs.Common.{◌≡◌, ◌∙◌, ◌<◌, ℕ, zero, suc, Bool, true, false, List, [], ◌∷◌, length, Option, Some, None, refl, ap, sym, subst, arith, if◌then◌else◌, cond}
+use Rattle.std.proofs.Math.Bool.{or-false}
 use Rattle.std.specs.Prelude.{◌&&◌, Result, Ok, Err, IsSome, nat_lt, slice_get}
 use Rattle.ng_core.specs.Burying.{buried}
 use Rattle.ng_core.specs.State as act
 use Rattle.ng_base.specs.Objects.{Object}
+use Rattle.ng_base.specs.declared.fault.Fault.TheVariants.{Depth}
 use Rattle.ng_base.specs.declared.fault.Memory.{Memory}
 use Rattle.ng_base.specs.declared.fault.Memory.TheVariants.{Worn}
 use Rattle.ng_base.specs.declared.name.ScopeId.{ScopeId}
+use Rattle.ng_drawing.specs.Origins.{is_too_deep}
+use Rattle.ng_drawing.specs.declared.origin.Origin.{Origin}
 use Rattle.ng_scopes.specs.Answers.{named_scope, next_number, next_scope_name}
 use Rattle.ng_store.specs.declared.store.StoreFault.{StoreFault}
 use Rattle.ng_store.specs.declared.store.StoreFault.TheVariants.{Full}
@@ -19,7 +23,7 @@ use Rattle.ng_fire.proofs.Numbered.{steps_instances, steps_rises}
 use Rattle.ng_fire.proofs.ScopePaths.{paths_of, same_path}
 use Rattle.ng_fire.proofs.Served.{serves_same, taken_serves}
 use Rattle.ng_fire.proofs.Wholes.{changed_linked, followed_linked}
-use Rattle.ng_fire.specs.Blocks.{Firing, ended, linked_then}
+use Rattle.ng_fire.specs.Blocks.{Firing, ended, discarded, faulted_with, linked_then, body_linked, body_on}
 use Rattle.ng_fire.specs.Links.{Linking, begins_linking, steps_linked, rested_on, link_by, link_at}
 use Rattle.ng_fire.specs.Runs.{destroy_run}
 use Rattle.ng_fire.specs.Serving.{outlets_in, outlet_count, Serves}
@@ -99,8 +103,8 @@ rested_linked true s p = refl
 rested_linked false s p = refl
 
 -- what holds of the instances, and where one comes in an outlet, holds once a body is linked
-module _ (holder : List ℕ) (o i : ℕ) (role : Role) (which : ℕ × ℕ) (scope : ℕ) (f : Fragment) (s : State) (P : Instances → Type 0) (same : P s.instances)
-    (comes : (m : Linked) → P (outlets_changed holder (body_added o i (record { path = path_at s.core.scopes scope; role = role })) (with_instance (path_at s.core.scopes scope) m s.instances))) where
+module _ (holder : List ℕ) (o i : ℕ) (role : Role) (which : Origin) (scope : ℕ) (f : Fragment) (s : State) (P : Instances → Type 0) (same : P s.instances)
+    (comes : (m : Linked) → m.page.scope ≡ scope → P (outlets_changed holder (body_added o i (record { path = path_at s.core.scopes scope; role = role })) (with_instance (path_at s.core.scopes scope) m s.instances))) where
   placed_holds : (g : Linking) → g.state.instances ≡ s.instances → path_at g.state.core.scopes scope ≡ path_at s.core.scopes scope
       → P (rested_on scope (placed_on (in_outlet holder o i role) which scope f g.serials g.state)).instances
   placed_holds g is path =
@@ -111,7 +115,7 @@ module _ (holder : List ℕ) (o i : ℕ) (role : Role) (which : ℕ × ℕ) (sco
       (ap (λ (q : List ℕ). outlets_changed holder (body_added o i (record { path = q; role = role })) (with_instance q l s.instances)) (sym path)
       ∙ (ap (λ (x : Instances). outlets_changed holder (body_added o i (record { path = p; role = role })) (with_instance p l x)) (sym is)
       ∙ sym (rested_linked (live_at t.core.scopes scope) t (path_at t.core.scopes scope))))
-      (comes l)
+      (comes l refl)
 
   by_holds : (r : Result (Unit {0}) Fault) → P (link_by (in_outlet holder o i role) which scope f r s).state.instances
   by_holds (Ok u) =
@@ -125,25 +129,49 @@ module _ (holder : List ℕ) (o i : ℕ) (role : Role) (which : ℕ × ℕ) (sco
       let l : Linking = link_at (in_outlet holder o i role) which scope f s in
       subst P (sym (changed_linked (with_core (buried scope l.state.core) l.state))) (by_holds (linked (live_nodes s) f.parts))
 
-module _ (holder : List ℕ) (o i : ℕ) (role : Role) (which : ℕ × ℕ) (scope : ℕ) (f : Fragment) (s : State) (lt : o < outlet_count holder s.instances) (free : linked_at (path_at s.core.scopes scope) s.instances ≡ None) where
-  pub then_serves : (r : Result (Unit {0}) Fault) (g : Firing) → Serves holder [] s.instances (linked_then scope r (link_at (in_outlet holder o i role) which scope f s) g).state.instances
-  then_serves r g =
-      then_holds holder o i role which scope f s (λ (is : Instances). Serves holder [] s.instances is) (serves_same holder [] s.instances s.instances refl)
-      (λ m. taken_serves holder o i role (path_at s.core.scopes scope) m s.instances lt free) r g
+  -- also where a template is included too deep
+  pub body_holds : (g : Firing) → P (body_on (in_outlet holder o i role) which f scope s g).state.instances
+  body_holds g = by_depth (is_too_deep which)
+    where
+      deep : Firing
+      deep = linked_then scope (Err Depth) (begins_linking s) g
+
+      by_depth : (b : Bool) → P (cond b deep (body_linked (in_outlet holder o i role) which f scope s g)).state.instances
+      by_depth true = subst P (sym (changed_linked (with_core (buried scope s.core) s))) same
+      by_depth false = then_holds (linked (live_nodes s) f.parts) g
+
+module _ (holder : List ℕ) (o i : ℕ) (role : Role) (which : Origin) (scope : ℕ) (f : Fragment) (s : State) (lt : o < outlet_count holder s.instances) (free : linked_at (path_at s.core.scopes scope) s.instances ≡ None) where
+  pub body_serves : (g : Firing) → Serves holder [] s.instances (body_on (in_outlet holder o i role) which f scope s g).state.instances
+  body_serves g =
+      body_holds holder o i role which scope f s (λ (is : Instances). Serves holder [] s.instances is) (serves_same holder [] s.instances s.instances refl)
+      (λ m on. taken_serves holder o i role (path_at s.core.scopes scope) m s.instances lt free) g
+
+-- a body where a template is included too deep, and where none is
+module _ (place : Place) (which : Origin) (f : Fragment) (child : ℕ) (s : State) (g : Firing) where
+  abbrev on_depth : Bool → Firing
+  on_depth b = cond b (linked_then child (Err Depth) (begins_linking s) g) (body_linked place which f child s g)
+
+  pub too_deep : is_too_deep which ≡ true → faulted_with Depth (record g { state = discarded child s }) ≡ body_on place which f child s g
+  too_deep deep =
+      ap (λ (b : Bool). faulted_with Depth (record { state = discarded child s; faulted = g.faulted; added = b })) (sym (or-false g.added))
+      ∙ sym (ap on_depth deep)
+
+  pub not_deep : is_too_deep which ≡ false → body_linked place which f child s g ≡ body_on place which f child s g
+  not_deep deep = sym (ap on_depth deep)
 
 -- a linking keeps the paths of the scopes
 rested_core : (b : Bool) (s : State) (p : List ℕ) → (let u : State = if b then s else left_at p s in u.core ≡ s.core)
 rested_core true s p = refl
 rested_core false s p = refl
 
-by_paths : (place : Place) (which : ℕ × ℕ) (scope : ℕ) (f : Fragment) (r : Result (Unit {0}) Fault) (s : State) → paths_of (link_by place which scope f r s).state.core.scopes ≡ paths_of s.core.scopes
+by_paths : (place : Place) (which : Origin) (scope : ℕ) (f : Fragment) (r : Result (Unit {0}) Fault) (s : State) → paths_of (link_by place which scope f r s).state.core.scopes ≡ paths_of s.core.scopes
 by_paths place which scope f (Ok u) s =
     let g : Linking = steps_linked scope (steps f.parts) (begins_linking s) in
     let t : State = placed_on place which scope f g.serials g.state in
     ap (λ (c : act.State). paths_of c.scopes) (rested_core (live_at t.core.scopes scope) t (path_at t.core.scopes scope)) ∙ (steps_rises scope (steps f.parts) (begins_linking s)).1
 by_paths place which scope f (Err e) s = (steps_rises scope (steps_within _ (steps f.parts)) (begins_linking s)).1
 
-pub link_paths : (place : Place) (which : ℕ × ℕ) (scope : ℕ) (f : Fragment) (s : State) → paths_of (link_at place which scope f s).state.core.scopes ≡ paths_of s.core.scopes
+pub link_paths : (place : Place) (which : Origin) (scope : ℕ) (f : Fragment) (s : State) → paths_of (link_at place which scope f s).state.core.scopes ≡ paths_of s.core.scopes
 link_paths place which scope f s = by_paths place which scope f (linked (live_nodes s) f.parts) s
 
 -- ---- what making a child answers

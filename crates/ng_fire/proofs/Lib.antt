@@ -17,6 +17,7 @@ pub mod LiveNodes
 pub mod Answered
 pub mod Served
 pub mod Bodies
+pub mod Named
 pub mod Once
 pub mod KeptRows
 pub mod RowsTaken

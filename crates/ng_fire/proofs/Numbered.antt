@@ -32,7 +32,7 @@ applied_core (adds w) s = core_choice (is_site s.instances (key_in s w.scope w.s
 applied_core (removes scope serial) s = core_choice (is_site s.instances (key_in s scope serial)) s _ refl
 applied_core (leaves scope) s = refl
 
-all_core : (cs : List Change) (s : State) → (applied_all cs s).core ≡ s.core
+pub all_core : (cs : List Change) (s : State) → (applied_all cs s).core ≡ s.core
 all_core [] s = refl
 all_core (c ∷ cs) s = all_core cs (applied c s) ∙ applied_core c s
 

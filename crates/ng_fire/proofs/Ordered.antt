@@ -6,6 +6,7 @@ use Rattle.std.specs.Map.{keys_of, remove_entry}
 use Rattle.std.specs.Prelude.{ℕ, not, None, Result, Ok, Err}
 use Rattle.ng_core.specs.State.{Run, Change, adds, removes, leaves, handed}
 use Rattle.ng_base.specs.declared.fault.Fault.{Fault}
+use Rattle.ng_base.specs.declared.fault.Fault.TheVariants.{Depth}
 use Rattle.ng_base.specs.declared.path.Key.{Key}
 use Rattle.ng_behaviour.specs.Scopes.{path_at, object_at, live_at}
 use Rattle.ng_drawing.specs.Nodes.{node_limit}
@@ -13,12 +14,14 @@ use Rattle.ng_base.specs.Views.{ViewTree}
 use Rattle.ng_core.specs.Burying.{buried}
 use Rattle.ng_core.specs.State as act
 use Rattle.ng_drawing.specs.Cases.{Case}
+use Rattle.ng_drawing.specs.Origins.{is_too_deep}
 use Rattle.ng_drawing.specs.Template.{Fragment, Site}
+use Rattle.ng_drawing.specs.declared.origin.Origin.{Origin}
 use Rattle.ng_template.specs.Kept.{fragments_in}
 use Rattle.ng_link.proofs.Sorted.{insert_sorted, filter_sorted, remove_sorted}
 use Rattle.ng_fire.specs.Changes.{applied, applied_all, changed, without_changes}
 use Rattle.ng_fire.specs.Links.{Linking, begins_linking, step_linked, steps_linked, link_by, link_at}
-use Rattle.ng_fire.specs.Blocks.{Firing, begins_firing, gone, ended, all_gone, child_run, linked_then, told_on, body_made, filled, goes, outlet_emptied, outlets_emptied, cases_due}
+use Rattle.ng_fire.specs.Blocks.{Firing, begins_firing, gone, ended, all_gone, child_run, linked_then, body_linked, told_on, body_made, filled, goes, outlet_emptied, outlets_emptied, cases_due}
 use Rattle.ng_fire.specs.SiteFires.{outlets_filled, outlets_fired, site_fired}
 use Rattle.ng_fire.proofs.RepeatWalks.{outlets_keep}
 use Rattle.ng_fire.specs.Runs.{program_run, followed, destroy_run}
@@ -66,7 +69,7 @@ sites_ordered path object (n ∷ ns) [] t h = h
 sites_ordered path object (n ∷ ns) (x ∷ xs) t h =
     sites_ordered path object ns xs (with_watch (key_on path n) (watching_site object x) t) (insert_sorted key_cmp key_cmp_total (key_on path n) (record { watch = watching_site object x; kept = None }) t h)
 
-pub placed_ordered : (place : Place) (which : ℕ × ℕ) (scope : ℕ) (f : Fragment) (serials : List ℕ) (s : State) → IsOrdered s → IsOrdered (placed_on place which scope f serials s)
+pub placed_ordered : (place : Place) (which : Origin) (scope : ℕ) (f : Fragment) (serials : List ℕ) (s : State) → IsOrdered s → IsOrdered (placed_on place which scope f serials s)
 placed_ordered place which scope f serials s h = sites_ordered (path_at s.core.scopes scope) (object_at s.core.scopes scope) serials f.sites s.watchers h
 
 -- ---- what programs leave
@@ -97,7 +100,7 @@ pub steps_ordered : (scope : ℕ) (xs : List LinkStep) (g : Linking) → IsOrder
 steps_ordered scope [] g h = h
 steps_ordered scope (x ∷ xs) g h = steps_ordered scope xs (step_linked scope x g) (step_ordered scope x g h)
 
-by_ordered : (place : Place) (which : ℕ × ℕ) (scope : ℕ) (f : Fragment) (r : Result (Unit {0}) Fault) (s : State) → IsOrdered s → IsOrdered (link_by place which scope f r s).state
+by_ordered : (place : Place) (which : Origin) (scope : ℕ) (f : Fragment) (r : Result (Unit {0}) Fault) (s : State) → IsOrdered s → IsOrdered (link_by place which scope f r s).state
 by_ordered place which scope f (Ok u) s h =
     let g : Linking = steps_linked scope (steps f.parts) (begins_linking s) in
     let p : State = placed_on place which scope f g.serials g.state in
@@ -105,7 +108,7 @@ by_ordered place which scope f (Ok u) s h =
     either (live_at p.core.scopes scope) p (left_at (path_at p.core.scopes scope) p) k (left_ordered (path_at p.core.scopes scope) p k)
 by_ordered place which scope f (Err e) s h = steps_ordered scope (steps_within (node_limit - live_nodes s) (steps f.parts)) (begins_linking s) h
 
-pub link_ordered : (place : Place) (which : ℕ × ℕ) (scope : ℕ) (f : Fragment) (s : State) → IsOrdered s → IsOrdered (link_at place which scope f s).state
+pub link_ordered : (place : Place) (which : Origin) (scope : ℕ) (f : Fragment) (s : State) → IsOrdered s → IsOrdered (link_at place which scope f s).state
 link_ordered place which scope f s h = by_ordered place which scope f (linked (live_nodes s) f.parts) s h
 
 -- ---- the fire of a block
@@ -127,20 +130,21 @@ then_ordered : (scope : ℕ) (r : Result (Unit {0}) Fault) (l : Linking) (g : Fi
 then_ordered scope (Ok u) l g h = h
 then_ordered scope (Err e) l g h = changed_ordered (with_core (buried scope l.state.core) l.state) h
 
-made_ordered : (place : Place) (names : List Local) (which : ℕ × ℕ) (f : Fragment) (c : act.State) (r : Result ℕ Fault) (g : Firing) → IsOrdered g.state → IsOrdered (body_made place names which f c r g).state
-made_ordered place names which f c (Err e) g h = h
-made_ordered place names which f c (Ok child) g h =
-    let s : State = with_core (told_on child names c) g.state in
-    then_ordered child (linked (live_nodes s) f.parts) (link_at place which child f s) g (link_ordered place which child f s h)
-
-filled_ordered : (place : Place) (scope : ℕ) (names : List Local) (which : ℕ × ℕ) (g : Firing) → IsOrdered g.state → IsOrdered (filled place scope names which g).state
-filled_ordered place scope names which g h =
-    let r = child_run scope g.state.core in
-    made_ordered place names which (fragments_in g.state.templates which.0 which.1) r.0 r.1 g h
-
 firing_either : (b : Bool) (g k : Firing) → IsOrdered g.state → IsOrdered k.state → IsOrdered (cond b g k).state
 firing_either true g k h j = h
 firing_either false g k h j = j
+
+made_ordered : (place : Place) (names : List Local) (which : Origin) (f : Fragment) (c : act.State) (r : Result ℕ Fault) (g : Firing) → IsOrdered g.state → IsOrdered (body_made place names which f c r g).state
+made_ordered place names which f c (Err e) g h = h
+made_ordered place names which f c (Ok child) g h =
+    let s : State = with_core (told_on child names c) g.state in
+    firing_either (is_too_deep which) (linked_then child (Err Depth) (begins_linking s) g) (body_linked place which f child s g) (then_ordered child (Err Depth) (begins_linking s) g h)
+    (then_ordered child (linked (live_nodes s) f.parts) (link_at place which child f s) g (link_ordered place which child f s h))
+
+filled_ordered : (place : Place) (scope : ℕ) (names : List Local) (which : Origin) (g : Firing) → IsOrdered g.state → IsOrdered (filled place scope names which g).state
+filled_ordered place scope names which g h =
+    let r = child_run scope g.state.core in
+    made_ordered place names which (fragments_in g.state.templates which) r.0 r.1 g h
 
 emptied_ordered : (holder : List ℕ) (v : ViewTree) (ds : List Due) (g : Firing) → IsOrdered g.state → IsOrdered (outlets_emptied holder v ds g).state
 emptied_ordered holder v [] g h = h

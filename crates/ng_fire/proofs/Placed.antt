@@ -5,7 +5,10 @@ use Rattle.std.proofs.lemmas.Bool.Decides.{nat_tests}
 use Rattle.std.specs.Prelude.{◌&&◌, nat_le, nat_lt, not, IsSome, option_and_then, option_map, slice_get}
 use Rattle.ng_base.specs.declared.path.Key.{Key}
 use Rattle.ng_behaviour.specs.Scopes.{Scope, path_at, object_at}
-use Rattle.ng_drawing.specs.Template.{Filling, body_if, on_case, for_each, Outlet, Fragment, Site, fragment_at}
+use Rattle.ng_drawing.specs.Origins.{inner_home}
+use Rattle.ng_drawing.specs.Template.{Filling, body_if, on_case, for_each, by_name, Outlet, Fragment, Site, fragment_at}
+use Rattle.ng_drawing.specs.declared.origin.Home.{Home}
+use Rattle.ng_drawing.specs.declared.origin.Origin.{Origin}
 use Rattle.ng_fire.proofs.Entries.{all_filtered, rows_filtered, rows_watched, rows_wider}
 use Rattle.ng_fire.proofs.Wholes.{Stays}
 use Rattle.ng_fire.specs.Whole.{HasBody, HasScope, HaveBodies, HaveScopes, RowsStand}
@@ -19,7 +22,8 @@ use Rattle.ng_link.specs.Rows.{watching_site, with_sites}
 use Rattle.ng_link.specs.Shape.{anchors, key_on}
 use Rattle.ng_link.specs.State.{State, Listening, templates_of}
 use Rattle.ng_link.specs.declared.works.Works.{Works}
-use Rattle.ng_template.specs.Kept.{Named, named_of, fragment_in}
+use Rattle.ng_template.proofs.Inclusion.{HasBodies, whole_for}
+use Rattle.ng_template.specs.Kept.{Named, named_of, fragment_for}
 use Rattle.ng_template.specs.Numbering.{is_body, is_outlet, is_whole, is_regular}
 use Rattle.ng_template.specs.declared.templates.Kept.{Kept}
 use Rattle.ng_watch.specs.Keys.{begins}
@@ -84,7 +88,7 @@ scopes_taken scopes at_top p is h = h
 scopes_taken scopes (in_outlet holder o i role) p is h = changed_all holder (body_added o i (record { path = p; role = role })) (λ (e : List ℕ × Linked). HasScope scopes e.0 e.1) is (λ l at one. record { scope = one.scope; path = one.path }) h
 
 abbrev pub OutletsHave : List Named → List OutletState → Type 0
-OutletsHave all os = AllByRecursion (λ (x : OutletState). HasBody all x.template x.filling) os
+OutletsHave all os = AllByRecursion (λ (x : OutletState). HasBody all x.home.template.0 x.filling) os
 
 have_added : (all : List Named) (b : Body) (n i : ℕ) (os : List OutletState) → OutletsHave all os → OutletsHave all (body_added n i b os)
 have_added all b n i [] h = tt
@@ -120,13 +124,6 @@ kept_regular (x ∷ ks) (suc t) k at = kept_regular ks t k at
 pub templates_regular : (w : Works) → AreRegular (templates_of w)
 templates_regular w t k at = kept_regular w.templates.items.items t k at
 
-fragment_kept : (all : List Named) (t n : ℕ) (f : Fragment) → fragment_in all t n ≡ Some f → (k : Named) × (slice_get all t ≡ Some k) × (fragment_at k.1 n ≡ Some f)
-fragment_kept all t n f at = by_kept (slice_get all t) refl at
-  where
-    by_kept : (o : Option Named) → slice_get all t ≡ o → option_and_then (λ (k : Named). fragment_at k.1 n) o ≡ Some f → (k : Named) × (slice_get all t ≡ Some k) × (fragment_at k.1 n ≡ Some f)
-    by_kept None e at = absurd (cc)
-    by_kept (Some k) e at = (k, e, at)
-
 -- a number up to that of the bodies is that of a fragment
 body_there : (own : Fragment) (bodies : List Fragment) (b : ℕ) → (nat_lt 0 b && nat_le b (length bodies)) ≡ true → IsSome (slice_get (own ∷ bodies) b)
 body_there own bodies b h =
@@ -144,25 +141,23 @@ body_there own bodies b h =
 filling_there : (all : List Named) (t : ℕ) (k : Named) (x : Filling) → slice_get all t ≡ Some k → is_body (length k.1.bodies) x ≡ true → HasBody all t x
 filling_there all t k (body_if b) at h = subst (λ (o : Option Named). IsSome (option_and_then (λ (y : Named). fragment_at y.1 b) o)) (sym at) (body_there k.1.own k.1.bodies b h)
 filling_there all t k (on_case c b) at h = subst (λ (o : Option Named). IsSome (option_and_then (λ (y : Named). fragment_at y.1 b) o)) (sym at) (body_there k.1.own k.1.bodies b h)
+filling_there all t k (by_name b) at h = subst (λ (o : Option Named). IsSome (option_and_then (λ (y : Named). fragment_at y.1 b) o)) (sym at) (body_there k.1.own k.1.bodies b h)
 filling_there all t k (for_each r b) at h = subst (λ (o : Option Named). IsSome (option_and_then (λ (y : Named). fragment_at y.1 b) o)) (sym at) (body_there k.1.own k.1.bodies b h)
 
-pub fragment_bodies : (all : List Named) (t n : ℕ) (f : Fragment) → AreRegular all → fragment_in all t n ≡ Some f → AllByRecursion (λ (o : Outlet). HasBody all t o.filling) f.outlets
-fragment_bodies all t n f regular at = each f.outlets (whole_numbers bodies f whole)
+pub fragment_bodies : (all : List Named) (o : Origin) (f : Fragment) → AreRegular all → fragment_for all o ≡ Some f → AllByRecursion (λ (x : Outlet). HasBody all (inner_home o).template.0 x.filling) f.outlets
+fragment_bodies all o f regular at = each f.outlets (whole_numbers bodies f kept.2)
   where
-    kept : (k : Named) × (slice_get all t ≡ Some k) × (fragment_at k.1 n ≡ Some f)
-    kept = fragment_kept all t n f at
+    kept : HasBodies all regular (inner_home o).template.0 f
+    kept = whole_for all regular o f at
 
     bodies : ℕ
     bodies = length kept.0.1.bodies
 
-    whole : is_whole bodies f ≡ true
-    whole = let_in (is_whole bodies) (kept.0.1.own ∷ kept.0.1.bodies) n f (regular t kept.0 kept.1) kept.2
-
-    each : (os : List Outlet) → list_all (is_outlet (length f.sites) bodies) os ≡ true → AllByRecursion (λ (o : Outlet). HasBody all t o.filling) os
+    each : (os : List Outlet) → list_all (is_outlet (length f.sites) bodies) os ≡ true → AllByRecursion (λ (x : Outlet). HasBody all (inner_home o).template.0 x.filling) os
     each [] h = tt
-    each (o ∷ os) h =
-        let two = both (is_outlet (length f.sites) bodies o) (list_all (is_outlet (length f.sites) bodies) os) h in
-        (filling_there all t kept.0 o.filling kept.1 (both (nat_lt o.site (length f.sites)) (is_body bodies o.filling) two.0).1, each os two.1)
+    each (x ∷ xs) h =
+        let two = both (is_outlet (length f.sites) bodies x) (list_all (is_outlet (length f.sites) bodies) xs) h in
+        (filling_there all (inner_home o).template.0 kept.0 x.filling kept.1 (both (nat_lt x.site (length f.sites)) (is_body bodies x.filling) two.0).1, each xs two.1)
 
 -- ---- an instance comes, or goes
 
@@ -171,12 +166,12 @@ rows_placed count is path o [] xs t h = h
 rows_placed count is path o (s ∷ ss) [] t h = h
 rows_placed count is path o (s ∷ ss) (x ∷ xs) t h = rows_placed count is path o ss xs (with_watch (key_on path s) (watching_site o x) t) (rows_watched count is (key_on path s) (watching_site o x) t h)
 
-outlets_have : (all : List Named) (t : ℕ) (ns : List ℕ) (os : List Outlet) (names : List ℕ) → AllByRecursion (λ (o : Outlet). HasBody all t o.filling) os → OutletsHave all (outlets_on t ns os names)
+outlets_have : (all : List Named) (t : Home) (ns : List ℕ) (os : List Outlet) (names : List ℕ) → AllByRecursion (λ (o : Outlet). HasBody all t.template.0 o.filling) os → OutletsHave all (outlets_on t ns os names)
 outlets_have all t ns [] names h = tt
 outlets_have all t ns (o ∷ os) [] h = tt
 outlets_have all t ns (o ∷ os) (a ∷ names) h = (h.0, outlets_have all t ns os names h.1)
 
-module _ (objects : ℕ) (place : Place) (which : ℕ × ℕ) (scope : ℕ) (f : Fragment) (serials : List ℕ) (s : State) where
+module _ (objects : ℕ) (place : Place) (which : Origin) (scope : ℕ) (f : Fragment) (serials : List ℕ) (s : State) where
   abbrev p : List ℕ
   p = path_at s.core.scopes scope
 
@@ -189,13 +184,13 @@ module _ (objects : ℕ) (place : Place) (which : ℕ × ℕ) (scope : ℕ) (f :
   abbrev new : Instances
   new = taken_in place p more
 
-  pub placed_stays : scope < length s.core.scopes → linked_at p s.instances ≡ None → AllByRecursion (λ (o : Outlet). HasBody s.templates which.0 o.filling) f.outlets → Stays s.core.scopes objects s → Stays s.core.scopes objects (placed_on place which scope f serials s)
+  pub placed_stays : scope < length s.core.scopes → linked_at p s.instances ≡ None → AllByRecursion (λ (o : Outlet). HasBody s.templates (inner_home which).template.0 o.filling) f.outlets → Stays s.core.scopes objects s → Stays s.core.scopes objects (placed_on place which scope f serials s)
   placed_stays lt free have h = record {
     listeners = h.listeners;
     rows = rows_placed objects new p (object_at s.core.scopes scope) serials f.sites s.watchers
         (rows_wider objects s.instances new s.watchers (λ k site. site_taken place p more k ∙ site_come p l s.instances free k site) h.rows);
     scopes = scopes_taken s.core.scopes place p more (inserted_all p l (λ (e : List ℕ × Linked). HasScope s.core.scopes e.0 e.1) s.instances (record { scope = lt; path = refl }) h.scopes);
-    bodies = bodies_taken s.templates place p more (inserted_all p l (λ (e : List ℕ × Linked). OutletsHave s.templates e.1.page.outlets) s.instances (outlets_have s.templates which.0 serials f.outlets (anchors s.next_node f.parts) have) h.bodies);
+    bodies = bodies_taken s.templates place p more (inserted_all p l (λ (e : List ℕ × Linked). OutletsHave s.templates e.1.page.outlets) s.instances (outlets_have s.templates (inner_home which) serials f.outlets (anchors s.next_node f.parts) have) h.bodies);
   }
 
 pub unlinked_stays : (scopes : List Scope) (objects : ℕ) (holder p : List ℕ) (s : State) → Stays scopes objects s → Stays scopes objects (unlinked_at holder p s)

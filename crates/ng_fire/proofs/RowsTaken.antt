@@ -28,7 +28,7 @@ use Rattle.ng_link.specs.Standing.{body_count, held_count, IsPlaced, ArePlaced, 
 use Rattle.ng_link.specs.State.{State, body_of, state_of}
 use Rattle.ng_link.specs.declared.works.Works.{Works}
 use Rattle.ng_link.specs.declared.works.Body as code
-use Rattle.ng_template.specs.Kept.{Named, fragment_in}
+use Rattle.ng_template.specs.Kept.{Named, fragment_for}
 use Rattle.ng_watch.specs.Keys.{begins}
 
 -- ---- an instance stays
@@ -46,7 +46,7 @@ serves_keeps holder bs old new h = record { scope = h.scope; outlets = h.outlets
 pub spot_stays : (all now : List Named) (old new : Instances) (s : Spot) → now ≡ all → Keeps s.holder.now old new → IsSpot all old s → IsSpot now new s
 spot_stays all now old new s same keeps h = record {
   outlet = (let lt = h.outlet in let count = keeps.outlets in omega (arith, lt, count));
-  body = subst (λ (ts : List Named). IsSome (fragment_in ts s.template.0 s.body)) (sym same) h.body;
+  body = subst (λ (ts : List Named). IsSome (fragment_for ts s.origin)) (sym same) h.body;
 }
 
 -- ---- the row at a place

@@ -82,7 +82,7 @@ all_at P (e ∷ es) p l h at = by (is_path p e.0) refl (all_at P es p l h.1) at
     by false off more at = more at
 
 module _ (all : List Named) (holder : List ℕ) (is : Instances) (serial : ℕ) where
-  due_there : (o : ℕ) (xs : List OutletState) → o + length xs ≤ outlet_count holder is → AllByRecursion (λ (x : OutletState). HasBody all x.template x.filling) xs → AllByRecursion (IsThere all holder is) (due_from serial o xs)
+  due_there : (o : ℕ) (xs : List OutletState) → o + length xs ≤ outlet_count holder is → AllByRecursion (λ (x : OutletState). HasBody all x.home.template.0 x.filling) xs → AllByRecursion (IsThere all holder is) (due_from serial o xs)
   due_there o [] le h = tt
   due_there o (x ∷ xs) le h = by (is_filled_by serial x) (due_there (o + 1) xs (omega (arith, le)) h.1)
     where
@@ -106,7 +106,7 @@ module _ (all : List Named) (holder : List ℕ) (is : Instances) (serial : ℕ) 
       by (Some l) e =
           let count : outlet_count holder is ≡ length l.page.outlets = ap (λ (m : Option Linked). length (outlets_in m)) e in
           record {
-            there = due_there 0 l.page.outlets (omega (arith, count)) (all_at (λ (p : List ℕ) (m : Linked). AllByRecursion (λ (x : OutletState). HasBody all x.template x.filling) m.page.outlets) is holder l h e);
+            there = due_there 0 l.page.outlets (omega (arith, count)) (all_at (λ (p : List ℕ) (m : Linked). AllByRecursion (λ (x : OutletState). HasBody all x.home.template.0 x.filling) m.page.outlets) is holder l h e);
             bodies = λ q. (let held : bodies_held holder q is ≡ held_count q l.page.outlets = ap (λ (m : Option Linked). held_count q (outlets_in m)) e in let le = due_counted q 0 l.page.outlets in omega (arith, held, le));
           }
 

@@ -1,4 +1,4 @@
--- What the fire of a site does that fills outlets (API: ngIf, ngSwitch, ngRepeat). First the scopes of bodies that are not to stay are
+-- What the fire of a site does that fills outlets (API: ngIf, ngSwitch, ngInclude, ngRepeat). First the scopes of bodies that are not to stay are
 -- destroyed, each before its body is gone. Then, where a body is called for that doesn't stand, a child scope is made and the body is linked
 -- on it, up to the first fault.
 use Rattle.std.specs.Prelude.{ℕ, ◌||◌, ◌&&◌, not, ◌++◌, Bool, true, false, List, [], ◌∷◌, length, nat_lt, Some, Result, Ok, Err, if◌then◌else◌}
@@ -7,12 +7,14 @@ use Rattle.ng_core.specs.State as act
 use Rattle.ng_core.specs.State.{Run, with_fault, with_objects, with_scopes}
 use Rattle.ng_base.specs.Views.{ViewTree}
 use Rattle.ng_base.specs.declared.fault.Fault.{Fault}
-use Rattle.ng_base.specs.declared.fault.Fault.TheVariants.{StoreFull}
+use Rattle.ng_base.specs.declared.fault.Fault.TheVariants.{StoreFull, Depth}
 use Rattle.ng_behaviour.specs.ScopeObjects.{with_scope_object}
 use Rattle.ng_behaviour.specs.Scopes.{object_at, with_child}
 use Rattle.ng_drawing.specs.Cases.{Case, case_in, calls_for}
 use Rattle.ng_drawing.specs.Looks.{is_kept_true}
-use Rattle.ng_drawing.specs.Template.{Fragment, Filling, body_if, on_case, for_each}
+use Rattle.ng_drawing.specs.Origins.{is_too_deep}
+use Rattle.ng_drawing.specs.Template.{Fragment, Filling, body_if, on_case, for_each, by_name}
+use Rattle.ng_drawing.specs.declared.origin.Origin.{Origin}
 use Rattle.ng_template.specs.Kept.{fragments_in}
 use Rattle.ng_link.specs.Calls.{Place, with_core, unlinked_at}
 use Rattle.ng_link.specs.Events.{scope_in}
@@ -21,7 +23,7 @@ use Rattle.ng_link.specs.Instances.{Body, linked_at}
 use Rattle.ng_link.specs.Shape.{linked}
 use Rattle.ng_link.specs.State.{State, live_nodes}
 use Rattle.ng_fire.specs.Changes.{changed}
-use Rattle.ng_fire.specs.Links.{Linking, adds, link_at}
+use Rattle.ng_fire.specs.Links.{Linking, begins_linking, adds, link_at}
 use Rattle.ng_fire.specs.Runs.{followed, destroy_run}
 use Rattle.ng_members.specs.Leaves.{Local}
 use Rattle.ng_write.specs.Storing.{with_names}
@@ -81,30 +83,36 @@ linked_then scope (Err e) l g = faulted_with e (record g { state = discarded sco
 abbrev pub told_on : ℕ → List Local → act.State → act.State
 told_on scope names c = with_objects (with_names c.objects (object_at c.scopes scope) names) c
 
--- a body is made at a place, on the child scope where there is one, once that has been told some names
-abbrev pub body_on : Place → ℕ × ℕ → Fragment → ℕ → State → Firing → Firing
-body_on place which f child s g = linked_then child (linked (live_nodes s) f.parts) (link_at place which child f s) g
+abbrev pub body_linked : Place → Origin → Fragment → ℕ → State → Firing → Firing
+body_linked place which f child s g = linked_then child (linked (live_nodes s) f.parts) (link_at place which child f s) g
 
-abbrev pub body_made : Place → List Local → ℕ × ℕ → Fragment → act.State → Result ℕ Fault → Firing → Firing
+-- A template that is included where no more may be is a fault before the first step.
+abbrev pub body_on : Place → Origin → Fragment → ℕ → State → Firing → Firing
+body_on place which f child s g = if is_too_deep which then linked_then child (Err Depth) (begins_linking s) g else body_linked place which f child s g
+
+-- a body is made at a place, on the child scope where there is one, once that has been told some names
+abbrev pub body_made : Place → List Local → Origin → Fragment → act.State → Result ℕ Fault → Firing → Firing
 body_made place names which f c (Err e) g = faulted_with e g
 body_made place names which f c (Ok child) g = body_on place which f child (with_core (told_on child names c) g.state) g
 
--- the body of this number is made at a place of an instance that stands on a scope
-abbrev pub filled : Place → ℕ → List Local → ℕ × ℕ → Firing → Firing
+-- the body of a fragment is made at a place of an instance that stands on a scope
+abbrev pub filled : Place → ℕ → List Local → Origin → Firing → Firing
 filled place scope names which g = by (child_run scope g.state.core)
   where
     by : Run ℕ → Firing
-    by r = body_made place names which (fragments_in g.state.templates which.0 which.1) r.0 r.1 g
+    by r = body_made place names which (fragments_in g.state.templates which) r.0 r.1 g
 
 abbrev pub has_bodies : List Body → Bool
 has_bodies [] = false
 has_bodies (b ∷ bs) = true
 
--- The bodies that stand go at a value: that of `ng-if` where it is not called for, those of a switch anyhow. The rows of a repeat go by their keys.
+-- The bodies that stand go at a value: that of `ng-if` where it is not called for, those of a switch and that of an inclusion anyhow. The rows
+-- of a repeat go by their keys.
 abbrev pub goes : Filling → ViewTree → Bool
 goes (body_if body) v = not (is_kept_true (Some v))
 goes (on_case c body) v = true
 goes (for_each r body) v = false
+goes (by_name body) v = true
 
 abbrev pub outlet_emptied : List ℕ → ViewTree → Due → Firing → Firing
 outlet_emptied holder v d g = if goes d.filling v then all_gone holder d.bodies g else g
@@ -127,6 +135,7 @@ abbrev pub body_of : Filling → ℕ
 body_of (body_if body) = body
 body_of (on_case c body) = body
 body_of (for_each r body) = body
+body_of (by_name body) = body
 
 -- whether a body is to be made in an outlet, beside these cases
 abbrev pub comes : List Case → ViewTree → Due → Bool

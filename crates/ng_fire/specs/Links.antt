@@ -7,6 +7,7 @@ use Rattle.ng_base.specs.declared.fault.Fault.{Fault}
 use Rattle.ng_behaviour.specs.Scopes.{path_at, live_at}
 use Rattle.ng_drawing.specs.Nodes.{node_limit}
 use Rattle.ng_drawing.specs.Template.{Fragment}
+use Rattle.ng_drawing.specs.declared.origin.Origin.{Origin}
 use Rattle.ng_language.specs.Trees.{Trees}
 use Rattle.ng_fire.specs.Changes.{has_additions}
 use Rattle.ng_fire.specs.Runs.{program_run, followed}
@@ -58,7 +59,7 @@ any_number [] = false
 any_number (n ∷ ns) = true
 
 -- the fragment stands; a site on a scope that lives is a watcher more
-abbrev pub placed : Place → ℕ × ℕ → ℕ → Fragment → Linking → Linking
+abbrev pub placed : Place → Origin → ℕ → Fragment → Linking → Linking
 placed place which scope f g = record {
   state = rested_on scope (placed_on place which scope f g.serials g.state);
   serials = g.serials;
@@ -66,10 +67,10 @@ placed place which scope f g = record {
 }
 
 -- Where the nodes don't find room, the steps before the node too many are done, and nothing stands.
-abbrev pub link_by : Place → ℕ × ℕ → ℕ → Fragment → Result (Unit {0}) Fault → State → Linking
+abbrev pub link_by : Place → Origin → ℕ → Fragment → Result (Unit {0}) Fault → State → Linking
 link_by place which scope f (Ok u) s = placed place which scope f (steps_linked scope (steps f.parts) (begins_linking s))
 link_by place which scope f (Err e) s = steps_linked scope (steps_within (node_limit - live_nodes s) (steps f.parts)) (begins_linking s)
 
--- a fragment, by its numbers, is linked at a place on a scope
-abbrev pub link_at : Place → ℕ × ℕ → ℕ → Fragment → State → Linking
+-- a fragment is linked at a place on a scope
+abbrev pub link_at : Place → Origin → ℕ → Fragment → State → Linking
 link_at place which scope f s = link_by place which scope f (linked (live_nodes s) f.parts) s

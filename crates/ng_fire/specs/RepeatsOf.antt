@@ -11,7 +11,7 @@ use Rattle.ng_fire.specs.declared.repeats.Spot.{Spot}
 use Rattle.ng_fire.specs.declared.rows.Row as code
 use Rattle.ng_link.specs.Instances.{Body, Instances}
 use Rattle.ng_link.specs.Standing.{body_count}
-use Rattle.ng_template.specs.Kept.{Named, fragment_in}
+use Rattle.ng_template.specs.Kept.{Named, fragment_for}
 
 abbrev pub row_of : code.Row → Row
 row_of r = record { item = item_of r.item; key = r.key; from = r.from }
@@ -35,7 +35,7 @@ RowsOfStand count rs = AllByRecursion (λ (r : Row). StandsAmong count r.item.va
 -- an outlet is there, and so is the fragment that its rows are made of
 pub record IsSpot (all : List Named) (is : Instances) (s : Spot) : Type 0 where
   pub outlet : s.outlet < outlet_count s.holder.now is
-  pub body : IsSome (fragment_in all s.template.0 s.body)
+  pub body : IsSome (fragment_for all s.origin)
 
 -- each row that stands is kept or gone
 abbrev pub KeptOrGone : List Body → List ℕ → List Row → Type 0

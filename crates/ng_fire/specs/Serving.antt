@@ -26,7 +26,7 @@ AreHeldBy holder bs is = (q : List ℕ) → body_count q bs ≤ bodies_held hold
 -- an outlet is there, and its bodies are fragments
 pub record IsThere (all : List Named) (holder : List ℕ) (is : Instances) (d : Due) : Type 0 where
   pub outlet : d.outlet < outlet_count holder is
-  pub body : HasBody all d.template d.filling
+  pub body : HasBody all d.home.template.0 d.filling
 
 abbrev pub due_count : List ℕ → List Due → ℕ
 due_count q [] = 0

@@ -7,7 +7,7 @@ use Rattle.ng_base.specs.Views.{ViewTree}
 use Rattle.ng_base.specs.declared.fault.Fault.{Fault}
 use Rattle.ng_base.specs.declared.path.Key.{Key}
 use Rattle.ng_behaviour.specs.Scopes.{Scope, path_at}
-use Rattle.ng_drawing.specs.Template.{Filling, body_if, on_case, for_each}
+use Rattle.ng_drawing.specs.Template.{Filling, body_if, on_case, for_each, by_name}
 use Rattle.ng_language.specs.Views.{ViewStands}
 use Rattle.ng_link.specs.Standing.{IsStanding}
 use Rattle.ng_link.specs.Instances.{OutletState, Linked, Instances, is_site}
@@ -47,9 +47,10 @@ abbrev pub HasBody : List Named → ℕ → Filling → Type 0
 HasBody all template (body_if b) = IsSome (fragment_in all template b)
 HasBody all template (on_case c b) = IsSome (fragment_in all template b)
 HasBody all template (for_each r b) = IsSome (fragment_in all template b)
+HasBody all template (by_name b) = IsSome (fragment_in all template b)
 
 abbrev pub HaveBodies : List Named → Instances → Type 0
-HaveBodies all is = AllByRecursion (λ (e : List ℕ × Linked). AllByRecursion (λ (x : OutletState). HasBody all x.template x.filling) e.1.page.outlets) is
+HaveBodies all is = AllByRecursion (λ (e : List ℕ × Linked). AllByRecursion (λ (x : OutletState). HasBody all x.home.template.0 x.filling) e.1.page.outlets) is
 
 pub record IsWhole (w : Works) : Type 0 where
   pub sound : IsSound w.core

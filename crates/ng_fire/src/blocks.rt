@@ -1,17 +1,15 @@
-//! The fire of a site that fills outlets (API: ngIf, ngSwitch, ngRepeat): bodies go, and bodies are made.
-ghost use Rattle.std.specs.Prelude.{ℕ, List, [], ◌∷◌, ◌≡◌, ◌&&◌, not, ◌<◌, ◌≤◌, length, map, None, Some, IsSome, IfSome, IfOk, OnOk};
+//! The fire of a site that fills outlets (API: ngIf, ngSwitch, ngInclude, ngRepeat): bodies go, and bodies are made.
+ghost use Rattle.std.specs.Prelude.{[], ◌∷◌, ◌≡◌, ◌<◌, ◌≤◌, length, map, None, Some, IsSome, IfSome, IfOk, OnOk};
 ghost use Rattle.ng_core.specs.Frames as cores;
 ghost use Rattle.ng_core.specs.Frames.{IsSound};
 ghost use Rattle.ng_behaviour.specs.Scopes.{path_at};
-ghost use Rattle.std.specs.List.{AllByRecursion, list_any};
-ghost use Rattle.ng_blocks.specs.Switching.{matches};
-ghost use Rattle.ng_drawing.specs.Cases.{case_in, is_chosen as is_chosen_of, calls_for as calls_for_of};
+ghost use Rattle.std.specs.List.{AllByRecursion};
 ghost use Rattle.ng_drawing.specs.Roles.{a_body};
+ghost use Rattle.ng_drawing.specs.RolesOf.{role_of};
 ghost use Rattle.ng_drawing.specs.Template.{Fragment};
-ghost use Rattle.ng_fire.specs.Blocks.{begins_firing, child_run, ended, gone, all_gone, linked_then, filled, goes as goes_at, outlet_emptied, outlets_emptied, cases_due, body_of as body_of_filling, comes as comes_at, discarded, faulted_with};
-ghost use Rattle.ng_fire.specs.SiteFires.{body_filled, outlet_filled, outlets_filled, outlets_fired};
+ghost use Rattle.ng_fire.specs.Blocks.{begins_firing, child_run, ended, gone, all_gone, body_linked, body_on, filled, outlet_emptied, outlets_emptied, cases_due, discarded, faulted_with};
+ghost use Rattle.ng_fire.specs.SiteFires.{body_filled, template_filled, named_filled, outlet_filled, outlets_filled, outlets_fired};
 ghost use Rattle.ng_fire.specs.FiringOf.{firing, child_made};
-ghost use Rattle.ng_fire.specs.Links.{link_at as linked_at_place};
 ghost use Rattle.ng_fire.specs.Runs.{destroyed};
 ghost use Rattle.ng_fire.specs.Serving.{outlet_count, IsThere, AreHeldBy, AreDue, Keeps, Serves};
 ghost use Rattle.ng_fire.specs.Whole.{IsWhole};
@@ -21,34 +19,33 @@ ghost use Rattle.ng_link.specs.Due.{due_of};
 ghost use Rattle.ng_link.specs.Events.{scope_in};
 ghost use Rattle.ng_link.specs.Instances.{linked_at};
 ghost use Rattle.ng_link.specs.PlaceOf.{place_of, IsFree};
-ghost use Rattle.ng_link.specs.Shape.{linked};
 ghost use Rattle.ng_link.specs.Standing.{IsIn, IsHeld};
-ghost use Rattle.ng_link.specs.State.{body_of as body_in, state_of, templates_of, live_nodes};
-ghost use Rattle.ng_template.specs.FragmentOf.{filling_of};
-ghost use Rattle.ng_template.specs.Kept.{fragment_in};
+ghost use Rattle.ng_link.specs.State.{body_of as body_in, state_of, templates_of};
+ghost use Rattle.ng_template.specs.Kept.{named_from, fragment_in, fragment_for};
 ghost use Rattle.ng_value.specs.Snaps.{snap_of};
 
 use crate::changing::apply_changes;
+use crate::choosing::{body_of, comes, goes};
 use crate::following::Followed;
 use crate::linking::{Built, link_at};
 use crate::repeats::{Spot, fire_repeat};
 use ng_act::running::destroy;
 use ng_base::fault::{Fault, Memory};
-use ng_base::name::{ScopeId, TplId};
+use ng_base::name::ScopeId;
 use ng_base::path::Path;
 use ng_base::txt::Txt;
 use ng_core::burying::bury;
 use ng_core::core_state::Core;
-use ng_drawing::cases::{has_text, kept_as_text};
+use ng_drawing::cases::kept_as_text;
+use ng_drawing::origin::Origin;
 use ng_drawing::roles::Role;
 use ng_link::filling::Due;
 use ng_link::linking::Place;
 use ng_link::works::{Body, Works};
 use ng_store::store::StoreFault;
 use ng_template::Filling;
-use ng_value::operators::truthy;
 use ng_value::snapshot::Snap;
-use std::alloc::{AllocError, Global};
+use std::alloc::Global;
 
 /// A scope is destroyed while no body and no event is open (API: `$destroy`).
 #[tactic(auto, using(crate::proofs::Runs::destroyed_is))]
@@ -175,25 +172,24 @@ pub(crate) fn make_child(works: &mut Works, scope: ScopeId) -> Result<Option<Sco
 }
 
 /// A body is linked on its scope. Where its nodes find no room, the scope was made in vain.
-pub(crate) fn link_body(
+fn link_within(
     works: &mut Works,
     alloc: Global,
     place: &Place,
-    template: TplId,
-    body: u32,
+    origin: Origin,
     child: ScopeId,
     told: &mut Followed,
 ) -> Result<(), Memory>
     requires whole { IsWhole works.old }
-    requires template { IsSome (fragment_in (templates_of works.old) template.0 body) }
+    requires template { IsSome (fragment_for (templates_of works.old) origin) }
     requires scope { child.0 < length works.old.core.scopes }
     requires free { IsFree (place_of place.now) (path_at works.old.core.scopes child.0) (state_of works.old) }
-    ensures fired { OnOk result ((f : Fragment) → fragment_in (templates_of works.old) template.0 body ≡ Some f → firing works.new told.new ≡ linked_then child.0 (linked (live_nodes (state_of works.old)) f.parts) (linked_at_place (place_of place.now) (template.0, body) child.0 f (state_of works.old)) (firing works.old told.old)) }
+    ensures fired { OnOk result ((f : Fragment) → fragment_for (templates_of works.old) origin ≡ Some f → firing works.new told.new ≡ body_linked (place_of place.now) origin f child.0 (state_of works.old) (firing works.old told.old)) }
     ensures grown { OnOk result (length works.old.core.store ≤ length works.new.core.store) }
     ensures whole { OnOk result (IsWhole works.new) }
     ensures templates { templates_of works.new ≡ templates_of works.old }
 {
-    let Built { added, room } = link_at(works, alloc, place, template, body, child)?;
+    let Built { added, room } = link_at(works, alloc, place, origin, child)?;
     told.added = told.added || added;
     if !room {
         discard(works, alloc, child)?;
@@ -202,20 +198,47 @@ pub(crate) fn link_body(
     Ok(())
 }
 
-/// The body of a number is made in an outlet of an instance.
+/// A body is linked on its scope, unless a template is included where no more may be. Where that is a fault, or its nodes find no room, the
+/// scope was made in vain.
+pub(crate) fn link_body(
+    works: &mut Works,
+    alloc: Global,
+    place: &Place,
+    origin: Origin,
+    child: ScopeId,
+    told: &mut Followed,
+) -> Result<(), Memory>
+    requires whole { IsWhole works.old }
+    requires template { IsSome (fragment_for (templates_of works.old) origin) }
+    requires scope { child.0 < length works.old.core.scopes }
+    requires free { IsFree (place_of place.now) (path_at works.old.core.scopes child.0) (state_of works.old) }
+    ensures fired { OnOk result ((f : Fragment) → fragment_for (templates_of works.old) origin ≡ Some f → firing works.new told.new ≡ body_on (place_of place.now) origin f child.0 (state_of works.old) (firing works.old told.old)) }
+    ensures grown { OnOk result (length works.old.core.store ≤ length works.new.core.store) }
+    ensures whole { OnOk result (IsWhole works.new) }
+    ensures templates { templates_of works.new ≡ templates_of works.old }
+{
+    if origin.is_too_deep() {
+        discard(works, alloc, child)?;
+        fault(works, Fault::Depth, told);
+        return Ok(());
+    }
+    link_within(works, alloc, place, origin, child, told)
+}
+
+/// A body is made in an outlet of an instance, which stands for this.
 fn make_body(
     works: &mut Works,
     alloc: Global,
     holder: &Path,
     outlet: usize,
-    template: TplId,
-    body: u32,
+    role: Role,
+    origin: Origin,
     told: &mut Followed,
 ) -> Result<(), Memory>
     requires whole { IsWhole works.old }
     requires outlet { outlet < outlet_count holder.now (state_of works.old).instances }
-    requires template { IsSome (fragment_in (templates_of works.old) template.0 body) }
-    ensures fired { OnOk result (firing works.new told.new ≡ filled (in_outlet holder.now outlet 0 a_body) (scope_in (linked_at holder.now (state_of works.old).instances)) [] (template.0, body) (firing works.old told.old)) }
+    requires template { IsSome (fragment_for (templates_of works.old) origin) }
+    ensures fired { OnOk result (firing works.new told.new ≡ filled (in_outlet holder.now outlet 0 (role_of role)) (scope_in (linked_at holder.now (state_of works.old).instances)) [] origin (firing works.old told.old)) }
     ensures serves { OnOk result (Serves holder.now [] (state_of works.old).instances (state_of works.new).instances) }
     ensures grown { OnOk result (length works.old.core.store ≤ length works.new.core.store) }
     ensures whole { OnOk result (IsWhole works.new) }
@@ -226,25 +249,14 @@ fn make_body(
         holder: holder.copied()?,
         outlet,
         at: 0,
-        role: Role::Body,
+        role,
     };
     match make_child(works, scope)? {
-        Some(child) => link_body(works, alloc, &place, template, body, child, told),
+        Some(child) => link_body(works, alloc, &place, origin, child, told),
         None => {
             fault(works, Fault::StoreFull, told);
             Ok(())
         }
-    }
-}
-
-/// Whether the bodies that stand go at a value.
-fn goes(filling: &Filling, value: &Snap) -> bool
-    ensures { result ≡ goes_at (filling_of filling.now) (snap_of value.now) }
-{
-    match filling {
-        Filling::BodyIf(_) => !truthy(value.view()),
-        Filling::OnCase(_, _) => true,
-        Filling::ForEach(_, _) => false,
     }
 }
 
@@ -295,80 +307,6 @@ fn empty_outlets(
     Ok(())
 }
 
-/// Whether an outlet is that of a case that has a text.
-fn case_has(due: &Due, value: &Txt) -> bool
-    ensures { result ≡ list_any (matches value.now) (case_in (filling_of due.now.filling)) }
-{
-    match &due.filling {
-        Filling::BodyIf(_) => false,
-        Filling::OnCase(case, _) => has_text(value, case),
-        Filling::ForEach(_, _) => false,
-    }
-}
-
-/// Whether a case among outlets has a text.
-#[tactic(auto, using(ng_drawing::proofs::Choices::any_case))]
-fn any_has(all: &[Due], value: &Txt) -> bool
-    ensures { result ≡ list_any (matches value.now) (cases_due (map due_of all.now)) }
-{
-    for due in all {
-        if case_has(due, value) {
-            return true;
-        }
-    }
-    false
-}
-
-/// Whether a case is shown beside those of the same switch, where the value has this text.
-fn is_chosen(all: &[Due], value: &Txt, case: &Option<Txt>) -> bool
-    ensures { result ≡ is_chosen_of (cases_due (map due_of all.now)) value.now case.now }
-{
-    match case {
-        Some(_) => has_text(value, case),
-        None => !any_has(all, value),
-    }
-}
-
-/// Whether a value calls for the body of an outlet beside the others of its site.
-fn calls_for(
-    alloc: Global,
-    all: &[Due],
-    filling: &Filling,
-    value: &Snap,
-) -> Result<bool, AllocError>
-    ensures { IfOk result (λ b. b ≡ calls_for_of (cases_due (map due_of all.now)) (filling_of filling.now) (Some (snap_of value.now))) }
-{
-    match filling {
-        Filling::BodyIf(_) => Ok(truthy(value.view())),
-        Filling::OnCase(case, _) => {
-            let text = kept_as_text(alloc, value.view())?;
-            Ok(is_chosen(all, &text, case))
-        }
-        Filling::ForEach(_, _) => Ok(false),
-    }
-}
-
-/// Whether a body is to be made in an outlet.
-fn comes(alloc: Global, all: &[Due], value: &Snap, due: &Due) -> Result<bool, AllocError>
-    ensures { IfOk result (λ b. b ≡ comes_at (cases_due (map due_of all.now)) (snap_of value.now) (due_of due.now)) }
-{
-    if !due.bodies.is_empty() && !goes(&due.filling, value) {
-        return Ok(false);
-    }
-    calls_for(alloc, all, &due.filling, value)
-}
-
-/// The number of the body of an outlet.
-fn body_of(filling: &Filling) -> u32
-    ensures { result ≡ body_of_filling (filling_of filling.now) }
-{
-    match filling {
-        Filling::BodyIf(body) => *body,
-        Filling::OnCase(_, body) => *body,
-        Filling::ForEach(_, body) => *body,
-    }
-}
-
 /// The body of an outlet is made where it is to be, unless one before it faulted.
 fn fill_body(
     works: &mut Works,
@@ -390,8 +328,77 @@ fn fill_body(
     if told.faulted || !comes(alloc, all, value, due)? {
         return Ok(());
     }
-    let body = body_of(&due.filling);
-    make_body(works, alloc, holder, due.outlet, due.template, body, told)
+    let origin = Origin::plain(due.home, body_of(&due.filling));
+    make_body(works, alloc, holder, due.outlet, Role::Body, origin, told)
+}
+
+/// A body is made with the template of a name in it, if the application has one.
+fn include_template(
+    works: &mut Works,
+    alloc: Global,
+    holder: &Path,
+    due: &Due,
+    body: u32,
+    name: Txt,
+    told: &mut Followed,
+) -> Result<(), Memory>
+    requires whole { IsWhole works.old }
+    requires outlet { due.now.outlet < outlet_count holder.now (state_of works.old).instances }
+    requires body { IsSome (fragment_in (templates_of works.old) due.now.home.template.0 body) }
+    ensures fired { OnOk result (firing works.new told.new ≡ template_filled holder.now (scope_in (linked_at holder.now (state_of works.old).instances)) (due_of due.now) body name (named_from 0 name (templates_of works.old)) (firing works.old told.old)) }
+    ensures serves { OnOk result (Serves holder.now [] (state_of works.old).instances (state_of works.new).instances) }
+    ensures grown { OnOk result (length works.old.core.store ≤ length works.new.core.store) }
+    ensures whole { OnOk result (IsWhole works.new) }
+    ensures templates { templates_of works.new ≡ templates_of works.old }
+{
+    let Some(template) = works.templates().named(&name) else {
+        fault(works, Fault::NoTemplate, told);
+        return Ok(());
+    };
+    let origin = Origin {
+        home: due.home,
+        fragment: body,
+        included: Some(template),
+    };
+    make_body(
+        works,
+        alloc,
+        holder,
+        due.outlet,
+        Role::Named(name),
+        origin,
+        told,
+    )
+}
+
+/// The body of an inclusion is made where it is to be, unless one before it faulted.
+fn fill_named(
+    works: &mut Works,
+    alloc: Global,
+    holder: &Path,
+    all: &[Due],
+    value: &Snap,
+    due: &Due,
+    body: u32,
+    told: &mut Followed,
+) -> Result<(), Memory>
+    requires whole { IsWhole works.old }
+    requires outlet { due.now.outlet < outlet_count holder.now (state_of works.old).instances }
+    requires body { IsSome (fragment_in (templates_of works.old) due.now.home.template.0 body) }
+    ensures fired { OnOk result (firing works.new told.new ≡ named_filled holder.now (scope_in (linked_at holder.now (state_of works.old).instances)) (cases_due (map due_of all.now)) (snap_of value.now) (due_of due.now) body (firing works.old told.old)) }
+    ensures serves { OnOk result (Serves holder.now [] (state_of works.old).instances (state_of works.new).instances) }
+    ensures grown { OnOk result (length works.old.core.store ≤ length works.new.core.store) }
+    ensures whole { OnOk result (IsWhole works.new) }
+    ensures templates { templates_of works.new ≡ templates_of works.old }
+{
+    if told.faulted {
+        return Ok(());
+    }
+    if !comes(alloc, all, value, due)? {
+        return Ok(());
+    }
+    let name = kept_as_text(alloc, value.view())?;
+    include_template(works, alloc, holder, due, body, name, told)
 }
 
 /// An outlet gets the body or the rows that it is to have, unless one before it faulted.
@@ -423,11 +430,11 @@ fn fill_outlet(
             let spot = Spot {
                 holder,
                 outlet: due.outlet,
-                template: due.template,
-                body: *body,
+                origin: Origin::plain(due.home, *body),
             };
             fire_repeat(works, alloc, &spot, repeated, value.view(), told)
         }
+        Filling::ByName(body) => { fill_named(works, alloc, holder, all, value, due, *body, told) }
     }
 }
 

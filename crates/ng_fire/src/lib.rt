@@ -19,7 +19,8 @@
 //!
 //! In reading order: `changing` does what programs leave for the watchers, `following` hands a fault over before that, `programs` runs a
 //! program on a scope, `linking` links a fragment, `listening` runs the program of a declared watch; `tracking`, `rows` and `repeats` have
-//! the fire of a repeat's site, `blocks` that of every block's, and `firing` every fire; `tasks` has the tasks, `settling` what comes last.
+//! the fire of a repeat's site, `choosing` says what a value calls for, `blocks` has the fire of every block's site, and `firing` every
+//! fire; `tasks` has the tasks, `settling` what comes last.
 //!
 //! Not here: which watcher is tested when (`ng_digest`, `ng_page`), what a program does (`ng_act`), and how nodes and watchers
 //! hang together (`ng_link`).
@@ -27,6 +28,7 @@
 
 mod blocks;
 pub mod changing;
+mod choosing;
 pub mod firing;
 pub mod following;
 pub mod linking;

@@ -16,12 +16,13 @@ ghost use Rattle.ng_link.specs.Shape.{linked};
 ghost use Rattle.ng_link.specs.State.{state_of, templates_of, live_nodes};
 ghost use Rattle.ng_link.specs.StepOf.{step_of};
 ghost use Rattle.ng_parse.specs.ProgramOf.{program};
-ghost use Rattle.ng_template.specs.Kept.{fragment_in};
+ghost use Rattle.ng_template.specs.Kept.{fragment_for};
 
 use crate::following::follow;
 use crate::programs::run_program;
 use ng_base::fault::{Fault, Memory};
-use ng_base::name::{ScopeId, Serial, TplId};
+use ng_base::name::{ScopeId, Serial};
+use ng_drawing::origin::Origin;
 use ng_link::linking::Place;
 use ng_link::ordering::LinkStep;
 use ng_link::works::Works;
@@ -187,21 +188,20 @@ pub fn link_at(
     works: &mut Works,
     alloc: Global,
     place: &Place,
-    t: TplId,
-    n: u32,
+    origin: Origin,
     scope: ScopeId,
 ) -> Result<Built, Memory>
     requires whole { IsWhole works.old }
-    requires template { IsSome (fragment_in (templates_of works.old) t.0 n) }
+    requires template { IsSome (fragment_for (templates_of works.old) origin) }
     requires scope { scope.0 < length works.old.core.scopes }
     requires free { IsFree (place_of place.now) (path_at works.old.core.scopes scope.0) (state_of works.old) }
-    ensures linked { IfOk result (λ b. (f : Fragment) → fragment_in (templates_of works.old) t.0 n ≡ Some f → (state_of works.new ≡ (linked_at_place (place_of place.now) (t.0, n) scope.0 f (state_of works.old)).state) × (b.added ≡ (linked_at_place (place_of place.now) (t.0, n) scope.0 f (state_of works.old)).added) × (b.room ≡ is_ok (linked (live_nodes (state_of works.old)) f.parts))) }
+    ensures linked { IfOk result (λ b. (f : Fragment) → fragment_for (templates_of works.old) origin ≡ Some f → (state_of works.new ≡ (linked_at_place (place_of place.now) origin scope.0 f (state_of works.old)).state) × (b.added ≡ (linked_at_place (place_of place.now) origin scope.0 f (state_of works.old)).added) × (b.room ≡ is_ok (linked (live_nodes (state_of works.old)) f.parts))) }
     ensures grown { OnOk result (length works.old.core.store ≤ length works.new.core.store) }
     ensures whole { OnOk result (IsWhole works.new) }
     ensures templates { templates_of works.new ≡ templates_of works.old }
 {
-    let order = works.link_order(t, n)?;
-    if !works.has_room(t, n) {
+    let order = works.link_order(origin)?;
+    if !works.has_room(origin)? {
         let room = NODE_LIMIT.saturating_sub(works.live_nodes());
         let done = link_steps(works, alloc, scope, steps_within(room, order.as_slice()))?;
         return Ok(Built {
@@ -211,7 +211,7 @@ pub fn link_at(
     }
     let Progress { serials, added } = link_steps(works, alloc, scope, order.as_slice())?;
     let lives = works.core.scopes.is_live(scope);
-    placed(works.place(place, t, n, scope, serials.as_slice()))?;
+    placed(works.place(place, origin, scope, serials.as_slice()))?;
     rest_on_dead(works, scope)?;
     Ok(Built {
         room: true,

@@ -24,10 +24,10 @@ use crate::rows::{Ground, Row, ground_for, kept_rows, plan_rows, role_for, rows_
 use crate::tracking::{Item, make_items, track_keys};
 use ng_base::fault::{Fault, Memory};
 use ng_base::lists::Numbers;
-use ng_base::name::TplId;
 use ng_base::path::Path;
 use ng_base::view::View;
 use ng_blocks::{Plan, TrackKeys};
+use ng_drawing::origin::Origin;
 use ng_drawing::roles::entries_in;
 use ng_link::linking::Place;
 use ng_link::works::{Body, Works};
@@ -39,8 +39,7 @@ use std::alloc::Global;
 pub(crate) struct Spot<'a> {
     pub(crate) holder: &'a Path,
     pub(crate) outlet: usize,
-    pub(crate) template: TplId,
-    pub(crate) body: u32,
+    pub(crate) origin: Origin,
 }
 
 /// The scope of the row at a place is destroyed.
@@ -178,7 +177,7 @@ fn make_row(
     requires names { AreNames ground.now.names }
     requires place { i < ground.now.count }
     requires row { StandsAmong (length works.old.core.store) row.now.item.value }
-    ensures fired { OnOk result (firing works.new told.new ≡ filled (in_outlet spot.now.holder.now spot.now.outlet at (role_for_row (row_of row.now))) (scope_in (linked_at spot.now.holder.now (state_of works.old).instances)) (row_names (repeated_of ground.now.repeated.now) ground.now.count i (item_of row.now.item)) (spot.now.template.0, spot.now.body) (firing works.old told.old)) }
+    ensures fired { OnOk result (firing works.new told.new ≡ filled (in_outlet spot.now.holder.now spot.now.outlet at (role_for_row (row_of row.now))) (scope_in (linked_at spot.now.holder.now (state_of works.old).instances)) (row_names (repeated_of ground.now.repeated.now) ground.now.count i (item_of row.now.item)) spot.now.origin (firing works.old told.old)) }
     ensures keeps { OnOk result (Keeps spot.now.holder.now (state_of works.old).instances (state_of works.new).instances) }
     ensures others { OnOk result (OthersStay spot.now.holder.now (state_of works.old).instances (state_of works.new).instances) }
     ensures grown { OnOk result (length works.old.core.store ≤ length works.new.core.store) }
@@ -190,7 +189,7 @@ fn make_row(
     match make_child(works, scope)? {
         Some(child) => {
             tell_row(&mut works.core, child, ground, i, &row.item)?;
-            link_body(works, alloc, &place, spot.template, spot.body, child, told)
+            link_body(works, alloc, &place, spot.origin, child, told)
         }
         None => {
             fault(works, Fault::StoreFull, told);
@@ -216,7 +215,7 @@ fn fire_row(
     requires place { i < ground.now.count }
     requires few { at ≤ i }
     requires row { StandsAmong (length works.old.core.store) row.now.item.value }
-    ensures fired { IfOk result (λ n. filled_to n (firing works.new told.new) ≡ row_fired spot.now.holder.now (scope_in (linked_at spot.now.holder.now (state_of works.old).instances)) spot.now.outlet (spot.now.template.0, spot.now.body) (row_of row.now) (row_names (repeated_of ground.now.repeated.now) ground.now.count i (item_of row.now.item)) row.now.from (filled_to at (firing works.old told.old))) }
+    ensures fired { IfOk result (λ n. filled_to n (firing works.new told.new) ≡ row_fired spot.now.holder.now (scope_in (linked_at spot.now.holder.now (state_of works.old).instances)) spot.now.outlet spot.now.origin (row_of row.now) (row_names (repeated_of ground.now.repeated.now) ground.now.count i (item_of row.now.item)) row.now.from (filled_to at (firing works.old told.old))) }
     ensures few { IfOk result (λ n. n ≤ i + 1) }
     ensures keeps { OnOk result (Keeps spot.now.holder.now (state_of works.old).instances (state_of works.new).instances) }
     ensures others { OnOk result (OthersStay spot.now.holder.now (state_of works.old).instances (state_of works.new).instances) }
@@ -253,7 +252,7 @@ fn fire_rows(
     requires names { AreNames ground.now.names }
     requires count { length rows.now ≡ ground.now.count }
     requires rows { RowsOfStand (length works.old.core.store) (rows_of rows.now) }
-    ensures fired { OnOk result (firing works.new told.new ≡ (rows_fired spot.now.holder.now (scope_in (linked_at spot.now.holder.now (state_of works.old).instances)) spot.now.outlet (spot.now.template.0, spot.now.body) (repeated_of ground.now.repeated.now) ground.now.count 0 (rows_of rows.now) (filled_to 0 (firing works.old told.old))).firing) }
+    ensures fired { OnOk result (firing works.new told.new ≡ (rows_fired spot.now.holder.now (scope_in (linked_at spot.now.holder.now (state_of works.old).instances)) spot.now.outlet spot.now.origin (repeated_of ground.now.repeated.now) ground.now.count 0 (rows_of rows.now) (filled_to 0 (firing works.old told.old))).firing) }
     ensures keeps { OnOk result (Keeps spot.now.holder.now (state_of works.old).instances (state_of works.new).instances) }
     ensures others { OnOk result (OthersStay spot.now.holder.now (state_of works.old).instances (state_of works.new).instances) }
     ensures grown { OnOk result (length works.old.core.store ≤ length works.new.core.store) }
@@ -283,7 +282,7 @@ fn change_rows(
     requires rows { RowsOfStand (length works.old.core.store) (rows_of rows.now) }
     requires stand { rows_at spot.now.holder.now spot.now.outlet (state_of works.old).instances ≡ map body_of bodies.now }
     requires all { KeptOrGone (map body_of bodies.now) gone.now (rows_of rows.now) }
-    ensures fired { OnOk result (firing works.new told.new ≡ rows_changed spot.now.holder.now (scope_in (linked_at spot.now.holder.now (state_of works.old).instances)) spot.now.outlet (spot.now.template.0, spot.now.body) (repeated_of repeated.now) (bodies_at (map body_of bodies.now) gone.now) (rows_of rows.now) (firing works.old told.old)) }
+    ensures fired { OnOk result (firing works.new told.new ≡ rows_changed spot.now.holder.now (scope_in (linked_at spot.now.holder.now (state_of works.old).instances)) spot.now.outlet spot.now.origin (repeated_of repeated.now) (bodies_at (map body_of bodies.now) gone.now) (rows_of rows.now) (firing works.old told.old)) }
     ensures keeps { OnOk result (Keeps spot.now.holder.now (state_of works.old).instances (state_of works.new).instances) }
     ensures kept { OnOk result (BodiesStay (kept_rows_of (rows_of rows.now)) (state_of works.old).instances (state_of works.new).instances) }
     ensures grown { OnOk result (length works.old.core.store ≤ length works.new.core.store) }
@@ -316,7 +315,7 @@ fn fire_plan(
     requires old { has_double_of (keys_of (map body_of bodies.now)) ≡ false }
     requires as_many { length (items_of items.items) ≡ length keys.now }
     requires plan { planned (keys_of (map body_of bodies.now)) keys.now ≡ Ok plan.now }
-    ensures fired { OnOk result (firing works.new told.new ≡ by_keys spot.now.holder.now (scope_in (linked_at spot.now.holder.now (state_of works.old).instances)) spot.now.outlet (spot.now.template.0, spot.now.body) (repeated_of repeated.now) (map body_of bodies.now) (items_of items.items) (Ok keys.now) (firing works.old told.old)) }
+    ensures fired { OnOk result (firing works.new told.new ≡ by_keys spot.now.holder.now (scope_in (linked_at spot.now.holder.now (state_of works.old).instances)) spot.now.outlet spot.now.origin (repeated_of repeated.now) (map body_of bodies.now) (items_of items.items) (Ok keys.now) (firing works.old told.old)) }
     ensures keeps { OnOk result (Keeps spot.now.holder.now (state_of works.old).instances (state_of works.new).instances) }
     ensures kept { OnOk result (BodiesStay (kept_rows_of (rows_from_all (map body_of bodies.now) (items_of items.items) keys.now plan.now.from)) (state_of works.old).instances (state_of works.new).instances) }
     ensures grown { OnOk result (length works.old.core.store ≤ length works.new.core.store) }
@@ -350,7 +349,7 @@ fn fire_keyed(
     requires spot { IsSpot (templates_of works.old) (state_of works.old).instances spot.now }
     requires items { ItemsStand (length works.old.core.store) (items_of items.items) }
     requires as_many { length (items_of items.items) ≡ length keys.now }
-    ensures fired { OnOk result (firing works.new told.new ≡ by_keys spot.now.holder.now (scope_in (linked_at spot.now.holder.now (state_of works.old).instances)) spot.now.outlet (spot.now.template.0, spot.now.body) (repeated_of repeated.now) (rows_at spot.now.holder.now spot.now.outlet (state_of works.old).instances) (items_of items.items) (Ok keys.now) (firing works.old told.old)) }
+    ensures fired { OnOk result (firing works.new told.new ≡ by_keys spot.now.holder.now (scope_in (linked_at spot.now.holder.now (state_of works.old).instances)) spot.now.outlet spot.now.origin (repeated_of repeated.now) (rows_at spot.now.holder.now spot.now.outlet (state_of works.old).instances) (items_of items.items) (Ok keys.now) (firing works.old told.old)) }
     ensures keeps { OnOk result (Keeps spot.now.holder.now (state_of works.old).instances (state_of works.new).instances) }
     ensures grown { OnOk result (length works.old.core.store ≤ length works.new.core.store) }
     ensures whole { OnOk result (IsWhole works.new) }
@@ -388,7 +387,7 @@ fn fire_items(
     requires whole { IsWhole works.old }
     requires spot { IsSpot (templates_of works.old) (state_of works.old).instances spot.now }
     requires items { ItemsStand (length works.old.core.store) (items_of items.items) }
-    ensures fired { OnOk result (firing works.new told.new ≡ by_items spot.now.holder.now (scope_in (linked_at spot.now.holder.now (state_of works.old).instances)) spot.now.outlet (spot.now.template.0, spot.now.body) (repeated_of repeated.now) (Ok (items_of items.items)) (firing works.old told.old)) }
+    ensures fired { OnOk result (firing works.new told.new ≡ by_items spot.now.holder.now (scope_in (linked_at spot.now.holder.now (state_of works.old).instances)) spot.now.outlet spot.now.origin (repeated_of repeated.now) (Ok (items_of items.items)) (firing works.old told.old)) }
     ensures keeps { OnOk result (Keeps spot.now.holder.now (state_of works.old).instances (state_of works.new).instances) }
     ensures grown { OnOk result (length works.old.core.store ≤ length works.new.core.store) }
     ensures whole { OnOk result (IsWhole works.new) }
@@ -418,7 +417,7 @@ pub(crate) fn fire_repeat(
     requires whole { IsWhole works.old }
     requires spot { IsSpot (templates_of works.old) (state_of works.old).instances spot.now }
     requires value { ViewStands (length works.old.core.store) (view_of value.now) }
-    ensures fired { OnOk result (firing works.new told.new ≡ repeat_fired spot.now.holder.now (scope_in (linked_at spot.now.holder.now (state_of works.old).instances)) (view_of value.now) spot.now.outlet (spot.now.template.0, spot.now.body) (repeated_of repeated.now) (firing works.old told.old)) }
+    ensures fired { OnOk result (firing works.new told.new ≡ repeat_fired spot.now.holder.now (scope_in (linked_at spot.now.holder.now (state_of works.old).instances)) (view_of value.now) spot.now.outlet spot.now.origin (repeated_of repeated.now) (firing works.old told.old)) }
     ensures keeps { OnOk result (Keeps spot.now.holder.now (state_of works.old).instances (state_of works.new).instances) }
     ensures grown { OnOk result (length works.old.core.store ≤ length works.new.core.store) }
     ensures whole { OnOk result (IsWhole works.new) }

@@ -59,13 +59,12 @@ pub(crate) struct Ground<'a> {
     count: u32,
 }
 
-/// A word as a text.
+/// A word of ASCII characters as a text.
 fn text_of(alloc: Global, word: &str) -> Result<Txt, AllocError>
-    requires { IsWord word.now }
-    ensures { IfOk result (λ t. t ≡ word.now) }
+    ensures { IsWord word.now → IfOk result (λ t. t ≡ word.now) }
 {
     let mut text = Txt::new(alloc);
-    text.push_word(word)?;
+    text.push_str(word)?;
     Ok(text)
 }
 
@@ -184,7 +183,7 @@ fn key_of(role: &Role) -> Result<TrackKey, AllocError>
     ensures { IfOk result (λ k. k ≡ key_of_role (role_of role.now)) }
 {
     match role {
-        Role::Body => Ok(TrackKey::Place(0)),
+        Role::Body | Role::Named(_) => Ok(TrackKey::Place(0)),
         Role::Row(key, _) => key.copied(),
     }
 }

@@ -26,7 +26,7 @@ use Rattle.ng_link.specs.State.{State, looks_in, instance_at, live_nodes, shown}
 use Rattle.ng_markup.specs.Forest.{no_nodes}
 use Rattle.ng_page.specs.Answered.{DigestsWhere}
 use Rattle.ng_page.specs.Commands.{Asked, is_idle, begun, asked_run}
-use Rattle.ng_page.specs.Opening.{prepared, linked_by, opening}
+use Rattle.ng_page.specs.Opening.{prepared, linked_by, opening, page_origin, templates_for}
 use Rattle.ng_page.specs.Steps.{Outcome, Ends}
 use Rattle.ng_page.specs.Targets.{element_name, target_in}
 use Rattle.ng_page.proofs.DigestsStay.{digest_bare}
@@ -57,11 +57,11 @@ empty : (a : Accepted) → node_limit < nodes a.template.own.parts → opening a
 empty a l = ap (λ b. by (if b then Err NodeLimit else Ok tt)) (is_full (live_nodes (before a)) (nodes a.template.own.parts) l)
   where
     by : Result (Unit {0}) Fault → State
-    by r = linked_by r (link_by at_top (0, 0) 0 a.template.own r (before a)).state
+    by r = linked_by r (link_by at_top page_origin 0 a.template.own r (before a)).state
 
 -- nothing is linked before the template is
 none_linked : (u : Template) (f : Facts) → (prepared u f).instances ≡ []
-none_linked u f = (followed_sites (program_run 0 f.run (installed f)) (blank ((None, u) ∷ []) (installed f)) (program_stays 0 f.run (installed f))).instances
+none_linked u f = (followed_sites (program_run 0 f.run (installed f)) (blank (templates_for u f) (installed f)) (program_stays 0 f.run (installed f))).instances
 
 -- and a digest links nothing then
 linked_stays : (due : Bool) (s : State) (d : Digest) (probed : List (List ℕ)) (t : State) → DigestsWhere due s d probed t → s.instances ≡ [] → t.instances ≡ []

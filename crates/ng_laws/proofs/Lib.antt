@@ -10,3 +10,5 @@ pub mod Found
 pub mod Spans
 pub mod Cuts
 pub mod Crowded
+pub mod KeptScopes
+pub mod KeptRows

@@ -23,7 +23,7 @@ use Rattle.ng_link.specs.State.{State, live_nodes}
 use Rattle.ng_app.specs.Installing.{installed}
 use Rattle.ng_page.specs.Answered.{ready_place}
 use Rattle.ng_page.specs.Commands.{Asked, applies, queues, probes, digests, destroys_scope, emits, broadcasts, begun, emit_run, broadcast_run, asked_run}
-use Rattle.ng_page.specs.Opening.{prepared, linked_by, opening}
+use Rattle.ng_page.specs.Opening.{prepared, linked_by, opening, page_origin, templates_for}
 use Rattle.ng_page.specs.PageLaws.{by_test, page_laws}
 use Rattle.ng_page.specs.PageMachine as page
 use Rattle.ng_page.specs.PageMachine.{page_machine}
@@ -112,7 +112,7 @@ page_ends s h = short_ends page_machine page_laws.total IsGood (λ t g. g) teste
 -- ---- the opening
 
 prepared_ordered : (u : Template) (f : Facts) → IsOrdered (prepared u f)
-prepared_ordered u f = followed_ordered (program_run 0 f.run (installed f)) (blank ((None, u) ∷ []) (installed f)) (none_in_order key_cmp)
+prepared_ordered u f = followed_ordered (program_run 0 f.run (installed f)) (blank (templates_for u f) (installed f)) (none_in_order key_cmp)
 
 by_ordered : (r : Result (Unit {0}) Fault) (s : State) → IsOrdered s → IsOrdered (linked_by r s)
 by_ordered (Ok u) s h = h
@@ -121,7 +121,7 @@ by_ordered (Err f) s h = h
 pub opening_ordered : (f : Facts) (t : Template) → IsOrdered (opening f t)
 opening_ordered f t =
     let s : State = prepared t f in
-    by_ordered (linked (live_nodes s) t.own.parts) (link_at at_top (0, 0) 0 t.own s).state (link_ordered at_top (0, 0) 0 t.own s (prepared_ordered t f))
+    by_ordered (linked (live_nodes s) t.own.parts) (link_at at_top page_origin 0 t.own s).state (link_ordered at_top page_origin 0 t.own s (prepared_ordered t f))
 
 -- ---- the commands
 

@@ -2,3 +2,4 @@ pub mod Sessions
 pub mod Cloaks
 pub mod Turns
 pub mod Camel
+pub mod KeptRows

@@ -13,6 +13,8 @@
 //! - `names`: which directive a name picks. One `x` or `data` with its joiner goes, then the joiners at the front; each
 //!   word after the first begins with a capital, and of joiners at the end the last one stays. A name of joiners alone
 //!   picks none.
+//! - `rows`: a repeat keeps its rows. Whatever a fire of it makes, ends and faults with, a row whose track key is called for stays
+//!   linked as it is, with its scope, its nodes and the bodies in it.
 //!
 //! There is no code here, and nothing is built from this crate.
 #![tactic(auto)]
@@ -20,4 +22,5 @@
 pub mod cloak;
 pub mod holes;
 pub mod names;
+pub mod rows;
 pub mod sessions;

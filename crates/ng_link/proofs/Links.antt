@@ -15,9 +15,12 @@ use Rattle.ng_dom.specs.Drawing.{Stands, HomedAll, shows, at_block_all}
 use Rattle.ng_dom.specs.Editing.{changed_in, with_groups, group_inserted}
 use Rattle.ng_dom.specs.declared.dom.Dom.{Dom}
 use Rattle.ng_drawing.specs.Nodes.{nodes}
+use Rattle.ng_drawing.specs.Origins.{inner_home}
 use Rattle.ng_drawing.specs.Roles.{Role}
 use Rattle.ng_drawing.specs.Template.{Site, Outlet, Fragment}
 use Rattle.ng_drawing.specs.declared.kind.SiteKind.TheVariants.{Text}
+use Rattle.ng_drawing.specs.declared.origin.Home.{Home}
+use Rattle.ng_drawing.specs.declared.origin.Origin.{Origin}
 use Rattle.ng_language.specs.Trees.{no_trees}
 use Rattle.ng_template.specs.Numbering.{after_parts, after_outlets}
 use Rattle.ng_template.specs.Kept.{Named, fragments_in}
@@ -65,19 +68,19 @@ many_holes f m numbered =
     sym (all ∙ zero-add (length (holes m f.parts)))
 
 -- outlets that nothing fills yet
-module _ (template : ℕ) (serials : List ℕ) where
-  outlets_anchors : (os : List Outlet) (names : List ℕ) → length os ≡ length names → map (λ (o : OutletState). o.anchor) (outlets_on template serials os names) ≡ names
+module _ (home : Home) (serials : List ℕ) where
+  outlets_anchors : (os : List Outlet) (names : List ℕ) → length os ≡ length names → map (λ (o : OutletState). o.anchor) (outlets_on home serials os names) ≡ names
   outlets_anchors [] [] e = refl
   outlets_anchors [] (a ∷ names) e = absurd (omega (arith, e))
   outlets_anchors (o ∷ os) [] e = absurd (omega (arith, e))
   outlets_anchors (o ∷ os) (a ∷ names) e = ap (λ (ns : List ℕ). a ∷ ns) (outlets_anchors os names (omega (arith, e)))
 
-  outlets_bare : (os : List Outlet) (names : List ℕ) → AreBare (outlets_on template serials os names)
+  outlets_bare : (os : List Outlet) (names : List ℕ) → AreBare (outlets_on home serials os names)
   outlets_bare [] names = tt
   outlets_bare (o ∷ os) [] = tt
   outlets_bare (o ∷ os) (a ∷ names) = (refl, outlets_bare os names)
 
-  outlets_in : (p : List ℕ) (os : List Outlet) (names : List ℕ) → AreIn p (outlets_on template serials os names)
+  outlets_in : (p : List ℕ) (os : List Outlet) (names : List ℕ) → AreIn p (outlets_on home serials os names)
   outlets_in p [] names = tt
   outlets_in p (o ∷ os) [] = tt
   outlets_in p (o ∷ os) (a ∷ names) = (tt, outlets_in p os names)
@@ -110,13 +113,13 @@ free_path at_top p s is_free = ap (linked_at p) is_free.0
 free_path (in_outlet holder o i role) p s is_free = is_free.2
 
 -- an instance, as its parts in the code are seen
-pub linked_made : (all : List Named) (path serials : List ℕ) (f : Fragment) (one : code.Linked) → fragments_in all one.template.0 one.fragment ≡ f → map_keys one.spots.entries ≡ serials
-    → handled_of one.handlers.entries ≡ handled one.node f.parts [] → map outlet_of one.outlets.items ≡ outlets_on one.template.0 serials f.outlets (anchors one.node f.parts)
-    → linked_of all path one ≡ linked_on (one.template.0, one.fragment) one.scope.0 path f serials one.node
+pub linked_made : (all : List Named) (path serials : List ℕ) (f : Fragment) (one : code.Linked) → fragments_in all one.origin ≡ f → map_keys one.spots.entries ≡ serials
+    → handled_of one.handlers.entries ≡ handled one.node f.parts [] → map outlet_of one.outlets.items ≡ outlets_on (inner_home one.origin) serials f.outlets (anchors one.node f.parts)
+    → linked_of all path one ≡ linked_on one.origin one.scope.0 path f serials one.node
 linked_made all path serials f one fragment numbers entered outlets =
     let L : Fragment → List ℕ → Handled → List OutletState → Linked = λ g ss hs os. record {
       fragment = g;
-      page = record { template = one.template.0; fragment = one.fragment; scope = one.scope.0; path = path; serials = ss; node = one.node; handlers = hs; outlets = os };
+      page = record { origin = one.origin; scope = one.scope.0; path = path; serials = ss; node = one.node; handlers = hs; outlets = os };
     } in
     let hs : Handled = handled_of one.handlers.entries in
     let os : List OutletState = map outlet_of one.outlets.items in
@@ -136,7 +139,7 @@ stood_next (Some a) i ts count d e s = s.put.1.next ∙ s.builds.next
 
 -- the state that is left
 pub placed_state : (w : Works) (ws : List (Key × Watched)) (d : Dom) (is : BTreeMap (List ℕ) code.Linked) (os : BTreeMap ℕ (List ℕ)) (one : code.Linked) (place : Place)
-    (which : ℕ × ℕ) (scope object : ℕ) (path : List ℕ) (f : Fragment) (serials : List ℕ) → watchers_of ws ≡ with_sites path object serials f.sites (state_of w).watchers
+    (which : Origin) (scope object : ℕ) (path : List ℕ) (f : Fragment) (serials : List ℕ) → watchers_of ws ≡ with_sites path object serials f.sites (state_of w).watchers
     → instances_of (templates_of w) is.entries ≡ taken_in place path (instances_of (templates_of w) (insert_entry path_cmp w.instances.entries path one))
     → linked_of (templates_of w) path one ≡ linked_on which scope path f serials (state_of w).next_node → os.entries ≡ insert_entry nat_cmp w.owners.entries (state_of w).next_node path
     → next_name d ≡ (state_of w).next_node + nodes f.parts → state_of (after w ws d is os) ≡ placed_under place path object which scope f serials (state_of w)
@@ -163,7 +166,7 @@ spots_noted es p one k =
 
 -- What stands then, where nothing was linked on the path.
 module _ (w : Works) (ws : List (Key × Watched)) (d : Dom) (is : BTreeMap (List ℕ) code.Linked) (os : BTreeMap ℕ (List ℕ)) (one : code.Linked)
-    (which : ℕ × ℕ) (scope object m : ℕ) (path : List ℕ) (f : Fragment) (serials : List ℕ)
+    (which : Origin) (scope object m : ℕ) (path : List ℕ) (f : Fragment) (serials : List ℕ)
     (spotted : (k : Key) → spot_in is.entries k ≡ cond (is_path path k.path) (spot_at one k) (spot_in w.instances.entries k))
     (free : linked_at path (state_of w).instances ≡ None)
     (numbered : after_parts 0 f.parts ≡ Some (length f.sites)) (outlined : after_outlets 0 f.parts ≡ Some (length f.outlets))
@@ -234,7 +237,7 @@ module _ (w : Works) (ws : List (Key × Watched)) (d : Dom) (is : BTreeMap (List
   outlets_many = let all = counted_anchors m 0 (length f.outlets) f.parts outlined in omega (arith, all)
 
   bare : AreBare l.page.outlets
-  bare = outlets_bare which.0 serials f.outlets (anchors m f.parts)
+  bare = outlets_bare (inner_home which) serials f.outlets (anchors m f.parts)
 
   placed : m + nodes f.parts ≤ next_name d → IsPlaced (places_of new) (next_name d) path l
   placed end = record {
@@ -243,10 +246,10 @@ module _ (w : Works) (ws : List (Key × Watched)) (d : Dom) (is : BTreeMap (List
     outlets = outlined;
     count = count;
     sites = places;
-    anchors = outlets_anchors which.0 serials f.outlets (anchors m f.parts) outlets_many;
+    anchors = outlets_anchors (inner_home which) serials f.outlets (anchors m f.parts) outlets_many;
     rising = rising;
     undrawn = undrawn;
-    bodies = outlets_in which.0 serials path f.outlets (anchors m f.parts);
+    bodies = outlets_in (inner_home which) serials path f.outlets (anchors m f.parts);
     once = λ q. let none = bare_count q l.page.outlets bare in omega (arith, none);
     end = end;
   }

@@ -11,7 +11,7 @@ use Rattle.ng_drawing.specs.declared.instance.Instances as code_instances
 use Rattle.ng_drawing.specs.declared.instance.Instances.{roll-Instances}
 
 pub instance_made : (all : Fragments) (i : Instance-F code_instance.Instance code_instances.Instances)
-    → instance_of all (roll-Instance i) ≡ instance_with (all i.template.0 i.fragment) i.scope.0 (map state_of i.sites.items) (outlets_from (map (group_of all) i.outlets.items))
+    → instance_of all (roll-Instance i) ≡ instance_with (all i.origin) i.scope.0 (map state_of i.sites.items) (outlets_from (map (group_of all) i.outlets.items))
 instance_made all i = fold-roll-Instance Instance Group (instance_step all) instances_step i
 
 pub group_made : (all : Fragments) (is : Instances-F code_instance.Instance code_instances.Instances) → group_of all (roll-Instances is) ≡ (map role_of is.roles.items, instances_from (map (instance_of all) is.items.items))

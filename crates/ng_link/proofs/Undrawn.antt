@@ -14,6 +14,7 @@ use Rattle.ng_dom.specs.declared.dom.Dom.{Dom}
 use Rattle.ng_dom.proofs.Attributes.{same_joined, same_attributes}
 use Rattle.ng_drawing.specs.Nodes.{part_nodes}
 use Rattle.ng_drawing.specs.Template.{Outlet, Fragment, Part, Contents, Parts, text_part, comment_part, element_part, anchor_part, children, bound, no_parts, part_then}
+use Rattle.ng_drawing.specs.declared.origin.Home.{Home}
 use Rattle.ng_template.specs.Numbering.{is_within, is_apart, are_drawn, part_draws, contents_draw, parts_draw, is_outlet, is_body, is_undrawn, is_whole}
 use Rattle.ng_template.proofs.Ranges.{parts_within}
 use Rattle.ng_link.specs.Calls.{fills_any, outlet_on, outlets_on}
@@ -185,20 +186,20 @@ module _ (places : Key → Option ℕ) (looks same : Key → Look) (d : Dom) (is
   }
 
 -- the outlets of a whole fragment
-one_undrawn : (serials : List ℕ) (f : Fragment) → length serials ≡ length f.sites → (bodies template : ℕ) (o : Outlet) (a : ℕ) → is_outlet (length f.sites) bodies o ≡ true → is_undrawn (length f.sites) f.parts o ≡ true
-    → IsUndrawn serials f.parts (outlet_on template serials o a)
-one_undrawn serials f many bodies template o a e u =
+one_undrawn : (serials : List ℕ) (f : Fragment) → length serials ≡ length f.sites → (bodies : ℕ) (home : Home) (o : Outlet) (a : ℕ) → is_outlet (length f.sites) bodies o ≡ true → is_undrawn (length f.sites) f.parts o ≡ true
+    → IsUndrawn serials f.parts (outlet_on home serials o a)
+one_undrawn serials f many bodies home o a e u =
     let lt : o.site < length f.sites = ltb-true o.site (length f.sites) (both_true (nat_lt o.site (length f.sites)) (is_body bodies o.filling) e).0 in
     (o.site, (omega (arith, lt, many), (refl, ap (λ (n : ℕ). parts_draw (is_apart o.site 0 n) f.parts) many ∙ u)))
 
-all_undrawn : (serials : List ℕ) (f : Fragment) → length serials ≡ length f.sites → (bodies template : ℕ) (os : List Outlet) (names : List ℕ) → list_all (is_outlet (length f.sites) bodies) os ≡ true
-    → list_all (is_undrawn (length f.sites) f.parts) os ≡ true → AreUndrawn serials f.parts (outlets_on template serials os names)
-all_undrawn serials f many bodies template [] names e u = tt
-all_undrawn serials f many bodies template (o ∷ os) [] e u = tt
-all_undrawn serials f many bodies template (o ∷ os) (a ∷ names) e u =
+all_undrawn : (serials : List ℕ) (f : Fragment) → length serials ≡ length f.sites → (bodies : ℕ) (home : Home) (os : List Outlet) (names : List ℕ) → list_all (is_outlet (length f.sites) bodies) os ≡ true
+    → list_all (is_undrawn (length f.sites) f.parts) os ≡ true → AreUndrawn serials f.parts (outlets_on home serials os names)
+all_undrawn serials f many bodies home [] names e u = tt
+all_undrawn serials f many bodies home (o ∷ os) [] e u = tt
+all_undrawn serials f many bodies home (o ∷ os) (a ∷ names) e u =
     let first = both_true (is_outlet (length f.sites) bodies o) (list_all (is_outlet (length f.sites) bodies) os) e in
     let second = both_true (is_undrawn (length f.sites) f.parts o) (list_all (is_undrawn (length f.sites) f.parts) os) u in
-    (one_undrawn serials f many bodies template o a first.0 second.0, all_undrawn serials f many bodies template os names first.1 second.1)
+    (one_undrawn serials f many bodies home o a first.0 second.0, all_undrawn serials f many bodies home os names first.1 second.1)
 
-pub outlets_undrawn : (template : ℕ) (serials : List ℕ) (f : Fragment) → length serials ≡ length f.sites → (bodies : ℕ) → is_whole bodies f ≡ true → (names : List ℕ) → AreUndrawn serials f.parts (outlets_on template serials f.outlets names)
-outlets_undrawn template serials f many bodies whole names = all_undrawn serials f many bodies template f.outlets names (whole_numbers bodies f whole) (whole_undrawn bodies f whole)
+pub outlets_undrawn : (home : Home) (serials : List ℕ) (f : Fragment) → length serials ≡ length f.sites → (bodies : ℕ) → is_whole bodies f ≡ true → (names : List ℕ) → AreUndrawn serials f.parts (outlets_on home serials f.outlets names)
+outlets_undrawn home serials f many bodies whole names = all_undrawn serials f many bodies home f.outlets names (whole_numbers bodies f whole) (whole_undrawn bodies f whole)

@@ -9,8 +9,11 @@ use Rattle.ng_base.specs.Views.{ViewTree}
 use Rattle.ng_base.specs.declared.path.Key.{Key}
 use Rattle.ng_behaviour.specs.Scopes.{path_at, object_at}
 use Rattle.ng_drawing.specs.Nodes.{nodes}
+use Rattle.ng_drawing.specs.Origins.{inner_home}
 use Rattle.ng_drawing.specs.Roles.{Role}
 use Rattle.ng_drawing.specs.Template.{Outlet, Fragment}
+use Rattle.ng_drawing.specs.declared.origin.Home.{Home}
+use Rattle.ng_drawing.specs.declared.origin.Origin.{Origin}
 use Rattle.ng_template.specs.Kept.{Named}
 use Rattle.ng_watch.specs.Ended.{over, without_over}
 use Rattle.ng_watch.specs.Keys.{key_cmp, is_key, begins}
@@ -76,30 +79,29 @@ ended_at s = record s {
   resting = rested s.instances (over s.core.objects s.watchers) s.resting;
 }
 
--- the outlets of a template's fragment whose sites have these numbers of registration, at anchors of these names; nothing fills them yet
-abbrev pub outlet_on : ℕ → List ℕ → Outlet → ℕ → OutletState
-outlet_on template serials o a = record { serial = slice_index_or serials o.site 0; template = template; filling = o.filling; anchor = a; bodies = [] }
+-- the outlets of a fragment whose bodies come from a template, and whose sites have these numbers of registration, at anchors of these names; nothing fills them yet
+abbrev pub outlet_on : Home → List ℕ → Outlet → ℕ → OutletState
+outlet_on home serials o a = record { serial = slice_index_or serials o.site 0; home = home; filling = o.filling; anchor = a; bodies = [] }
 
-abbrev pub outlets_on : ℕ → List ℕ → List Outlet → List ℕ → List OutletState
-outlets_on template serials [] names = []
-outlets_on template serials (o ∷ os) [] = []
-outlets_on template serials (o ∷ os) (a ∷ names) = outlet_on template serials o a ∷ outlets_on template serials os names
+abbrev pub outlets_on : Home → List ℕ → List Outlet → List ℕ → List OutletState
+outlets_on home serials [] names = []
+outlets_on home serials (o ∷ os) [] = []
+outlets_on home serials (o ∷ os) (a ∷ names) = outlet_on home serials o a ∷ outlets_on home serials os names
 
--- the instance of a fragment, by its numbers, on a scope of a path: its sites have these numbers of registration, its nodes the names
+-- the instance of a fragment on a scope of a path: its sites have these numbers of registration, its nodes the names
 -- from one on, and its handlers and anchors are entered with these
-abbrev pub page_on : ℕ × ℕ → ℕ → List ℕ → Fragment → List ℕ → ℕ → Page
+abbrev pub page_on : Origin → ℕ → List ℕ → Fragment → List ℕ → ℕ → Page
 page_on which scope path f serials node = record {
-  template = which.0;
-  fragment = which.1;
+  origin = which;
   scope = scope;
   path = path;
   serials = serials;
   node = node;
   handlers = handled node f.parts [];
-  outlets = outlets_on which.0 serials f.outlets (anchors node f.parts);
+  outlets = outlets_on (inner_home which) serials f.outlets (anchors node f.parts);
 }
 
-abbrev pub linked_on : ℕ × ℕ → ℕ → List ℕ → Fragment → List ℕ → ℕ → Linked
+abbrev pub linked_on : Origin → ℕ → List ℕ → Fragment → List ℕ → ℕ → Linked
 linked_on which scope path f serials node = record { fragment = f; page = page_on which scope path f serials node }
 
 -- where an instance stands: it is the page's, or a body in an outlet of another instance, which stands for this, and before the i-th of
@@ -112,9 +114,9 @@ abbrev pub taken_in : Place → List ℕ → Instances → Instances
 taken_in at_top p is = is
 taken_in (in_outlet holder o i role) p is = outlets_changed holder (body_added o i (record { path = p; role = role })) is
 
--- A fragment, by its numbers, stands at a place on a scope of a path: its sites are watched over the scope's object, each under its
+-- A fragment stands at a place on a scope of a path: its sites are watched over the scope's object, each under its
 -- number of registration, its nodes stand, and its instance is noted.
-abbrev pub placed_under : Place → List ℕ → ℕ → ℕ × ℕ → ℕ → Fragment → List ℕ → State → State
+abbrev pub placed_under : Place → List ℕ → ℕ → Origin → ℕ → Fragment → List ℕ → State → State
 placed_under place path object which scope f serials s = record s {
   watchers = with_sites path object serials f.sites s.watchers;
   instances = taken_in place path (with_instance path (linked_on which scope path f serials s.next_node) s.instances);
@@ -122,7 +124,7 @@ placed_under place path object which scope f serials s = record s {
   next_node = s.next_node + nodes f.parts;
 }
 
-abbrev pub placed_on : Place → ℕ × ℕ → ℕ → Fragment → List ℕ → State → State
+abbrev pub placed_on : Place → Origin → ℕ → Fragment → List ℕ → State → State
 placed_on place which scope f serials s = placed_under place (path_at s.core.scopes scope) (object_at s.core.scopes scope) which scope f serials s
 
 -- an outlet of an instance has these bodies, which are those that it had, in another order or with other roles

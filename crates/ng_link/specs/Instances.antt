@@ -12,6 +12,8 @@ use Rattle.ng_dom.specs.Drawing.{Stands, Bodies, none_stand, no_bodies, body_the
 use Rattle.ng_dom.specs.Lists.{put_at}
 use Rattle.ng_drawing.specs.Roles.{Role}
 use Rattle.ng_drawing.specs.Template.{Fragment, Filling}
+use Rattle.ng_drawing.specs.declared.origin.Home.{Home}
+use Rattle.ng_drawing.specs.declared.origin.Origin.{Origin}
 use Rattle.ng_watch.specs.Keys.{begins}
 use Rattle.ng_link.specs.Handlers.{Handled}
 use Rattle.ng_link.specs.Shape.{keys_in, shape}
@@ -21,20 +23,19 @@ pub record Body : Type 0 where
   pub path : List ℕ
   pub role : Role
 
--- An outlet that stands: the number of registration of its site; how it is filled, and by its number the template that has the bodies;
--- the name of its anchor's node; and its bodies in order
+-- An outlet that stands: the number of registration of its site; how it is filled, and where the bodies come from; the name of its anchor's
+-- node; and its bodies in order
 pub record OutletState : Type 0 where
   pub serial : ℕ
-  pub template : ℕ
+  pub home : Home
   pub filling : Filling
   pub anchor : ℕ
   pub bodies : List Body
 
--- an instance that stands: the numbers of its template and of its fragment in that, and of its scope; the path of its sites' keys, and
+-- an instance that stands: the fragment that it is one of, and the number of its scope; the path of its sites' keys, and
 -- their numbers of registration in the order of its sites; the name of its first node; what handles events at its nodes; its outlets
 pub record Page : Type 0 where
-  pub template : ℕ
-  pub fragment : ℕ
+  pub origin : Origin
   pub scope : ℕ
   pub path : List ℕ
   pub serials : List ℕ

@@ -151,13 +151,12 @@ abbrev pub body_of : code_body.Body → Body
 body_of b = record { path = b.path; role = role_of b.role }
 
 abbrev pub outlet_of : code_outlet.OutletState → OutletState
-outlet_of o = record { serial = o.serial; template = o.template.0; filling = filling_of o.filling; anchor = o.anchor; bodies = map body_of o.bodies.items }
+outlet_of o = record { serial = o.serial; home = o.home; filling = filling_of o.filling; anchor = o.anchor; bodies = map body_of o.bodies.items }
 
 -- an instance keeps under the number of each site the node that it is drawn in
 abbrev pub page_of : List ℕ → code.Linked → Page
 page_of path i = record {
-  template = i.template.0;
-  fragment = i.fragment;
+  origin = i.origin;
   scope = i.scope.0;
   path = path;
   serials = map_keys i.spots.entries;
@@ -167,7 +166,7 @@ page_of path i = record {
 }
 
 abbrev pub linked_of : List Named → List ℕ → code.Linked → Linked
-linked_of all path i = record { fragment = fragments_in all i.template.0 i.fragment; page = page_of path i }
+linked_of all path i = record { fragment = fragments_in all i.origin; page = page_of path i }
 
 abbrev pub instances_of : List Named → List (List ℕ × code.Linked) → Instances
 instances_of all is = map (λ e. (e.0, linked_of all e.0 e.1)) is

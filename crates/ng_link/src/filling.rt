@@ -1,4 +1,4 @@
-//! The outlets that a site fills, for the fire of a block (API: ngIf, ngSwitch, ngRepeat).
+//! The outlets that a site fills, for the fire of a block (API: ngIf, ngSwitch, ngRepeat, ngInclude).
 ghost use Rattle.std.specs.Prelude.{◌≡◌, Some, map, IfOk};
 ghost use Rattle.ng_link.specs.Due.{due_of, due_at, due_from, all_due};
 ghost use Rattle.ng_link.specs.Events.{scope_in};
@@ -9,16 +9,17 @@ ghost use Rattle.ng_link.specs.State.{body_of, outlet_of, state_of};
 use crate::outlets::outlet_in;
 use crate::works::{Body, OutletState, Works};
 use ng_base::fault::Memory;
-use ng_base::name::{ScopeId, TplId};
+use ng_base::name::ScopeId;
 use ng_base::path::{Key, Path};
+use ng_drawing::origin::Home;
 use ng_template::Filling;
 use std::alloc::Global;
 
-/// An outlet that a site fills: its number, how it is filled, the template that has the bodies, and those that stand.
+/// An outlet that a site fills: its number, how it is filled, where the bodies come from, and those that stand.
 #[derive(Drop)]
 pub struct Due {
     pub outlet: usize,
-    pub template: TplId,
+    pub home: Home,
     pub filling: Filling,
     pub bodies: Vec<Body>,
 }
@@ -43,7 +44,7 @@ fn due_outlet(alloc: Global, outlet: usize, state: &OutletState) -> Result<Due, 
 {
     Ok(Due {
         outlet,
-        template: state.template,
+        home: state.home,
         filling: state.filling.copied(alloc)?,
         bodies: copied_bodies(alloc, state.bodies.as_slice())?,
     })

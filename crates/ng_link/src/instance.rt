@@ -14,6 +14,7 @@ use ng_base::fault::Memory;
 use ng_base::name::{ScopeId, TplId};
 use ng_base::path::{Key, Path};
 use ng_drawing::instance::{Instance, Instances, SiteState};
+use ng_drawing::origin::{Home, Origin};
 use ng_value::copies::copied;
 use ng_value::snapshot::Snap;
 
@@ -58,8 +59,7 @@ fn nothing(works: &Works) -> Instance
     ensures { seen_instance (fragments_in (templates_of works.now)) result ≡ nothing_linked }
 {
     Instance {
-        template: TplId(u32::MAX),
-        fragment: 0,
+        origin: Origin::plain(Home::first(TplId(u32::MAX)), 0),
         scope: ScopeId(0),
         sites: Vec::new(works.alloc),
         outlets: Vec::new(works.alloc),
@@ -78,8 +78,7 @@ fn instance_on(works: &Works, path: &Path) -> Result<Instance, Memory>
     let sites = site_states(works, path, one)?;
     let outlets = outlets_in(works, path, one.outlets.as_slice())?;
     Ok(Instance {
-        template: one.template,
-        fragment: one.fragment,
+        origin: one.origin,
         scope: one.scope,
         sites,
         outlets,

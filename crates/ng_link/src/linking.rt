@@ -15,7 +15,7 @@ ghost use Rattle.ng_dom.specs.Nodes.{names_of};
 ghost use Rattle.ng_dom.specs.Rooms.{ReadsIn};
 ghost use Rattle.ng_drawing.specs.Nodes.{nodes, node_limit};
 ghost use Rattle.ng_drawing.specs.Template.{Fragment};
-ghost use Rattle.ng_template.specs.Kept.{Named, fragment_in};
+ghost use Rattle.ng_template.specs.Kept.{Named, fragment_for};
 ghost use Rattle.ng_template.specs.Seen.{parts_of};
 ghost use Rattle.ng_link.specs.Building.{unset, parent_name, IsThere, IsPut, IsStood};
 ghost use Rattle.ng_link.specs.Calls.{taken_in, placed_on};
@@ -35,10 +35,11 @@ use crate::outlets::{outlet_in, outlets_of, take_in};
 use crate::placing::{spots_of, watch_all};
 use crate::works::{Body, Linked, OutletState, Works};
 use ng_base::fault::{Fault, Memory};
-use ng_base::name::{NodeId, ScopeId, Serial, TplId};
+use ng_base::name::{NodeId, ScopeId, Serial};
 use ng_base::path::Path;
 use ng_dom::dom::Dom;
 use ng_dom::record::Group;
+use ng_drawing::origin::Origin;
 use ng_drawing::roles::Role;
 use ng_template::Parts;
 use std::alloc::Global;
@@ -143,16 +144,24 @@ fn link_nodes(
     Ok(spots)
 }
 
+/// The order in which parts are linked.
+fn parts_order(alloc: Global, parts: &Parts) -> Result<Vec<LinkStep>, Memory>
+    ensures { IfOk result (λ v. map step_of v.items ≡ steps (parts_of parts.now)) }
+{
+    let mut order = Vec::new(alloc);
+    add_parts(&mut order, alloc, parts.as_slice())?;
+    Ok(order)
+}
+
 impl Works {
     /// The order in which a fragment is linked.
-    pub fn link_order(&self, t: TplId, n: u32) -> Result<Vec<LinkStep>, Memory>
-        ensures { (f : Fragment) → fragment_in (templates_of self.now) t.0 n ≡ Some f → IfOk result (λ v. map step_of v.items ≡ steps f.parts) }
+    pub fn link_order(&self, origin: Origin) -> Result<Vec<LinkStep>, Memory>
+        ensures { (f : Fragment) → fragment_for (templates_of self.now) origin ≡ Some f → IfOk result (λ v. map step_of v.items ≡ steps f.parts) }
     {
-        let mut order = Vec::new(self.alloc);
-        if let Some(fragment) = self.templates.fragment(t, n) {
-            add_parts(&mut order, self.alloc, fragment.parts().as_slice())?;
+        match self.templates.whole(self.alloc, origin)? {
+            None => Ok(Vec::new(self.alloc)),
+            Some(whole) => parts_order(self.alloc, whole.fragment().parts()),
         }
-        Ok(order)
     }
 
     /// How many nodes stand.
@@ -164,13 +173,13 @@ impl Works {
     }
 
     /// Whether the nodes of a fragment find room beside those that stand.
-    pub fn has_room(&self, t: TplId, n: u32) -> bool
+    pub fn has_room(&self, origin: Origin) -> Result<bool, Memory>
         requires stands { IsStanding self.now }
-        ensures { (f : Fragment) → fragment_in (templates_of self.now) t.0 n ≡ Some f → is_ok (linked (live_nodes (state_of self.now)) f.parts) ≡ result }
+        ensures { (f : Fragment) → fragment_for (templates_of self.now) origin ≡ Some f → IfOk result (λ b. is_ok (linked (live_nodes (state_of self.now)) f.parts) ≡ b) }
     {
-        match self.templates.fragment(t, n) {
-            None => true,
-            Some(fragment) => !is_too_large(self.live_nodes() as u64, fragment.parts()),
+        match self.templates.whole(self.alloc, origin)? {
+            None => Ok(true),
+            Some(whole) => Ok(!is_too_large(self.live_nodes() as u64, whole.fragment().parts())),
         }
     }
 
@@ -179,21 +188,20 @@ impl Works {
     pub fn place(
         &mut self,
         place: &Place,
-        t: TplId,
-        n: u32,
+        origin: Origin,
         scope: ScopeId,
         serials: &[u64],
     ) -> Result<(), Fault>
-        requires template { IsSome (fragment_in (templates_of self.old) t.0 n) }
+        requires template { IsSome (fragment_for (templates_of self.old) origin) }
         requires scope { scope.0 < length (state_of self.old).core.scopes }
         requires objects { AreAmong (length (state_of self.old).core.objects) (state_of self.old).core.scopes }
         requires free { IsFree (place_of place.now) (path_at (state_of self.old).core.scopes scope.0) (state_of self.old) }
         requires stands { IsStanding self.old }
-        requires room { (f : Fragment) → fragment_in (templates_of self.old) t.0 n ≡ Some f → linked (live_nodes (state_of self.old)) f.parts ≡ Ok tt }
+        requires room { (f : Fragment) → fragment_for (templates_of self.old) origin ≡ Some f → linked (live_nodes (state_of self.old)) f.parts ≡ Ok tt }
         requires rising { IsStrictlySortedBy nat_cmp serials.now }
         requires below { AllByRecursion (λ n. n < (state_of self.old).core.serial) serials.now }
-        requires count { (f : Fragment) → fragment_in (templates_of self.old) t.0 n ≡ Some f → length serials.now ≡ site_count (steps f.parts) }
-        ensures state { OnOk result ((f : Fragment) → fragment_in (templates_of self.old) t.0 n ≡ Some f → state_of self.new ≡ placed_on (place_of place.now) (t.0, n) scope.0 f serials.now (state_of self.old)) }
+        requires count { (f : Fragment) → fragment_for (templates_of self.old) origin ≡ Some f → length serials.now ≡ site_count (steps f.parts) }
+        ensures state { OnOk result ((f : Fragment) → fragment_for (templates_of self.old) origin ≡ Some f → state_of self.new ≡ placed_on (place_of place.now) origin scope.0 f serials.now (state_of self.old)) }
         ensures core { OnOk result (self.new.core ≡ self.old.core) }
         ensures stands { OnOk result (IsStanding self.new) }
         ensures templates { templates_of self.new ≡ templates_of self.old }
@@ -202,7 +210,7 @@ impl Works {
         let _all_stand = self.dom.live();
         let path = self.core.scopes.path(scope).copied()?;
         let spot = spot_for(&self.instances, place);
-        let one = self.build(&spot, t, n, scope, &path, serials)?;
+        let one = self.build(&spot, origin, scope, &path, serials)?;
         self.note(place, path, one)?;
         Ok(())
     }
@@ -211,31 +219,29 @@ impl Works {
     fn build(
         &mut self,
         spot: &Spot,
-        t: TplId,
-        n: u32,
+        origin: Origin,
         scope: ScopeId,
         path: &Path,
         serials: &[u64],
     ) -> Result<Linked, Fault>
-        requires template { IsSome (fragment_in (templates_of self.old) t.0 n) }
+        requires template { IsSome (fragment_for (templates_of self.old) origin) }
         requires scope { scope.0 < length (state_of self.old).core.scopes }
         requires there { IsThere self.old.dom spot.now.parent }
-        requires room { (f : Fragment) → fragment_in (templates_of self.old) t.0 n ≡ Some f → live_count self.old.dom + nodes f.parts ≤ node_limit }
+        requires room { (f : Fragment) → fragment_for (templates_of self.old) origin ≡ Some f → live_count self.old.dom + nodes f.parts ≤ node_limit }
         requires rising { IsStrictlySortedBy nat_cmp serials.now }
-        requires count { (f : Fragment) → fragment_in (templates_of self.old) t.0 n ≡ Some f → length serials.now ≡ site_count (steps f.parts) }
-        ensures built { IfOk result (λ i. (f : Fragment) → fragment_in (templates_of self.old) t.0 n ≡ Some f → IsPrepared (t.0, n) scope.0 path.now serials.now f (parent_name spot.now.parent, spot.now.at) self.old self.new i) }
+        requires count { (f : Fragment) → fragment_for (templates_of self.old) origin ≡ Some f → length serials.now ≡ site_count (steps f.parts) }
+        ensures built { IfOk result (λ i. (f : Fragment) → fragment_for (templates_of self.old) origin ≡ Some f → IsPrepared origin scope.0 path.now serials.now f (parent_name spot.now.parent, spot.now.at) self.old self.new i) }
         ensures rest { self.new ≡ record self.old { dom = self.new.dom; watchers = self.new.watchers } }
         ensures faults { IfErr result (λ e. is_memory e ≡ true) }
     {
-        let tpl = self.templates.get(t);
-        let _in_order = tpl.own();
-        let Some(fragment) = tpl.fragment(n) else {
+        let Some(whole) = self.templates.whole(self.alloc, origin)? else {
             unreachable!();
         };
+        let fragment = whole.fragment();
         let node = self.dom.next_name();
         let mut handlers = BTreeMap::new(self.alloc);
         enter_parts(self.alloc, &mut handlers, node, fragment.parts().as_slice())?;
-        let outlets = outlets_of(self.alloc, t, serials, fragment, node)?;
+        let outlets = outlets_of(self.alloc, origin.inner(), serials, fragment, node)?;
         let nodes = link_nodes(
             self.alloc,
             &mut self.dom,
@@ -255,8 +261,7 @@ impl Works {
         )?;
         let spots = spots_of(self.alloc, serials, nodes.as_slice())?;
         Ok(Linked {
-            template: t,
-            fragment: n,
+            origin,
             scope,
             spots,
             node,

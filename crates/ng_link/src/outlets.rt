@@ -15,8 +15,8 @@ ghost use Rattle.ng_link.specs.State.{body_of, outlet_of, instances_of, spot_in}
 
 use crate::works::{Body, Linked, OutletState};
 use ng_base::fault::Memory;
-use ng_base::name::TplId;
 use ng_base::path::Path;
+use ng_drawing::origin::Home;
 use ng_template::{Contents, Fragment, Outlet, Part};
 use std::alloc::{AllocError, Global};
 use std::collections::BTreeMap;
@@ -76,19 +76,19 @@ fn add_anchors(names: &mut Vec<u64>, n: u64, parts: &[Part]) -> Result<u64, Memo
 /// An outlet that nothing fills yet.
 fn outlet_at(
     alloc: Global,
-    t: TplId,
+    home: Home,
     serials: &[u64],
     outlet: &Outlet,
     anchor: u64,
 ) -> Result<OutletState, AllocError>
-    ensures { IfOk result (λ o. outlet_of o ≡ outlet_on t.0 serials.now (template_outlet outlet.now) anchor) }
+    ensures { IfOk result (λ o. outlet_of o ≡ outlet_on home serials.now (template_outlet outlet.now) anchor) }
 {
     Ok(OutletState {
         serial: match serials.get(outlet.site as usize) {
             None => 0,
             Some(serial) => *serial,
         },
-        template: t,
+        home,
         filling: outlet.filling.copied(alloc)?,
         anchor,
         bodies: Vec::new(alloc),
@@ -98,12 +98,12 @@ fn outlet_at(
 /// The outlets of a fragment, at anchors of these names.
 fn outlets_at(
     alloc: Global,
-    t: TplId,
+    home: Home,
     serials: &[u64],
     outlets: &[Outlet],
     names: &[u64],
 ) -> Result<Vec<OutletState>, AllocError>
-    ensures { IfOk result (λ v. map outlet_of v.items ≡ outlets_on t.0 serials.now (map template_outlet outlets.now) names.now) }
+    ensures { IfOk result (λ v. map outlet_of v.items ≡ outlets_on home serials.now (map template_outlet outlets.now) names.now) }
 {
     let mut made = Vec::new(alloc);
     let mut left = names;
@@ -111,7 +111,7 @@ fn outlets_at(
         match left.split_first() {
             None => return Ok(made),
             Some((name, others)) => {
-                made.push(outlet_at(alloc, t, serials, outlet, *name)?)?;
+                made.push(outlet_at(alloc, home, serials, outlet, *name)?)?;
                 left = others;
             }
         }
@@ -122,16 +122,16 @@ fn outlets_at(
 /// The outlets of a fragment whose nodes have the names from one on.
 pub(crate) fn outlets_of(
     alloc: Global,
-    t: TplId,
+    home: Home,
     serials: &[u64],
     fragment: &Fragment,
     node: u64,
 ) -> Result<Vec<OutletState>, Memory>
-    ensures { IfOk result (λ v. map outlet_of v.items ≡ outlets_on t.0 serials.now (fragment_of fragment.now).outlets (anchors node (fragment_of fragment.now).parts)) }
+    ensures { IfOk result (λ v. map outlet_of v.items ≡ outlets_on home serials.now (fragment_of fragment.now).outlets (anchors node (fragment_of fragment.now).parts)) }
 {
     let mut names = Vec::new(alloc);
     add_anchors(&mut names, node, fragment.parts().as_slice())?;
-    Ok(outlets_at(alloc, t, serials, fragment.outlets(), names.as_slice())?)
+    Ok(outlets_at(alloc, home, serials, fragment.outlets(), names.as_slice())?)
 }
 
 /// An outlet of an instance.

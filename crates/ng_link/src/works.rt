@@ -14,10 +14,11 @@ ghost use Rattle.ng_template.specs.Kept.{templates_of as kept_templates};
 
 use crate::placing::is_site;
 use ng_base::fault::Fault;
-use ng_base::name::{ScopeId, TplId};
+use ng_base::name::ScopeId;
 use ng_base::path::{Key, Path};
 use ng_core::core_state::{Core, Handed};
 use ng_dom::dom::Dom;
+use ng_drawing::origin::{Home, Origin};
 use ng_drawing::roles::Role;
 use ng_parse::Program;
 use ng_template::acts::Handler;
@@ -34,23 +35,22 @@ pub struct Body {
     pub role: Role,
 }
 
-/// An outlet that stands: the number of registration of its site; how it is filled, and the template that has the bodies; the name of its
-/// anchor's node; and its bodies in order.
+/// An outlet that stands: the number of registration of its site; how it is filled, and where the bodies come from; the name of its anchor's
+/// node; and its bodies in order.
 #[derive(Drop)]
 pub struct OutletState {
     pub(crate) serial: u64,
-    pub(crate) template: TplId,
+    pub(crate) home: Home,
     pub(crate) filling: Filling,
     pub(crate) anchor: u64,
     pub(crate) bodies: Vec<Body>,
 }
 
-/// An instance that stands, of a fragment of a template. Under the number of registration of each site there is the name of the node
+/// An instance that stands, of a fragment. Under the number of registration of each site there is the name of the node
 /// that it is drawn in. The names of its nodes rise from `node` on, and its handlers stand by these.
 #[derive(Drop)]
 pub struct Linked {
-    pub(crate) template: TplId,
-    pub(crate) fragment: u32,
+    pub(crate) origin: Origin,
     pub(crate) scope: ScopeId,
     pub(crate) spots: BTreeMap<u64, u64>,
     pub(crate) node: u64,

@@ -1,16 +1,20 @@
 -- The outlets that get a body at the fire of a site, one after another.
-use Rattle.std.proofs.Common.{◌≡◌, inl, inr, ◌≤◌, ◌+◌, ℕ, zero, suc, Bool, true, false, List, [], ◌∷◌, ◌++◌, cond, Some, refl, ap, sym, subst, ◌∙◌, arith, slice_get}
+use Rattle.std.proofs.Common.{◌≡◌, inl, inr, ◌≤◌, ◌<◌, ◌+◌, ℕ, zero, suc, Bool, true, false, List, [], ◌∷◌, ◌++◌, cond, Some, refl, ap, sym, subst, ◌∙◌, arith, slice_get}
 use Rattle.std.specs.Prelude.{◌||◌, ◌&&◌, ◌==◌, not, slice_index_or}
 use Rattle.std.specs.BTreeMap.{is_at}
 use Rattle.std.specs.List.{AllByRecursion, list_any}
 use Rattle.std.specs.Ordering.{nat_cmp}
 use Rattle.std.proofs.lemmas.Bool.{eqb-true, eq-eqb}
+use Rattle.std.proofs.lemmas.Slice.Eq.{bytes_eq-Decides}
 use Rattle.ng_base.specs.Views.{ViewTree}
+use Rattle.ng_dom.specs.Lists.{put_at}
 use Rattle.ng_drawing.specs.Cases.{Case, case_in, calls_for}
-use Rattle.ng_drawing.specs.Roles.{has_roles}
+use Rattle.ng_drawing.specs.Looks.{is_kept_true}
+use Rattle.ng_drawing.specs.Roles.{a_named, has_roles, is_named_so, is_one_named}
 use Rattle.ng_drawing.specs.Rows.{is_as_called, is_filled}
-use Rattle.ng_drawing.specs.Template.{Filling, body_if, on_case, for_each, Outlet}
+use Rattle.ng_drawing.specs.Template.{Filling, body_if, on_case, for_each, by_name, Outlet}
 use Rattle.ng_fire.specs.Blocks.{has_bodies, goes, cases_due, comes}
+use Rattle.ng_language.specs.Texts.{text_of}
 use Rattle.ng_link.specs.Due.{Due, due_at, due_from}
 use Rattle.ng_link.specs.Instances.{Body, OutletState, is_filled_by, with_body, body_added}
 use Rattle.ng_link.specs.State.{roles_in}
@@ -29,18 +33,42 @@ abbrev pub has_rows : Filling → Bool
 has_rows (body_if b) = false
 has_rows (on_case c b) = false
 has_rows (for_each r b) = true
+has_rows (by_name b) = false
+
+-- whether it has the template of a name in it
+abbrev pub has_name : Filling → Bool
+has_name (body_if b) = false
+has_name (on_case c b) = false
+has_name (for_each r b) = false
+has_name (by_name b) = true
+
+-- no outlet has both
+name_rows : (f : Filling) → has_name f ≡ true → has_rows f ≡ false
+name_rows (body_if b) name = absurd (cc)
+name_rows (on_case c b) name = absurd (cc)
+name_rows (for_each r b) name = absurd (cc)
+name_rows (by_name b) name = refl
+
+-- all of that goes
+name_goes : (f : Filling) (v : ViewTree) → has_name f ≡ true → goes f v ≡ true
+name_goes (body_if b) v name = absurd (cc)
+name_goes (on_case c b) v name = absurd (cc)
+name_goes (for_each r b) v name = absurd (cc)
+name_goes (by_name b) v name = refl
 
 -- what is not called for goes
 off_goes : (cases : List Case) (f : Filling) (v : ViewTree) → has_rows f ≡ false → calls_for cases f (Some v) ≡ false → goes f v ≡ true
 off_goes cases (body_if b) v one e = ap not e
 off_goes cases (on_case c b) v one e = refl
 off_goes cases (for_each r b) v one e = absurd (cc)
+off_goes cases (by_name b) v one e = refl
 
 -- rows are called for by their entries
 rows_uncalled : (cases : List Case) (f : Filling) (v : ViewTree) → has_rows f ≡ true → calls_for cases f (Some v) ≡ false
 rows_uncalled cases (body_if b) v rows = absurd (cc)
 rows_uncalled cases (on_case c b) v rows = absurd (cc)
 rows_uncalled cases (for_each r b) v rows = refl
+rows_uncalled cases (by_name b) v rows = absurd (cc)
 
 pub not_both : (b : Bool) → b ≡ true → b ≡ false → ⊥
 not_both true e f = cc
@@ -98,16 +126,42 @@ not_eqb i j ne = by_test (i == j) refl
     by_test true e = absurd (ne (eqb-true i j e))
     by_test false e = refl
 
+-- one more
+due_more : (d : Due) (ds : List Due) (j : ℕ) → is_due_by (λ (e : Due). true) j ds ≡ true → is_due_by (λ (e : Due). true) j (d ∷ ds) ≡ true
+due_more d ds j e = or_more (d.outlet == j && true) (is_due_by (λ (c : Due). true) j ds) e
+
+due_here : (d : Due) (ds : List Due) → is_due_by (λ (e : Due). true) d.outlet (d ∷ ds) ≡ true
+due_here d ds = ap (λ (t : Bool). (t && true) || is_due_by (λ (c : Due). true) d.outlet ds) (eq-eqb d.outlet d.outlet refl)
+
+-- outlets are due in their order, so that none is due twice
+abbrev pub IsRising : List Due → Type 0
+IsRising [] = Unit {0}
+IsRising (d ∷ ds) = AllByRecursion (λ (e : Due). d.outlet < e.outlet) ds × IsRising ds
+
+no_more : (j : ℕ) (ds : List Due) → AllByRecursion (λ (e : Due). j < e.outlet) ds → is_due_by (λ (e : Due). true) j ds ≡ false
+no_more j [] above = refl
+no_more j (d ∷ ds) above =
+    let lt = above.0 in
+    let other : (d.outlet == j) ≡ false = not_eqb d.outlet j (λ same. omega (arith, lt, same)) in
+    ap (λ (t : Bool). (t && true) || is_due_by (λ (e : Due). true) j ds) other ∙ no_more j ds above.1
+
 due_other : (p : Due → Bool) (d : Due) (ds : List Due) (j : ℕ) → (d.outlet ≡ j → ⊥) → is_due_by p j (d ∷ ds) ≡ true → is_due_by p j ds ≡ true
 due_other p d ds j other e = sym (ap (λ (t : Bool). (t && p d) || is_due_by p j ds) (not_eqb d.outlet j other)) ∙ e
 
+-- one body more, where none stood, is the only one
+one_named : (w : List ℕ) (bs : List Body) (b : Body) → has_bodies bs ≡ false → b.role ≡ a_named w → is_one_named w (roles_in (put_at 0 b bs)) ≡ true
+one_named w [] b none role = ap (is_named_so w) role ∙ (bytes_eq-Decides w w).1 refl
+one_named w (c ∷ bs) b none role = absurd (cc)
+
 module _ (n : ℕ) (cases : List Case) (v : ViewTree) where
   -- An outlet that is called for and has no body is still due, and one that isn't called for has none. One that has rows is still due, or its
-  -- rows are those that are called for.
+  -- rows are those that are called for. One that has a template by its name has none while it is due, and then that of the value's text.
   pub record IsReady (ds : List Due) (j : ℕ) (x : OutletState) : Type 0 where
     pub off : has_rows x.filling ≡ false → calls_for cases x.filling (Some v) ≡ false → has_bodies x.bodies ≡ false
     pub due : calls_for cases x.filling (Some v) ≡ true → has_bodies x.bodies ≡ false → is_due_by (comes cases v) j ds ≡ true
     pub rows : has_rows x.filling ≡ true → is_filled cases x.filling (Some v) (roles_in x.bodies) ≡ false → is_due_by (λ (d : Due). has_rows d.filling) j ds ≡ true
+    pub still : has_name x.filling ≡ true → is_due_by (λ (d : Due). true) j ds ≡ true → has_bodies x.bodies ≡ false
+    pub named : has_name x.filling ≡ true → has_bodies x.bodies ≡ true → is_one_named (text_of v) (roles_in x.bodies) ≡ true
 
   abbrev pub AreReady : List Due → List OutletState → Type 0
   AreReady ds xs = (j : ℕ) (x : OutletState) → slice_get xs j ≡ Some x → is_filled_by n x ≡ true → IsReady ds j x
@@ -123,8 +177,17 @@ module _ (n : ℕ) (cases : List Case) (v : ViewTree) where
   -- ---- once all are gone that go
 
   pub ready_first : (xs ys : List OutletState) → AreSpared n v xs ys → AllByRecursion (λ (y : OutletState). leaves n v y ≡ true → has_bodies y.bodies ≡ false) ys → AreReady (due_from n 0 xs) ys
-  ready_first xs ys spared gone j y at on = record { off = off; due = λ called none. by_old (spared j y at) called none; rows = λ rows wrong. by_rows (spared j y at) rows }
+  ready_first xs ys spared gone j y at on = record {
+    off = off;
+    due = λ called none. by_old (spared j y at) called none;
+    rows = λ rows wrong. by_rows (spared j y at) rows;
+    still = λ name due. empty name;
+    named = λ name has. absurd (not_both (has_bodies y.bodies) has (empty name));
+  }
     where
+      empty : has_name y.filling ≡ true → has_bodies y.bodies ≡ false
+      empty name = at_place (λ (z : OutletState). leaves n v z ≡ true → has_bodies z.bodies ≡ false) ys j y gone at (ap (λ (b : Bool). b && goes y.filling v) on ∙ name_goes y.filling v name)
+
       off : has_rows y.filling ≡ false → calls_for cases y.filling (Some v) ≡ false → has_bodies y.bodies ≡ false
       off one e = at_place (λ (z : OutletState). leaves n v z ≡ true → has_bodies z.bodies ≡ false) ys j y gone at (ap (λ (b : Bool). b && goes y.filling v) on ∙ off_goes cases y.filling v one e)
 
@@ -176,6 +239,18 @@ module _ (n : ℕ) (cases : List Case) (v : ViewTree) where
       by_test true on more = ((omega arith, here on), more)
       by_test false off more = more
 
+  -- they are due in their order
+  rising_from : (i : ℕ) (xs : List OutletState) → IsRising (due_from n i xs)
+  rising_from i [] = tt
+  rising_from i (y ∷ xs) = by_test (is_filled_by n y) (rising_from (i + 1) xs)
+    where
+      by_test : (t : Bool) → IsRising (due_from n (i + 1) xs) → IsRising (cond t (due_at i y ∷ due_from n (i + 1) xs) (due_from n (i + 1) xs))
+      by_test true more = (all_map (OfSiteFrom (i + 1) xs) (λ (e : Due). i < e.outlet) (due_from n (i + 1) xs) (λ e h. let le = h.0 in omega (arith, le)) (of_from (i + 1) xs), more)
+      by_test false more = more
+
+  pub rising_first : (xs : List OutletState) → IsRising (due_from n 0 xs)
+  rising_first xs = rising_from 0 xs
+
   pub of_first : (xs ys : List OutletState) → AreSpared n v xs ys → AreOfSite (due_from n 0 xs) ys
   of_first xs ys spared = all_map (OfSiteFrom 0 xs) (λ (d : Due). (y : OutletState) → slice_get ys d.outlet ≡ Some y → IsOfDue d y) (due_from n 0 xs) (λ d h y at. by_old d h y (spared d.outlet y at)) (of_from 0 xs)
     where
@@ -194,11 +269,13 @@ module _ (n : ℕ) (cases : List Case) (v : ViewTree) where
         off = was.off;
         due = λ called none. due_skip (comes cases v) d ds j off (was.due called none);
         rows = λ rows wrong. due_skip (λ (d : Due). has_rows d.filling) d ds j one (was.rows rows wrong);
+        still = λ name due. was.still name (due_more d ds j due);
+        named = was.named;
       }
 
   -- and so is one that got a body
-  pub ready_next : (d : Due) (ds : List Due) (b : Body) (xs : List OutletState) → has_rows d.filling ≡ false → comes cases v d ≡ true → AreOfSite (d ∷ ds) xs → AreReady (d ∷ ds) xs → AreReady ds (body_added d.outlet 0 b xs)
-  ready_next d ds b xs one come of h j x at on = by_place (added_place d.outlet 0 b xs j x at)
+  pub ready_next : (d : Due) (ds : List Due) (b : Body) (xs : List OutletState) → has_rows d.filling ≡ false → has_name d.filling ≡ false → comes cases v d ≡ true → AreOfSite (d ∷ ds) xs → AreReady (d ∷ ds) xs → AreReady ds (body_added d.outlet 0 b xs)
+  ready_next d ds b xs one plain come of h j x at on = by_place (added_place d.outlet 0 b xs j x at)
     where
       by_place : ChangedAt (with_body 0 b) d.outlet xs j x → IsReady ds j x
       by_place (y, get, inl (ne, same)) =
@@ -208,6 +285,8 @@ module _ (n : ℕ) (cases : List Case) (v : ViewTree) where
             off = was.off;
             due = λ called none. due_other (comes cases v) d ds j ne (was.due called none);
             rows = λ rows wrong. due_other (λ (d : Due). has_rows d.filling) d ds j ne (was.rows rows wrong);
+            still = λ name due. was.still name (due_more d ds j due);
+            named = was.named;
           })
       by_place (y, get, inr (e, same)) =
           let has : IsOfDue d y = of.0 y (ap (slice_get xs) e ∙ get) in
@@ -218,6 +297,40 @@ module _ (n : ℕ) (cases : List Case) (v : ViewTree) where
             off = λ no off. let two : true ≡ false = sym calls ∙ off in absurd (cc);
             due = λ called none. let two : true ≡ false = none in absurd (cc);
             rows = λ rows wrong. let two : true ≡ false = sym rows ∙ (ap has_rows has.filling ∙ one) in absurd (cc);
+            still = λ name due. let two : true ≡ false = sym name ∙ (ap has_name has.filling ∙ plain) in absurd (cc);
+            named = λ name some. let two : true ≡ false = sym name ∙ (ap has_name has.filling ∙ plain) in absurd (cc);
+          })
+
+  -- and one that got the template of the value's text
+  pub ready_named : (d : Due) (ds : List Due) (b : Body) (xs : List OutletState) → has_name d.filling ≡ true → comes cases v d ≡ true → b.role ≡ a_named (text_of v) → IsRising (d ∷ ds) → AreOfSite (d ∷ ds) xs → AreReady (d ∷ ds) xs
+      → AreReady ds (body_added d.outlet 0 b xs)
+  ready_named d ds b xs name come role rising of h j x at on = by_place (added_place d.outlet 0 b xs j x at)
+    where
+      by_place : ChangedAt (with_body 0 b) d.outlet xs j x → IsReady ds j x
+      by_place (y, get, inl (ne, same)) =
+          let was : IsReady (d ∷ ds) j y = h j y get (ap (is_filled_by n) (sym same) ∙ on) in
+          subst (IsReady ds j) (sym same)
+          (record {
+            off = was.off;
+            due = λ called none. due_other (comes cases v) d ds j ne (was.due called none);
+            rows = λ rows wrong. due_other (λ (d : Due). has_rows d.filling) d ds j ne (was.rows rows wrong);
+            still = λ name due. was.still name (due_more d ds j due);
+            named = was.named;
+          })
+      by_place (y, get, inr (e, same)) =
+          let has : IsOfDue d y = of.0 y (ap (slice_get xs) e ∙ get) in
+          let asked : calls_for cases d.filling (Some v) ≡ true = (both_true (calls_for cases d.filling (Some v)) (not (has_bodies d.bodies && not (goes d.filling v))) come).0 in
+          let calls : calls_for cases y.filling (Some v) ≡ true = ap (λ (f : Filling). calls_for cases f (Some v)) has.filling ∙ asked in
+          let here : has_name y.filling ≡ true = ap has_name has.filling ∙ name in
+          let was : IsReady (d ∷ ds) j y = h j y get (ap (is_filled_by n) (sym same) ∙ on) in
+          let none : has_bodies y.bodies ≡ false = was.still here (ap (λ (i : ℕ). is_due_by (λ (c : Due). true) i (d ∷ ds)) (sym e) ∙ due_here d ds) in
+          subst (IsReady ds j) (sym same)
+          (record {
+            off = λ no off. let two : true ≡ false = sym calls ∙ off in absurd (cc);
+            due = λ called none. let two : true ≡ false = none in absurd (cc);
+            rows = λ rows wrong. absurd (not_both (has_rows y.filling) rows (name_rows y.filling here));
+            still = λ name due. absurd (not_both (is_due_by (λ (c : Due). true) j ds) due (ap (λ (i : ℕ). is_due_by (λ (c : Due). true) i ds) (sym e) ∙ no_more d.outlet ds rising.0));
+            named = λ name some. one_named (text_of v) y.bodies b none role;
           })
 
   -- and one whose rows are those that are called for
@@ -234,6 +347,8 @@ module _ (n : ℕ) (cases : List Case) (v : ViewTree) where
             off = λ no off. absurd (not_both (has_rows y.filling) rows no);
             due = λ called none. absurd (not_both (calls_for cases y.filling (Some v)) called (rows_uncalled cases y.filling v rows));
             rows = λ rows wrong. absurd (not_both (is_filled cases y.filling (Some v) (roles_in y.bodies)) (right y (ap (slice_get ys) (sym e) ∙ at)) wrong);
+            still = λ name due. absurd (not_both (has_rows y.filling) rows (name_rows y.filling name));
+            named = λ name some. absurd (not_both (has_rows y.filling) rows (name_rows y.filling name));
           })
           (λ other.
           let was : IsReady (d ∷ ds) j x = h j x get (ap (λ (m : ℕ). is_at (nat_cmp n) m) (sym like.serial) ∙ on) in
@@ -246,6 +361,8 @@ module _ (n : ℕ) (cases : List Case) (v : ViewTree) where
                 due_other (λ (d : Due). has_rows d.filling) d ds j ne
                 (was.rows (ap has_rows (sym like.filling) ∙ rows)
                 (ap (λ (f : Filling). is_filled cases f (Some v) (roles_in x.bodies)) (sym like.filling) ∙ (ap (λ (bs : List Body). is_filled cases y.filling (Some v) (roles_in bs)) (sym same) ∙ wrong)));
+            still = λ name due. ap has_bodies same ∙ was.still (ap has_name (sym like.filling) ∙ name) (due_more d ds j due);
+            named = λ name some. ap (λ (bs : List Body). is_one_named (text_of v) (roles_in bs)) same ∙ was.named (ap has_name (sym like.filling) ∙ name) (ap has_bodies (sym same) ∙ some);
           })
 
   pub of_next : (o : ℕ) (ds : List Due) (xs ys : List OutletState) → Altered o xs ys → AreOfSite ds xs → AreOfSite ds ys
@@ -277,10 +394,22 @@ module _ (n : ℕ) (cases : List Case) (v : ViewTree) where
       by_test : (t : Bool) → is_filled cases (for_each r b) (Some v) (roles_in x.bodies) ≡ t → t ≡ true
       by_test true e = refl
       by_test false e = let two : false ≡ true = was.rows (ap has_rows is) (ap (λ (f : Filling). is_filled cases f (Some v) (roles_in x.bodies)) is ∙ e) in absurd (cc)
+  one_last x j was (by_name b) is = by_call (is_kept_true (Some v)) refl
+    where
+      calls : calls_for cases x.filling (Some v) ≡ is_kept_true (Some v)
+      calls = ap (λ (f : Filling). calls_for cases f (Some v)) is
+
+      by_bodies : is_kept_true (Some v) ≡ true → (t : Bool) → has_bodies x.bodies ≡ t → is_one_named (text_of v) (roles_in x.bodies) ≡ true
+      by_bodies on true e = was.named (ap has_name is) e
+      by_bodies on false e = let two : false ≡ true = was.due (calls ∙ on) e in absurd (cc)
+
+      by_call : (t : Bool) → is_kept_true (Some v) ≡ t → cond t (is_one_named (text_of v) (roles_in x.bodies)) (not (has_roles (roles_in x.bodies))) ≡ true
+      by_call true on = by_bodies on (has_bodies x.bodies) refl
+      by_call false off = ap not (any_roles x.bodies ∙ was.off (ap has_rows is) (calls ∙ off))
 
   pub ready_last : (xs : List OutletState) → AreReady [] xs → AllByRecursion (λ (x : OutletState). is_filled_by n x ≡ true → is_filled cases x.filling (Some v) (roles_in x.bodies) ≡ true) xs
   ready_last [] h = tt
   ready_last (x ∷ xs) h = ((λ on. one_last x 0 (h 0 x refl on) x.filling refl), ready_last xs (λ j y at on. again j y (h (suc j) y at on)))
     where
       again : (j : ℕ) (y : OutletState) → IsReady [] (suc j) y → IsReady [] j y
-      again j y was = record { off = was.off; due = was.due; rows = was.rows }
+      again j y was = record { off = was.off; due = was.due; rows = was.rows; still = was.still; named = was.named }

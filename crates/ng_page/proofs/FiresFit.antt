@@ -8,15 +8,18 @@ use Rattle.std.specs.Ordering.{nat_cmp, match_ordering}
 use Rattle.std.specs.declared.cmp.Ordering.{Ordering}
 use Rattle.std.specs.declared.cmp.Ordering.TheVariants.{Less, Equal, Greater}
 use Rattle.ng_base.specs.Views.{ViewTree}
+use Rattle.ng_base.specs.declared.fault.Fault.TheVariants.{NoTemplate}
 use Rattle.ng_base.specs.declared.path.Key.{Key}
 use Rattle.ng_drawing.specs.Cases.{Case}
-use Rattle.ng_drawing.specs.Roles.{a_body}
+use Rattle.ng_drawing.specs.Origins.{plain_origin}
+use Rattle.ng_drawing.specs.Roles.{Role, a_body, a_named}
 use Rattle.ng_drawing.specs.Rows.{is_filled}
-use Rattle.ng_drawing.specs.Template.{Fragment, Filling, body_if, on_case, for_each, Repeated}
-use Rattle.ng_fire.specs.Blocks.{Firing, begins_firing, gone, all_gone, filled, goes, outlets_emptied, cases_due, body_of, comes}
+use Rattle.ng_drawing.specs.Template.{Fragment, Filling, body_if, on_case, for_each, by_name, Repeated}
+use Rattle.ng_fire.specs.Blocks.{Firing, begins_firing, faulted_with, gone, all_gone, filled, goes, outlets_emptied, cases_due, body_of, comes}
 use Rattle.ng_fire.specs.Repeats.{repeat_fired}
-use Rattle.ng_fire.specs.SiteFires.{body_filled, filled_by, outlet_filled, outlets_filled, outlets_fired, site_fired}
+use Rattle.ng_fire.specs.SiteFires.{including_origin, body_filled, template_filled, named_filled, filled_by, outlet_filled, outlets_filled, outlets_fired, site_fired}
 use Rattle.ng_fire.specs.Fires.{fired as fires, fire_of_site, fire_run, fired_by}
+use Rattle.ng_language.specs.Texts.{text_of}
 use Rattle.ng_link.specs.Calls.{in_outlet, keeping_at}
 use Rattle.ng_link.specs.Due.{Due, all_due, due_from}
 use Rattle.ng_link.specs.Events.{scope_in}
@@ -24,15 +27,16 @@ use Rattle.ng_link.specs.Instances.{Body, OutletState, Linked, linked_at, is_sit
 use Rattle.ng_link.specs.Shape.{key_on}
 use Rattle.ng_link.specs.State.{State, roles_in}
 use Rattle.ng_link.proofs.Keys.{key_is}
+use Rattle.ng_template.specs.Kept.{named_from}
 use Rattle.ng_watch.specs.Keys.{key_cmp, is_key}
 use Rattle.ng_watch.specs.Table.{found}
 use Rattle.ng_page.specs.PageLaws.{told_itself}
 use Rattle.ng_page.specs.PageMachine.{with_faulted}
 use Rattle.ng_page.specs.Settled.{cases_under, CallsFor, OutletFits, IsWatched, Fits}
 use Rattle.ng_page.proofs.Altered.{added_altered}
-use Rattle.ng_page.proofs.Filled.{IsMade, filled_made}
+use Rattle.ng_page.proofs.Filled.{IsMade, made_fault, fault_sites, filled_made}
 use Rattle.ng_page.proofs.Fitting.{IsOut, number_itself, kept_here, fits_stays, fits_keeping, fits_beside, fits_with}
-use Rattle.ng_page.proofs.Coming.{has_rows, not_both, due_cases, AreReady, AreOfSite, ready_first, of_first, ready_skip, ready_next, ready_rows, of_next, ready_last}
+use Rattle.ng_page.proofs.Coming.{has_rows, has_name, not_both, due_cases, IsRising, AreReady, AreOfSite, ready_first, rising_first, of_first, ready_skip, ready_next, ready_named, ready_rows, of_next, ready_last}
 use Rattle.ng_page.proofs.Going.{going, Goes, goes_first, goes_last, spared_first, due_going, same_going}
 use Rattle.ng_page.proofs.RowsFit.{outlets_in, IsRepeated, repeat_fits}
 use Rattle.ng_page.proofs.StepsStay.{run_sites}
@@ -77,8 +81,10 @@ module _ (k : Key) (v : ViewTree) (scope : ℕ) (ks : List Key) (left : list_any
       pub sites : (m : Linked) → linked_at k.path h.state.instances ≡ Some m → AreSites m
       pub ready : h.faulted ≡ false → Ready ds h.state
 
-    next_made : (d : Due) (ds : List Due) (g h : Firing) → has_rows d.filling ≡ false → comes cases v d ≡ true → IsMade k v scope ks left d.outlet 0 a_body g h → IsOn (d ∷ ds) g → IsOn ds h
-    next_made d ds g h one come made on = record {
+    next_made : (d : Due) (ds : List Due) (role : Role) (g h : Firing)
+        → ((b : Body) (xs : List OutletState) → b.role ≡ role → AreOfSite k.serial.0 cases v (d ∷ ds) xs → AreReady k.serial.0 cases v (d ∷ ds) xs → AreReady k.serial.0 cases v ds (body_added d.outlet 0 b xs))
+        → IsMade k v scope ks left d.outlet 0 role g h → IsOn (d ∷ ds) g → IsOn ds h
+    next_made d ds role g h next made on = record {
       under = made.under;
       of = λ m at. by_of m (made.stood m at);
       sites = λ m at. by_sites m (made.stood m at);
@@ -87,12 +93,12 @@ module _ (k : Key) (v : ViewTree) (scope : ℕ) (ks : List Key) (left : list_any
       where
         Stood : Linked → Type 0
         Stood m = (o : Linked) × (linked_at k.path g.state.instances ≡ Some o)
-            × (((h.faulted ≡ true) × (m ≡ o)) ⊎ ((h.faulted ≡ g.faulted) × ((p : List ℕ) × (m ≡ with_outlets (body_added d.outlet 0 (record { path = p; role = a_body })) o))))
+            × (((h.faulted ≡ true) × (m ≡ o)) ⊎ ((h.faulted ≡ g.faulted) × ((p : List ℕ) × (m ≡ with_outlets (body_added d.outlet 0 (record { path = p; role = role })) o))))
 
         by_of : (m : Linked) → Stood m → AreOfSite k.serial.0 cases v ds m.page.outlets
         by_of m (o, at, inl two) = subst (λ (x : Linked). AreOfSite k.serial.0 cases v ds x.page.outlets) (sym two.1) (on.of o at).1
         by_of m (o, at, inr two) =
-            let b : Body = record { path = two.1.0; role = a_body } in
+            let b : Body = record { path = two.1.0; role = role } in
             subst (λ (x : Linked). AreOfSite k.serial.0 cases v ds x.page.outlets) (sym two.1.1)
             (of_next k.serial.0 cases v d.outlet ds o.page.outlets (body_added d.outlet 0 b o.page.outlets) (added_altered d.outlet 0 b o.page.outlets) (on.of o at).1)
 
@@ -104,15 +110,12 @@ module _ (k : Key) (v : ViewTree) (scope : ℕ) (ks : List Key) (left : list_any
         by_ready ok m (o, at, inl two) = absurd (not_both h.faulted two.0 ok)
         by_ready ok m (o, at, inr two) =
             subst (λ (x : Linked). AreReady k.serial.0 cases v ds x.page.outlets) (sym two.1.1)
-            (ready_next k.serial.0 cases v d ds (record { path = two.1.0; role = a_body }) o.page.outlets one come (on.of o at) (on.ready (sym two.0 ∙ ok) o at))
+            (next (record { path = two.1.0; role = role }) o.page.outlets refl (on.of o at) (on.ready (sym two.0 ∙ ok) o at))
 
-    -- a body is made where it comes
-    body_on : (d : Due) (ds : List Due) (g : Firing) → has_rows d.filling ≡ false → IsOn (d ∷ ds) g → IsOn ds (body_filled k.path scope cases v d g)
-    body_on d ds g one on = by_comes (comes cases v d) refl g.faulted refl
+    -- what is made where it comes
+    made_on : (d : Due) (ds : List Due) (g done : Firing) → has_rows d.filling ≡ false → (comes cases v d ≡ true → IsOn ds done) → IsOn (d ∷ ds) g → IsOn ds (cond (comes cases v d && not g.faulted) done g)
+    made_on d ds g done one made on = by_comes (comes cases v d) refl g.faulted refl
       where
-        done : Firing
-        done = filled (in_outlet k.path d.outlet 0 a_body) scope [] (d.template, body_of d.filling) g
-
         by_comes : (b : Bool) → comes cases v d ≡ b → (f : Bool) → g.faulted ≡ f → IsOn ds (cond (b && not f) done g)
         by_comes false off f fault = record {
           under = on.under;
@@ -126,18 +129,42 @@ module _ (k : Key) (v : ViewTree) (scope : ℕ) (ks : List Key) (left : list_any
           sites = on.sites;
           ready = λ ok m at. absurd (not_both g.faulted fault ok);
         }
-        by_comes true come false fault =
-            next_made d ds g done one come (filled_made k v scope ks left d.outlet 0 a_body [] d.template (body_of d.filling) g on.under (λ m x at get. ((on.of m at).0 x get).site)) on
+        by_comes true come false fault = made come
+
+    -- a body alone
+    body_on : (d : Due) (ds : List Due) (g : Firing) → has_rows d.filling ≡ false → has_name d.filling ≡ false → IsOn (d ∷ ds) g → IsOn ds (body_filled k.path scope cases v d g)
+    body_on d ds g one plain on =
+        made_on d ds g (filled (in_outlet k.path d.outlet 0 a_body) scope [] (plain_origin d.home (body_of d.filling)) g) one
+        (λ come.
+        next_made d ds a_body g (filled (in_outlet k.path d.outlet 0 a_body) scope [] (plain_origin d.home (body_of d.filling)) g)
+        (λ b xs role of ready. ready_next k.serial.0 cases v d ds b xs one plain come of ready)
+        (filled_made k v scope ks left d.outlet 0 a_body [] (plain_origin d.home (body_of d.filling)) g on.under (λ m x at get. ((on.of m at).0 x get).site)) on) on
+
+    -- the template of the value's text, where there is one
+    name_on : (d : Due) (ds : List Due) (b : ℕ) (g : Firing) → d.filling ≡ by_name b → IsRising (d ∷ ds) → IsOn (d ∷ ds) g → IsOn ds (named_filled k.path scope cases v d b g)
+    name_on d ds b g is rising on =
+        made_on d ds g (template_filled k.path scope d b (text_of v) t g) (ap has_rows is)
+        (λ come.
+        next_made d ds (a_named (text_of v)) g (template_filled k.path scope d b (text_of v) t g)
+        (λ c xs role of ready. ready_named k.serial.0 cases v d ds c xs (ap has_name is) come role rising of ready) (by_template t) on) on
+      where
+        t : Option ℕ
+        t = named_from 0 (text_of v) g.state.templates
+
+        by_template : (o : Option ℕ) → IsMade k v scope ks left d.outlet 0 (a_named (text_of v)) g (template_filled k.path scope d b (text_of v) o g)
+        by_template None = made_fault k v scope ks left d.outlet 0 (a_named (text_of v)) g (faulted_with NoTemplate g) refl (fault_sites NoTemplate g) on.under
+        by_template (Some n) =
+            filled_made k v scope ks left d.outlet 0 (a_named (text_of v)) [] (including_origin d.home b n) g on.under (λ m x at get. ((on.of m at).0 x get).site)
 
     -- rows become those of the entries
-    rows_on : (d : Due) (ds : List Due) (r : Repeated) (b : ℕ) (g : Firing) → d.filling ≡ for_each r b → IsOn (d ∷ ds) g → IsOn ds (cond g.faulted g (repeat_fired k.path scope v d.outlet (d.template, b) r g))
+    rows_on : (d : Due) (ds : List Due) (r : Repeated) (b : ℕ) (g : Firing) → d.filling ≡ for_each r b → IsOn (d ∷ ds) g → IsOn ds (cond g.faulted g (repeat_fired k.path scope v d.outlet (plain_origin d.home b) r g))
     rows_on d ds r b g is on = by_fault g.faulted refl
       where
         xs : List OutletState
         xs = outlets_in (linked_at k.path g.state.instances)
 
         h : Firing
-        h = repeat_fired k.path scope v d.outlet (d.template, b) r g
+        h = repeat_fired k.path scope v d.outlet (plain_origin d.home b) r g
 
         of_xs : (l : Option Linked) → linked_at k.path g.state.instances ≡ l → AreOfSite k.serial.0 cases v (d ∷ ds) (outlets_in l)
         of_xs None e = none_of (d ∷ ds)
@@ -155,7 +182,7 @@ module _ (k : Key) (v : ViewTree) (scope : ℕ) (ks : List Key) (left : list_any
         of = of_xs (linked_at k.path g.state.instances) refl
 
         made : IsRepeated k v scope ks left d.outlet l.page.serials l.fragment g h
-        made = repeat_fits k v scope ks left d.outlet d.template b r l.page.serials l.fragment g (λ x get. (of.0 x get).site) on.sites on.under
+        made = repeat_fits k v scope ks left d.outlet (plain_origin d.home b) r l.page.serials l.fragment g (λ x get. (of.0 x get).site) on.sites on.under
 
         by_fault : (t : Bool) → g.faulted ≡ t → IsOn ds (cond t g h)
         by_fault true fault = record {
@@ -177,17 +204,18 @@ module _ (k : Key) (v : ViewTree) (scope : ℕ) (ks : List Key) (left : list_any
               (ready_xs fault (linked_at k.path g.state.instances) refl);
         }
 
-    one_on : (d : Due) (ds : List Due) (g : Firing) → IsOn (d ∷ ds) g → IsOn ds (outlet_filled k.path scope cases v d g)
-    one_on d ds g on = by_filling d.filling refl
+    one_on : (d : Due) (ds : List Due) (g : Firing) → IsRising (d ∷ ds) → IsOn (d ∷ ds) g → IsOn ds (outlet_filled k.path scope cases v d g)
+    one_on d ds g rising on = by_filling d.filling refl
       where
         by_filling : (f : Filling) → d.filling ≡ f → IsOn ds (filled_by k.path scope cases v d f g)
-        by_filling (body_if b) is = body_on d ds g (ap has_rows is) on
-        by_filling (on_case c b) is = body_on d ds g (ap has_rows is) on
+        by_filling (body_if b) is = body_on d ds g (ap has_rows is) (ap has_name is) on
+        by_filling (on_case c b) is = body_on d ds g (ap has_rows is) (ap has_name is) on
         by_filling (for_each r b) is = rows_on d ds r b g is on
+        by_filling (by_name b) is = name_on d ds b g is rising on
 
-    all_on : (ds : List Due) (g : Firing) → IsOn ds g → IsOn [] (outlets_filled k.path scope cases v ds g)
-    all_on [] g on = on
-    all_on (d ∷ ds) g on = all_on ds (outlet_filled k.path scope cases v d g) (one_on d ds g on)
+    all_on : (ds : List Due) (g : Firing) → IsRising ds → IsOn ds g → IsOn [] (outlets_filled k.path scope cases v ds g)
+    all_on [] g rising on = on
+    all_on (d ∷ ds) g rising on = all_on ds (outlet_filled k.path scope cases v d g) rising.1 (one_on d ds g rising on)
 
   -- ---- so the site's outlets have what it calls for
 
@@ -218,7 +246,7 @@ module _ (k : Key) (v : ViewTree) (scope : ℕ) (ks : List Key) (left : list_any
         sites = λ m there. ((emptied.since m there).serials, (emptied.since m there).fragment);
         ready = λ ok m there. ready_first k.serial.0 cases v l.page.outlets m.page.outlets (emptied.since m there).outlets (goes_last k.serial.0 v m.page.outlets (emptied.going m there));
       } in
-      let end : IsOn cases l [] (outlets_filled k.path scope cases v ds (outlets_emptied k.path v ds g)) = all_on cases l ds (outlets_emptied k.path v ds g) on in
+      let end : IsOn cases l [] (outlets_filled k.path scope cases v ds (outlets_emptied k.path v ds g)) = all_on cases l ds (outlets_emptied k.path v ds g) (rising_first k.serial.0 cases v l.page.outlets) on in
       let those : cases ≡ cases_under l.page.serials l.fragment.outlets k.serial.0 = due_cases k.serial.0 0 l.page.serials l.fragment.outlets l.page.outlets (u.watched.linked k.path l at).outlets in
       record {
         under = end.under;

@@ -9,16 +9,19 @@ use Rattle.ng_base.specs.Objects.{Object}
 use Rattle.ng_base.specs.Views.{ViewTree}
 use Rattle.ng_base.specs.declared.fault.Fault.{Fault}
 use Rattle.ng_base.specs.declared.fault.Fault.TheVariants.{StoreFull}
+use Rattle.ng_base.specs.declared.fault.Fault.TheVariants.{Depth}
 use Rattle.ng_base.specs.declared.path.Key.{Key}
 use Rattle.ng_base.specs.declared.heap.ObjKind.TheVariants.{Scope as a_scope}
 use Rattle.ng_base.specs.declared.value.Value.TheVariants.{Int}
 use Rattle.ng_behaviour.specs.ScopeObjects.{id_name, parent_name, root_name, of_object_named, with_scope_object}
 use Rattle.ng_behaviour.specs.Scopes.{Scope, path_at, object_at, live_at, with_child}
 use Rattle.ng_drawing.specs.Nodes.{node_limit}
+use Rattle.ng_drawing.specs.Origins.{is_too_deep}
 use Rattle.ng_drawing.specs.Template.{Fragment}
 use Rattle.ng_drawing.specs.Cases.{Case}
+use Rattle.ng_drawing.specs.declared.origin.Origin.{Origin}
 use Rattle.ng_language.specs.Objects.{new_object, set_name}
-use Rattle.ng_fire.specs.Blocks.{Firing, begins_firing, went, ended, gone, all_gone, object_limit, child_run, faulted_with, discarded, linked_then, told_on, body_made, filled, goes, outlet_emptied, outlets_emptied, cases_due}
+use Rattle.ng_fire.specs.Blocks.{Firing, begins_firing, went, ended, gone, all_gone, object_limit, child_run, faulted_with, discarded, linked_then, told_on, body_made, filled, goes, outlet_emptied, outlets_emptied, cases_due, body_linked}
 use Rattle.ng_fire.specs.Repeats.{items_made}
 use Rattle.ng_fire.specs.SiteFires.{outlets_filled, outlets_fired, site_fired}
 use Rattle.ng_fire.proofs.RepeatWalks.{outlets_keep}
@@ -56,14 +59,14 @@ steps_sites scope (x ∷ xs) g = sites_trans g.state (step_linked scope x g).sta
 pub rested_sites : (scope : ℕ) (s : State) → SitesStay s (rested_on scope s)
 rested_sites scope s = sites_cond (live_at s.core.scopes scope) s (left_at (path_at s.core.scopes scope) s) (left_sites (path_at s.core.scopes scope) s)
 
-by_room : (place : Place) (which : ℕ × ℕ) (scope : ℕ) (f : Fragment) (r : Result (Unit {0}) Fault) (s : State) → Stays (part s.core) (part (link_by place which scope f r s).state.core)
+by_room : (place : Place) (which : Origin) (scope : ℕ) (f : Fragment) (r : Result (Unit {0}) Fault) (s : State) → Stays (part s.core) (part (link_by place which scope f r s).state.core)
 by_room place which scope f (Ok u) s =
     let g : Linking = steps_linked scope (steps f.parts) (begins_linking s) in
     let p : State = placed_on place which scope f g.serials g.state in
     stays_trans (part s.core) (part p.core) (part (rested_on scope p).core) (steps_sites scope (steps f.parts) (begins_linking s)).core (rested_sites scope p).core
 by_room place which scope f (Err e) s = (steps_sites scope (steps_within (node_limit - live_nodes s) (steps f.parts)) (begins_linking s)).core
 
-link_stays : (place : Place) (which : ℕ × ℕ) (scope : ℕ) (f : Fragment) (s : State) → Stays (part s.core) (part (link_at place which scope f s).state.core)
+link_stays : (place : Place) (which : Origin) (scope : ℕ) (f : Fragment) (s : State) → Stays (part s.core) (part (link_at place which scope f s).state.core)
 link_stays place which scope f s = by_room place which scope f (linked (live_nodes s) f.parts) s
 
 -- ---- a child of a scope
@@ -141,23 +144,24 @@ on_linked c scope (Ok u) l g h on = on_with c g l.state _ h on
 on_linked c scope (Err e) l g h on =
     on_fault c e _ (on_with c g (discarded scope l.state) _ (stays_trans (part g.state.core) (part l.state.core) (part (discarded scope l.state).core) h (discarded_sites scope l.state).core) on)
 
-on_made : (c : act.State) (place : Place) (names : List Local) (which : ℕ × ℕ) (f : Fragment) (d : act.State) (r : Result ℕ Fault) (g : Firing) → Stays (part g.state.core) (part d) → Onward c g
+on_either : (c : act.State) (b : Bool) (g h : Firing) → Onward c g → Onward c h → Onward c (cond b g h)
+on_either c true g h one two = one
+on_either c false g h one two = two
+
+on_made : (c : act.State) (place : Place) (names : List Local) (which : Origin) (f : Fragment) (d : act.State) (r : Result ℕ Fault) (g : Firing) → Stays (part g.state.core) (part d) → Onward c g
     → Onward c (body_made place names which f d r g)
 on_made c place names which f d (Err e) g h on = on_fault c e g on
 on_made c place names which f d (Ok child) g h on =
     let s : State = with_core (told_on child names d) g.state in
     let began = stays_trans (part g.state.core) (part d) (part s.core) h (told_stay child names d) in
-    on_linked c child (linked (live_nodes s) f.parts) (link_at place which child f s) g
-    (stays_trans (part g.state.core) (part s.core) (part (link_at place which child f s).state.core) began (link_stays place which child f s)) on
+    on_either c (is_too_deep which) (linked_then child (Err Depth) (begins_linking s) g) (body_linked place which f child s g) (on_linked c child (Err Depth) (begins_linking s) g began on)
+    (on_linked c child (linked (live_nodes s) f.parts) (link_at place which child f s) g
+    (stays_trans (part g.state.core) (part s.core) (part (link_at place which child f s).state.core) began (link_stays place which child f s)) on)
 
-on_filled : (c : act.State) (place : Place) (scope : ℕ) (names : List Local) (which : ℕ × ℕ) (g : Firing) → Onward c g → Onward c (filled place scope names which g)
+on_filled : (c : act.State) (place : Place) (scope : ℕ) (names : List Local) (which : Origin) (g : Firing) → Onward c g → Onward c (filled place scope names which g)
 on_filled c place scope names which g on =
     let r : Run ℕ = child_run scope g.state.core in
-    on_made c place names which (fragments_in g.state.templates which.0 which.1) r.0 r.1 g (child_stays scope g.state.core) on
-
-on_either : (c : act.State) (b : Bool) (g h : Firing) → Onward c g → Onward c h → Onward c (cond b g h)
-on_either c true g h one two = one
-on_either c false g h one two = two
+    on_made c place names which (fragments_in g.state.templates which) r.0 r.1 g (child_stays scope g.state.core) on
 
 on_emptied : (c : act.State) (holder : List ℕ) (v : ViewTree) (ds : List Due) (g : Firing) → Onward c g → Onward c (outlets_emptied holder v ds g)
 on_emptied c holder v [] g on = on

@@ -5,16 +5,19 @@ use Rattle.ng_core.specs.State as act
 use Rattle.ng_core.specs.State.{Run}
 use Rattle.ng_base.specs.Views.{ViewTree}
 use Rattle.ng_base.specs.declared.fault.Fault.{Fault}
+use Rattle.ng_base.specs.declared.fault.Fault.TheVariants.{Depth}
 use Rattle.ng_base.specs.declared.path.Key.{Key}
 use Rattle.ng_behaviour.specs.Scopes.{live_at}
 use Rattle.ng_digest.specs.Plain.{Plain, PlainDigests}
 use Rattle.ng_digest.specs.declared.rounds.DigestFault.{DigestFault}
 use Rattle.ng_drawing.specs.Cases.{Case}
 use Rattle.ng_drawing.specs.Nodes.{node_limit}
+use Rattle.ng_drawing.specs.Origins.{is_too_deep}
 use Rattle.ng_drawing.specs.Template.{Fragment}
+use Rattle.ng_drawing.specs.declared.origin.Origin.{Origin}
 use Rattle.ng_fire.proofs.Numbered.{linking_numbered}
 use Rattle.ng_fire.proofs.RepeatWalks.{outlets_keep}
-use Rattle.ng_fire.specs.Blocks.{Firing, begins_firing, ended, gone, all_gone, child_run, linked_then, told_on, body_made, filled, goes, outlet_emptied, outlets_emptied, cases_due}
+use Rattle.ng_fire.specs.Blocks.{Firing, begins_firing, ended, gone, all_gone, child_run, linked_then, told_on, body_made, filled, goes, outlet_emptied, outlets_emptied, cases_due, body_linked}
 use Rattle.ng_fire.specs.SiteFires.{outlets_filled, outlets_fired, site_fired}
 use Rattle.ng_fire.specs.Fires.{fired as fires}
 use Rattle.ng_fire.specs.Links.{Linking, begins_linking, steps_linked, link_by, link_at}
@@ -64,33 +67,34 @@ all_gone_has : (ts : List Named) (holder : List ℕ) (bs : List Body) (g : Firin
 all_gone_has ts holder [] g h = h
 all_gone_has ts holder (b ∷ bs) g h = all_gone_has ts holder bs (gone holder b g) (gone_has ts holder b g h)
 
-by_room : (place : Place) (which : ℕ × ℕ) (scope : ℕ) (f : Fragment) (r : Result (Unit {0}) Fault) (s : State) → (link_by place which scope f r s).state.templates ≡ s.templates
+by_room : (place : Place) (which : Origin) (scope : ℕ) (f : Fragment) (r : Result (Unit {0}) Fault) (s : State) → (link_by place which scope f r s).state.templates ≡ s.templates
 by_room place which scope f (Ok u) s =
     let g : Linking = steps_linked scope (steps f.parts) (begins_linking s) in
     (rested_sites scope (placed_on place which scope f g.serials g.state)).templates ∙ (steps_sites scope (steps f.parts) (begins_linking s)).templates
 by_room place which scope f (Err e) s = (steps_sites scope (steps_within (node_limit - live_nodes s) (steps f.parts)) (begins_linking s)).templates
 
-link_templates : (place : Place) (which : ℕ × ℕ) (scope : ℕ) (f : Fragment) (s : State) → (link_at place which scope f s).state.templates ≡ s.templates
+link_templates : (place : Place) (which : Origin) (scope : ℕ) (f : Fragment) (s : State) → (link_at place which scope f s).state.templates ≡ s.templates
 link_templates place which scope f s = by_room place which scope f (linked (live_nodes s) f.parts) s
 
 linked_has : (ts : List Named) (scope : ℕ) (r : Result (Unit {0}) Fault) (l : Linking) (g : Firing) → l.state.templates ≡ ts → Has ts (linked_then scope r l g)
 linked_has ts scope (Ok u) l g h = h
 linked_has ts scope (Err e) l g h = (discarded_sites scope l.state).templates ∙ h
 
-made_has : (ts : List Named) (place : Place) (names : List Local) (which : ℕ × ℕ) (f : Fragment) (c : act.State) (r : Result ℕ Fault) (g : Firing) → Has ts g → Has ts (body_made place names which f c r g)
-made_has ts place names which f c (Err e) g h = h
-made_has ts place names which f c (Ok child) g h =
-    let s : State = with_core (told_on child names c) g.state in
-    linked_has ts child (linked (live_nodes s) f.parts) (link_at place which child f s) g (link_templates place which child f s ∙ h)
-
-filled_has : (ts : List Named) (place : Place) (scope : ℕ) (names : List Local) (which : ℕ × ℕ) (g : Firing) → Has ts g → Has ts (filled place scope names which g)
-filled_has ts place scope names which g h =
-    let r : Run ℕ = child_run scope g.state.core in
-    made_has ts place names which (fragments_in g.state.templates which.0 which.1) r.0 r.1 g h
-
 either_has : (ts : List Named) (b : Bool) (g h : Firing) → Has ts g → Has ts h → Has ts (cond b g h)
 either_has ts true g h one two = one
 either_has ts false g h one two = two
+
+made_has : (ts : List Named) (place : Place) (names : List Local) (which : Origin) (f : Fragment) (c : act.State) (r : Result ℕ Fault) (g : Firing) → Has ts g → Has ts (body_made place names which f c r g)
+made_has ts place names which f c (Err e) g h = h
+made_has ts place names which f c (Ok child) g h =
+    let s : State = with_core (told_on child names c) g.state in
+    either_has ts (is_too_deep which) (linked_then child (Err Depth) (begins_linking s) g) (body_linked place which f child s g) (linked_has ts child (Err Depth) (begins_linking s) g h)
+    (linked_has ts child (linked (live_nodes s) f.parts) (link_at place which child f s) g (link_templates place which child f s ∙ h))
+
+filled_has : (ts : List Named) (place : Place) (scope : ℕ) (names : List Local) (which : Origin) (g : Firing) → Has ts g → Has ts (filled place scope names which g)
+filled_has ts place scope names which g h =
+    let r : Run ℕ = child_run scope g.state.core in
+    made_has ts place names which (fragments_in g.state.templates which) r.0 r.1 g h
 
 emptied_has : (ts : List Named) (holder : List ℕ) (v : ViewTree) (ds : List Due) (g : Firing) → Has ts g → Has ts (outlets_emptied holder v ds g)
 emptied_has ts holder v [] g h = h

@@ -10,8 +10,11 @@ use Rattle.std.specs.Ordering.{nat_cmp}
 use Rattle.ng_base.specs.Order.{path_cmp, path_cmp_total}
 use Rattle.ng_base.specs.declared.path.Key.{Key}
 use Rattle.ng_behaviour.specs.Scopes.{path_at, object_at}
+use Rattle.ng_drawing.specs.Origins.{inner_home}
 use Rattle.ng_drawing.specs.Roles.{Role, a_body}
 use Rattle.ng_drawing.specs.Template.{Site, Outlet, Fragment}
+use Rattle.ng_drawing.specs.declared.origin.Home.{Home}
+use Rattle.ng_drawing.specs.declared.origin.Origin.{Origin}
 use Rattle.ng_link.specs.Calls.{outlet_on, outlets_on, linked_on, Place, at_top, in_outlet, placed_on}
 use Rattle.ng_link.specs.Instances.{OutletState, Linked, Instances, is_path, linked_at, with_outlets, body_added, with_instance}
 use Rattle.ng_link.specs.Rows.{watching_site, with_sites}
@@ -38,10 +41,10 @@ use Rattle.ng_page.proofs.Watched.{all_map, number_there, linked_stays}
 
 -- ---- outlets that nothing fills yet
 
-outlets_are : (template : ℕ) (serials : List ℕ) (os : List Outlet) (names : List ℕ) → length os ≡ length names → AreOutlets serials os (outlets_on template serials os names)
-outlets_are template serials [] names e = tt
-outlets_are template serials (o ∷ os) [] e = absurd (omega (arith, e))
-outlets_are template serials (o ∷ os) (a ∷ names) e = ((refl, refl), outlets_are template serials os names (omega (arith, e)))
+outlets_are : (home : Home) (serials : List ℕ) (os : List Outlet) (names : List ℕ) → length os ≡ length names → AreOutlets serials os (outlets_on home serials os names)
+outlets_are home serials [] names e = tt
+outlets_are home serials (o ∷ os) [] e = absurd (omega (arith, e))
+outlets_are home serials (o ∷ os) (a ∷ names) e = ((refl, refl), outlets_are home serials os names (omega (arith, e)))
 
 -- a whole fragment has an anchor for each outlet, and each has the number of a site
 as_many_anchors : (bodies : ℕ) (f : Fragment) (n : ℕ) → is_whole bodies f ≡ true → length f.outlets ≡ length (anchors n f.parts)
@@ -54,15 +57,15 @@ sites_of sites bodies many (o ∷ os) same e =
     let low : o.site < sites = ltb-true o.site sites (both_true (nat_lt o.site sites) (is_body bodies o.filling) two.0).0 in
     (omega (arith, low, same), sites_of sites bodies many os same two.1)
 
-outlets_all : (P : OutletState → Type 0) (template : ℕ) (serials : List ℕ) (os : List Outlet) (names : List ℕ) → ((o : Outlet) (a : ℕ) → P (outlet_on template serials o a)) → AllByRecursion P (outlets_on template serials os names)
-outlets_all P template serials [] names f = tt
-outlets_all P template serials (o ∷ os) [] f = tt
-outlets_all P template serials (o ∷ os) (a ∷ names) f = (f o a, outlets_all P template serials os names f)
+outlets_all : (P : OutletState → Type 0) (home : Home) (serials : List ℕ) (os : List Outlet) (names : List ℕ) → ((o : Outlet) (a : ℕ) → P (outlet_on home serials o a)) → AllByRecursion P (outlets_on home serials os names)
+outlets_all P home serials [] names f = tt
+outlets_all P home serials (o ∷ os) [] f = tt
+outlets_all P home serials (o ∷ os) (a ∷ names) f = (f o a, outlets_all P home serials os names f)
 
-none_held : (q : List ℕ) (template : ℕ) (serials : List ℕ) (os : List Outlet) (names : List ℕ) → held_count q (outlets_on template serials os names) ≡ 0
-none_held q template serials [] names = refl
-none_held q template serials (o ∷ os) [] = refl
-none_held q template serials (o ∷ os) (a ∷ names) = let more = none_held q template serials os names in omega (arith, more)
+none_held : (q : List ℕ) (home : Home) (serials : List ℕ) (os : List Outlet) (names : List ℕ) → held_count q (outlets_on home serials os names) ≡ 0
+none_held q home serials [] names = refl
+none_held q home serials (o ∷ os) [] = refl
+none_held q home serials (o ∷ os) (a ∷ names) = let more = none_held q home serials os names in omega (arith, more)
 
 -- the sites are watched
 all_watched : (t : Table) (o : ℕ) (path ns : List ℕ) (xs : List Site) → length ns ≡ length xs
@@ -97,7 +100,7 @@ sites_in_keys path o (n ∷ ns) (x ∷ xs) t h = sites_in_keys path o ns xs (wit
 
 -- ---- an instance on a scope, with numbers of registration that no other has
 
-module _ (which : ℕ × ℕ) (scope : ℕ) (f : Fragment) (serials : List ℕ) (s : State) (base : ℕ) where
+module _ (which : Origin) (scope : ℕ) (f : Fragment) (serials : List ℕ) (s : State) (base : ℕ) where
   abbrev path : List ℕ
   path = path_at s.core.scopes scope
 
@@ -174,9 +177,9 @@ module _ (which : ℕ × ℕ) (scope : ℕ) (f : Fragment) (serials : List ℕ) 
       rising = is.rising;
       sites = sites_of (length f.sites) is.whole.0 (length serials) f.outlets is.count (whole_numbers is.whole.0 f is.whole.1);
       watched = all_watched watchers object path serials f.sites is.count new_watches;
-      outlets = outlets_are which.0 serials f.outlets (anchors s.next_node f.parts) (as_many_anchors is.whole.0 f s.next_node is.whole.1);
-      bodies = outlets_all (λ (x : OutletState). AllByRecursion (IsChild s.core.scopes scope) x.bodies) which.0 serials f.outlets (anchors s.next_node f.parts) (λ o a. tt);
-      once = λ q. let none = none_held q which.0 serials f.outlets (anchors s.next_node f.parts) in omega (arith, none);
+      outlets = outlets_are (inner_home which) serials f.outlets (anchors s.next_node f.parts) (as_many_anchors is.whole.0 f s.next_node is.whole.1);
+      bodies = outlets_all (λ (x : OutletState). AllByRecursion (IsChild s.core.scopes scope) x.bodies) (inner_home which) serials f.outlets (anchors s.next_node f.parts) (λ o a. tt);
+      once = λ q. let none = none_held q (inner_home which) serials f.outlets (anchors s.next_node f.parts) in omega (arith, none);
     }
 
     -- another instance's sites are found as before
@@ -252,11 +255,11 @@ module _ (which : ℕ × ℕ) (scope : ℕ) (f : Fragment) (serials : List ℕ) 
     -- ---- and fits: the sites of what is new have kept nothing yet, and the outlet that gets the body isn't asked
 
     new_fits : (ks : List Key) → AllByRecursion (OutletFits watchers ks path serials f.outlets) new.page.outlets
-    new_fits ks = outlets_all (OutletFits watchers ks path serials f.outlets) which.0 serials f.outlets (anchors s.next_node f.parts) each
+    new_fits ks = outlets_all (OutletFits watchers ks path serials f.outlets) (inner_home which) serials f.outlets (anchors s.next_node f.parts) each
       where
-        each : (o : Outlet) (a : ℕ) → OutletFits watchers ks path serials f.outlets (outlet_on which.0 serials o a)
+        each : (o : Outlet) (a : ℕ) → OutletFits watchers ks path serials f.outlets (outlet_on (inner_home which) serials o a)
         each o a site w e out =
-            let x : OutletState = outlet_on which.0 serials o a in
+            let x : OutletState = outlet_on (inner_home which) serials o a in
             let place = number_at x.serial serials site in
             let has = site_at serials f.sites place.0 x.serial is.count place.1 in
             let one : ◌≡◌ {A = Option Watcher} (Some (fresh_watcher object has.0)) (Some w) = sym (sites_found path object serials f.sites s.watchers place.0 x.serial has.0 is.rising place.1 has.1) ∙ e in

@@ -1,5 +1,5 @@
 -- How a page is opened, step by step.
-use Rattle.std.proofs.Common.{◌≡◌, ◌<◌, ℕ, OnOk, List, [], ◌∷◌, length, None, Result, Ok, Err, ap, sym, subst, ◌∙◌}
+use Rattle.std.proofs.Common.{◌≡◌, ◌<◌, ℕ, OnOk, List, [], length, Result, Ok, Err, ap, sym, subst, ◌∙◌}
 use Rattle.ng_core.specs.Frames.{IsSound}
 use Rattle.ng_core.specs.State as act
 use Rattle.ng_app.specs.App.{Facts}
@@ -18,7 +18,7 @@ use Rattle.ng_link.specs.Standing.{Standing}
 use Rattle.ng_link.specs.State.{State, state_of, templates_of, live_nodes}
 use Rattle.ng_template.specs.Kept.{Named}
 use Rattle.ng_link.specs.declared.works.Works.{Works}
-use Rattle.ng_page.specs.Opening.{prepared, linked_by, linked_on}
+use Rattle.ng_page.specs.Opening.{prepared, linked_by, linked_on, page_origin, templates_for}
 use Rattle.ng_page.specs.PlaceOf.{WorksAre, PageIs}
 use Rattle.ng_page.proofs.Fitting.{fits_stays}
 use Rattle.ng_page.proofs.Sites.{SitesStay, left_sites}
@@ -37,17 +37,17 @@ whole_new w all c e sound idle root stands = record {
   bodies = subst (λ is. HaveBodies (state_of w).templates is) (sym (ap (λ (s : State). s.instances) e)) tt;
 }
 
-pub prepared_by : (u : Template) (f : Facts) (v w : Works) (all : List Named) (p : Trees) (c : act.State) → state_of v ≡ blank all c → all ≡ (None, u) ∷ [] → c ≡ installed f → p ≡ f.run
+pub prepared_by : (u : Template) (f : Facts) (v w : Works) (all : List Named) (p : Trees) (c : act.State) → state_of v ≡ blank all c → all ≡ templates_for u f → c ≡ installed f → p ≡ f.run
     → state_of w ≡ followed (program_run 0 p (state_of v).core) (state_of v) → state_of w ≡ prepared u f
 prepared_by u f v w all p c e a g i h =
-    h ∙ (ap (λ (s : State). followed (program_run 0 p s.core) s) (e ∙ (ap (λ (ts : List Named). blank ts c) a ∙ ap (blank ((None, u) ∷ [])) g)) ∙ ap (λ q. followed (program_run 0 q (installed f)) (blank ((None, u) ∷ []) (installed f))) i)
+    h ∙ (ap (λ (s : State). followed (program_run 0 p s.core) s) (e ∙ (ap (λ (ts : List Named). blank ts c) a ∙ ap (blank (templates_for u f)) g)) ∙ ap (λ q. followed (program_run 0 q (installed f)) (blank (templates_for u f) (installed f))) i)
 
 -- a fragment that has room is linked, and else its fault is handed over
-pub linked_fine : (u : Template) (s r : State) → linked (live_nodes s) u.own.parts ≡ Ok tt → r ≡ (link_at at_top (0, 0) 0 u.own s).state → r ≡ linked_on u s
-linked_fine u s r room e = e ∙ ap (λ o. linked_by o (link_at at_top (0, 0) 0 u.own s).state) (sym room)
+pub linked_fine : (u : Template) (s r : State) → linked (live_nodes s) u.own.parts ≡ Ok tt → r ≡ (link_at at_top page_origin 0 u.own s).state → r ≡ linked_on u s
+linked_fine u s r room e = e ∙ ap (λ o. linked_by o (link_at at_top page_origin 0 u.own s).state) (sym room)
 
-pub linked_fault : (u : Template) (s t r : State) (f : Fault) → linked (live_nodes s) u.own.parts ≡ Err f → t ≡ (link_at at_top (0, 0) 0 u.own s).state → r ≡ with_core (act.with_fault f t.core) t → r ≡ linked_on u s
-linked_fault u s t r f room e h = h ∙ (ap (λ (x : State). with_core (act.with_fault f x.core) x) e ∙ ap (λ o. linked_by o (link_at at_top (0, 0) 0 u.own s).state) (sym room))
+pub linked_fault : (u : Template) (s t r : State) (f : Fault) → linked (live_nodes s) u.own.parts ≡ Err f → t ≡ (link_at at_top page_origin 0 u.own s).state → r ≡ with_core (act.with_fault f t.core) t → r ≡ linked_on u s
+linked_fault u s t r f room e h = h ∙ (ap (λ (x : State). with_core (act.with_fault f x.core) x) e ∙ ap (λ o. linked_by o (link_at at_top page_origin 0 u.own s).state) (sym room))
 
 -- the sites rest, and what holds of the works holds
 pub works_left : (v w : Works) (p : List ℕ) → state_of w ≡ left_at p (state_of v) → w.core ≡ v.core → ((ts : Stands) → Standing v ts → Standing w ts) → templates_of w ≡ templates_of v → WorksAre v → WorksAre w

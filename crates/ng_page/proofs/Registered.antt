@@ -1,27 +1,24 @@
 -- The numbers of registration that a linking gives: one for each site of the fragment, and none that was given before.
 use Rattle.std.proofs.Common.{◌≡◌, ◌≤◌, ◌+◌, ℕ, zero, suc, Bool, true, false, List, [], ◌∷◌, length, Option, Some, None, refl, ap, sym, ◌∙◌, arith, slice_get}
-use Rattle.std.specs.Prelude.{◌&&◌, option_and_then, unwrap_or}
+use Rattle.std.specs.Prelude.{◌&&◌, unwrap_or}
 use Rattle.std.specs.List.{AllByRecursion, list_all}
-use Rattle.ng_drawing.specs.Template.{Fragment, Template, no_fragment, fragment_at}
+use Rattle.ng_drawing.specs.Template.{Fragment, Template, no_fragment}
+use Rattle.ng_drawing.specs.declared.origin.Origin.{Origin}
 use Rattle.ng_fire.specs.Links.{Linking, begins_linking, step_linked, steps_linked}
 use Rattle.ng_link.specs.Linking.{LinkStep, makes, starts, registers, site_count, steps}
 use Rattle.ng_link.specs.Shape.{holes}
 use Rattle.ng_link.specs.State.{State}
 use Rattle.ng_link.proofs.Counted.{parts_count}
 use Rattle.ng_link.proofs.Numbers.{counted, whole_count}
-use Rattle.ng_template.specs.Kept.{Named, fragments_in}
-use Rattle.ng_template.specs.Numbering.{is_whole, is_regular}
+use Rattle.ng_template.proofs.Inclusion.{whole_for}
+use Rattle.ng_template.specs.Kept.{Named, fragment_for, fragments_in}
+use Rattle.ng_template.specs.Numbering.{is_whole, HasOrder, is_regular}
 use Rattle.ng_page.proofs.Bodies.{push_all}
 use Rattle.ng_page.proofs.FiresTold.{steps_sites}
 
 both_true : (b c : Bool) → (b && c) ≡ true → (b ≡ true) × (c ≡ true)
 both_true true c e = (refl, e)
 both_true false c e = absurd (cc)
-
-regular_fragment : (bodies : ℕ) (fs : List Fragment) (n : ℕ) (f : Fragment) → list_all (is_whole bodies) fs ≡ true → slice_get fs n ≡ Some f → is_whole bodies f ≡ true
-regular_fragment bodies [] n f e at = absurd (cc)
-regular_fragment bodies (g ∷ fs) zero f e at = let same : g ≡ f = cc in ap (is_whole bodies) (sym same) ∙ (both_true (is_whole bodies g) (list_all (is_whole bodies) fs) e).0
-regular_fragment bodies (g ∷ fs) (suc n) f e at = regular_fragment bodies fs n f (both_true (is_whole bodies g) (list_all (is_whole bodies) fs) e).1 at
 
 regular_named : (ts : List Named) (t : ℕ) (x : Named) → AllByRecursion (λ (x : Named). is_regular x.1 ≡ true) ts → slice_get ts t ≡ Some x → is_regular x.1 ≡ true
 regular_named [] t x all at = absurd (cc)
@@ -43,32 +40,21 @@ own_whole t e = (both_true (is_whole (length t.bodies) t.own) (list_all (is_whol
 pub own_counted : (t : Template) → is_regular t ≡ true → site_count (steps t.own.parts) ≡ length t.own.sites
 own_counted t e = whole_counted (length t.bodies) t.own (own_whole t e)
 
--- a fragment of a template that the compiler made has a step for each site
-pub sites_counted : (ts : List Named) (t n : ℕ) → AllByRecursion (λ (x : Named). is_regular x.1 ≡ true) ts → (let f : Fragment = fragments_in ts t n in site_count (steps f.parts) ≡ length f.sites)
-sites_counted ts t n all = by_template (slice_get ts t) refl
+-- a fragment of templates that the compiler made has a step for each site
+pub sites_counted : (ts : List Named) (o : Origin) → AllByRecursion (λ (x : Named). is_regular x.1 ≡ true) ts → (let f : Fragment = fragments_in ts o in site_count (steps f.parts) ≡ length f.sites)
+sites_counted ts o all = by_fragment (fragment_for ts o) refl
   where
-    by_fragment : (x : Named) → is_regular x.1 ≡ true → (o : Option Fragment) → fragment_at x.1 n ≡ o → IsCounted (unwrap_or o no_fragment)
-    by_fragment x regular None e = refl
-    by_fragment x regular (Some f) e = whole_counted (length x.1.bodies) f (regular_fragment (length x.1.bodies) (x.1.own ∷ x.1.bodies) n f regular e)
-
-    by_template : (o : Option Named) → slice_get ts t ≡ o → IsCounted (unwrap_or (option_and_then (λ (k : Named). fragment_at k.1 n) o) no_fragment)
-    by_template None e = refl
-    by_template (Some x) e = by_fragment x (regular_named ts t x all e) (fragment_at x.1 n) refl
+    by_fragment : (x : Option Fragment) → fragment_for ts o ≡ x → IsCounted (unwrap_or x no_fragment)
+    by_fragment None e = refl
+    by_fragment (Some f) e = let h = whole_for ts (λ t x at. regular_named ts t x all at) o f e in whole_counted (length h.0.1.bodies) f h.2
 
 -- it is whole, among the bodies of its template
-pub fragment_whole : (ts : List Named) (t n : ℕ) → AllByRecursion (λ (x : Named). is_regular x.1 ≡ true) ts → (bodies : ℕ) × (is_whole bodies (fragments_in ts t n) ≡ true)
-fragment_whole ts t n all = by_template (slice_get ts t) refl
+pub fragment_whole : (ts : List Named) (o : Origin) → AllByRecursion (λ (x : Named). is_regular x.1 ≡ true) ts → HasOrder (fragments_in ts o)
+fragment_whole ts o all = by_fragment (fragment_for ts o) refl
   where
-    IsWhole : Fragment → Type 0
-    IsWhole f = (bodies : ℕ) × (is_whole bodies f ≡ true)
-
-    by_fragment : (x : Named) → is_regular x.1 ≡ true → (o : Option Fragment) → fragment_at x.1 n ≡ o → IsWhole (unwrap_or o no_fragment)
-    by_fragment x regular None e = (0, refl)
-    by_fragment x regular (Some f) e = (length x.1.bodies, regular_fragment (length x.1.bodies) (x.1.own ∷ x.1.bodies) n f regular e)
-
-    by_template : (o : Option Named) → slice_get ts t ≡ o → IsWhole (unwrap_or (option_and_then (λ (k : Named). fragment_at k.1 n) o) no_fragment)
-    by_template None e = (0, refl)
-    by_template (Some x) e = by_fragment x (regular_named ts t x all e) (fragment_at x.1 n) refl
+    by_fragment : (x : Option Fragment) → fragment_for ts o ≡ x → HasOrder (unwrap_or x no_fragment)
+    by_fragment None e = (0, refl)
+    by_fragment (Some f) e = let h = whole_for ts (λ t x at. regular_named ts t x all at) o f e in (length h.0.1.bodies, h.2)
 
 -- numbers that a linking gives come after those that were given before it began
 one_above : (base scope : ℕ) (x : LinkStep) (g : Linking) → base ≤ g.state.core.serial → AllByRecursion (λ (n : ℕ). base ≤ n) g.serials → AllByRecursion (λ (n : ℕ). base ≤ n) (step_linked scope x g).serials

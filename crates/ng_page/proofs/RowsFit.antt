@@ -17,6 +17,7 @@ use Rattle.ng_blocks.specs.declared.plans.Plan.{Plan}
 use Rattle.ng_dom.specs.Lists.{put_at}
 use Rattle.ng_drawing.specs.Roles.{Entry, Role, entries_in, are_rows}
 use Rattle.ng_drawing.specs.Template.{Fragment, Repeated}
+use Rattle.ng_drawing.specs.declared.origin.Origin.{Origin}
 use Rattle.ng_fire.specs.Blocks.{Firing, ended, faulted_with, told_on, filled}
 use Rattle.ng_fire.specs.Repeats.{items_made, keys_of, Row, rows_from, role_for, kept_from, kept_rows, bodies_at, all_ended, rows_taken, with_state, rows_gone, rows_arranged, row_names, Filled, filled_to, row_kept, row_made, row_fired, rows_fired, rows_changed, as_fault, by_plan, by_keys, bodies_or, rows_at, by_items, repeat_fired}
 use Rattle.ng_fire.specs.Runs.{destroy_run}
@@ -184,14 +185,14 @@ module _ (k : Key) (v : ViewTree) (scope : ℕ) (ks : List Key) (left : list_any
                 (λ bs many bodies. bodies ∙ ap (λ (q : Option (List ℕ)). bs ++ (kept_from q (role_for r) ++ kept_rows rest)) from);
           }
 
-      row_comes : (r : Row) (rest : List Row) (t n : ℕ) (names : List Local) (h : Filled) → r.from ≡ None → IsAt (r ∷ rest) h → IsAt rest (row_made k.path scope o (t, n) (role_for r) names h)
-      row_comes r rest t n names h from at = by_fault h.firing.faulted refl
+      row_comes : (r : Row) (rest : List Row) (which : Origin) (names : List Local) (h : Filled) → r.from ≡ None → IsAt (r ∷ rest) h → IsAt rest (row_made k.path scope o which (role_for r) names h)
+      row_comes r rest which names h from at = by_fault h.firing.faulted refl
         where
           g : Firing
-          g = filled (in_outlet k.path o h.count (role_for r)) scope names (t, n) h.firing
+          g = filled (in_outlet k.path o h.count (role_for r)) scope names which h.firing
 
           made : IsMade k v scope ks left o h.count (role_for r) h.firing g
-          made = filled_made k v scope ks left o h.count (role_for r) names t n h.firing at.from.under (still_of_site h.firing.state at.from)
+          made = filled_made k v scope ks left o h.count (role_for r) names which h.firing at.from.under (still_of_site h.firing.state at.from)
 
           Stood : Linked → Type 0
           Stood m = (l : Linked) × (linked_at k.path h.firing.state.instances ≡ Some l)
@@ -233,17 +234,17 @@ module _ (k : Key) (v : ViewTree) (scope : ℕ) (ks : List Key) (left : list_any
           by_fault true e = record { from = at.from; fills = λ ok. absurd (not_both h.firing.faulted e ok) }
           by_fault false e = counted g.faulted refl e
 
-      one_row : (r : Row) (rest : List Row) (t n : ℕ) (names : List Local) (h : Filled) → IsAt (r ∷ rest) h → IsAt rest (row_fired k.path scope o (t, n) r names r.from h)
-      one_row r rest t n names h at = by_from r.from refl
+      one_row : (r : Row) (rest : List Row) (which : Origin) (names : List Local) (h : Filled) → IsAt (r ∷ rest) h → IsAt rest (row_fired k.path scope o which r names r.from h)
+      one_row r rest which names h at = by_from r.from refl
         where
-          by_from : (p : Option (List ℕ)) → r.from ≡ p → IsAt rest (row_fired k.path scope o (t, n) r names p h)
+          by_from : (p : Option (List ℕ)) → r.from ≡ p → IsAt rest (row_fired k.path scope o which r names p h)
           by_from (Some p) e = row_stays r rest p names h e at
-          by_from None e = row_comes r rest t n names h e at
+          by_from None e = row_comes r rest which names h e at
 
-      all_rows : (t n : ℕ) (w : Repeated) (count i : ℕ) (rest : List Row) (h : Filled) → IsAt rest h → IsAt [] (rows_fired k.path scope o (t, n) w count i rest h)
-      all_rows t n w count i [] h at = at
-      all_rows t n w count i (r ∷ rest) h at =
-          all_rows t n w count (suc i) rest (row_fired k.path scope o (t, n) r (row_names w count i r.item) r.from h) (one_row r rest t n (row_names w count i r.item) h at)
+      all_rows : (which : Origin) (w : Repeated) (count i : ℕ) (rest : List Row) (h : Filled) → IsAt rest h → IsAt [] (rows_fired k.path scope o which w count i rest h)
+      all_rows which w count i [] h at = at
+      all_rows which w count i (r ∷ rest) h at =
+          all_rows which w count (suc i) rest (row_fired k.path scope o which r (row_names w count i r.item) r.from h) (one_row r rest which (row_names w count i r.item) h at)
 
     -- ---- once the fire is done
 
@@ -327,10 +328,10 @@ module _ (k : Key) (v : ViewTree) (scope : ℕ) (ks : List Key) (left : list_any
           by_here : (l : Linked) × (linked_at k.path s.instances ≡ Some l) × (m ≡ with_outlets (bodies_arranged o bs) l) → x.bodies ≡ bs
           by_here (l, old, same) = by_place l (arranged_place o bs l.page.outlets o x (ap (λ (z : Linked). slice_get z.page.outlets o) (sym same) ∙ get))
 
-      changed : (t n : ℕ) (w : Repeated) (items : List Item) (keys : List TrackKey) (ps : List (Option ℕ)) (is : List ℕ) (g : Firing)
+      changed : (which : Origin) (w : Repeated) (items : List Item) (keys : List TrackKey) (ps : List (Option ℕ)) (is : List ℕ) (g : Firing)
           → AreApart ps → length keys ≡ length items → length ps ≡ length keys → map (λ (x : Item). x.entry) items ≡ entries_in v
-          → AllByRecursion (IsChild g.state.core.scopes scope) stood → IsFrom g.state → HasRows (rows_changed k.path scope o (t, n) w (bodies_at stood is) (rows_from stood items keys ps) g)
-      changed t n w items keys ps is g apart many as_many entries children h =
+          → AllByRecursion (IsChild g.state.core.scopes scope) stood → IsFrom g.state → HasRows (rows_changed k.path scope o which w (bodies_at stood is) (rows_from stood items keys ps) g)
+      changed which w items keys ps is g apart many as_many entries children h =
           let rs : List Row = rows_from stood items keys ps in
           let new : List Body = kept_rows rs in
           let ends : Firing = all_ended (bodies_at stood is) g in
@@ -345,31 +346,31 @@ module _ (k : Key) (v : ViewTree) (scope : ℕ) (ks : List Key) (left : list_any
             from = arrange gone.state new (may_stand gone.state items keys ps apart there from) from;
             fills = λ ok m at x get. ([], refl, refl, arranged_bodies gone.state new m at x get);
           } in
-          rows_done rs (rows_fired k.path scope o (t, n) w (length rs) 0 rs (filled_to 0 arranged)) (rows_entries stood items keys ps many as_many ∙ entries) (all_rows rs t n w (length rs) 0 rs (filled_to 0 arranged) begins)
+          rows_done rs (rows_fired k.path scope o which w (length rs) 0 rs (filled_to 0 arranged)) (rows_entries stood items keys ps many as_many ∙ entries) (all_rows rs which w (length rs) 0 rs (filled_to 0 arranged) begins)
 
-      by_planned : (t n : ℕ) (w : Repeated) (items : List Item) (keys : List TrackKey) (g : Firing) → length keys ≡ length items → map (λ (x : Item). x.entry) items ≡ entries_in v
-          → AllByRecursion (IsChild g.state.core.scopes scope) stood → IsFrom g.state → (r : Result Plan Fault) → as_fault (planned (keys_of stood) keys) ≡ r → HasRows (by_plan k.path scope o (t, n) w stood items keys r g)
-      by_planned t n w items keys g many entries children h (Err e) is = rows_fault e g h
-      by_planned t n w items keys g many entries children h (Ok p) is =
+      by_planned : (which : Origin) (w : Repeated) (items : List Item) (keys : List TrackKey) (g : Firing) → length keys ≡ length items → map (λ (x : Item). x.entry) items ≡ entries_in v
+          → AllByRecursion (IsChild g.state.core.scopes scope) stood → IsFrom g.state → (r : Result Plan Fault) → as_fault (planned (keys_of stood) keys) ≡ r → HasRows (by_plan k.path scope o which w stood items keys r g)
+      by_planned which w items keys g many entries children h (Err e) is = rows_fault e g h
+      by_planned which w items keys g many entries children h (Ok p) is =
           let two = plan_is (keys_of stood) keys p is in
           let apart : AreApart p.from = subst AreApart (sym two.0) (rows_apart (keys_of stood) keys two.1) in
           let as_many : length p.from ≡ length keys = ap (λ (ps : List (Option ℕ)). length ps) two.0 ∙ length-map keys (row_of (keys_of stood)) in
-          changed t n w items keys p.from p.gone g apart many as_many entries children h
+          changed which w items keys p.from p.gone g apart many as_many entries children h
 
-      by_tracked : (t n : ℕ) (w : Repeated) (items : List Item) (g : Firing) → map (λ (x : Item). x.entry) items ≡ entries_in v → AllByRecursion (IsChild g.state.core.scopes scope) stood → IsFrom g.state
-          → (r : Result (List TrackKey) Fault) → track_keys g.state.core.objects (object_at g.state.core.scopes scope) w 0 [] items ≡ r → HasRows (by_keys k.path scope o (t, n) w stood items r g)
-      by_tracked t n w items g entries children h (Err e) is = rows_fault e g h
-      by_tracked t n w items g entries children h (Ok keys) is =
+      by_tracked : (which : Origin) (w : Repeated) (items : List Item) (g : Firing) → map (λ (x : Item). x.entry) items ≡ entries_in v → AllByRecursion (IsChild g.state.core.scopes scope) stood → IsFrom g.state
+          → (r : Result (List TrackKey) Fault) → track_keys g.state.core.objects (object_at g.state.core.scopes scope) w 0 [] items ≡ r → HasRows (by_keys k.path scope o which w stood items r g)
+      by_tracked which w items g entries children h (Err e) is = rows_fault e g h
+      by_tracked which w items g entries children h (Ok keys) is =
           let many : length keys ≡ 0 + length items = keys_many g.state.core.objects (object_at g.state.core.scopes scope) w 0 [] items keys is in
-          by_planned t n w items keys g (omega (arith, many)) entries children h (as_fault (planned (keys_of stood) keys)) refl
+          by_planned which w items keys g (omega (arith, many)) entries children h (as_fault (planned (keys_of stood) keys)) refl
 
-      by_made : (t n : ℕ) (w : Repeated) (g : Firing) → rows_at k.path o g.state.instances ≡ stood → AllByRecursion (IsChild g.state.core.scopes scope) stood → IsFrom g.state
-          → (r : Result (List Item) Fault) → (items_made_is : (items : List Item) → r ≡ Ok items → map (λ (x : Item). x.entry) items ≡ entries_in v) → HasRows (by_items k.path scope o (t, n) w r g)
-      by_made t n w g same children h (Err e) is = rows_fault e g h
-      by_made t n w g same children h (Ok items) is =
+      by_made : (which : Origin) (w : Repeated) (g : Firing) → rows_at k.path o g.state.instances ≡ stood → AllByRecursion (IsChild g.state.core.scopes scope) stood → IsFrom g.state
+          → (r : Result (List Item) Fault) → (items_made_is : (items : List Item) → r ≡ Ok items → map (λ (x : Item). x.entry) items ≡ entries_in v) → HasRows (by_items k.path scope o which w r g)
+      by_made which w g same children h (Err e) is = rows_fault e g h
+      by_made which w g same children h (Ok items) is =
           let keys : Result (List TrackKey) Fault = track_keys g.state.core.objects (object_at g.state.core.scopes scope) w 0 [] items in
-          subst (λ (bs : List Body). HasRows (by_keys k.path scope o (t, n) w bs items keys g)) (sym same)
-          (by_tracked t n w items g (is items refl) children h keys refl)
+          subst (λ (bs : List Body). HasRows (by_keys k.path scope o which w bs items keys g)) (sym same)
+          (by_tracked which w items g (is items refl) children h keys refl)
 
   -- ---- so the rows of an outlet become those of the entries
 
@@ -398,9 +399,9 @@ module _ (k : Key) (v : ViewTree) (scope : ℕ) (ks : List Key) (left : list_any
     pub altered : (m : Linked) → linked_at k.path h.state.instances ≡ Some m → Altered o (outlets_in (linked_at k.path g.state.instances)) m.page.outlets
     pub rows : h.faulted ≡ false → (m : Linked) → linked_at k.path h.state.instances ≡ Some m → (x : OutletState) → slice_get m.page.outlets o ≡ Some x → are_rows (entries_in v) (roles_in x.bodies) ≡ true
 
-  pub repeat_fits : (o t n : ℕ) (w : Repeated) (ns : List ℕ) (f : Fragment) (g : Firing) → ((x : OutletState) → slice_get (outlets_in (linked_at k.path g.state.instances)) o ≡ Some x → is_filled_by k.serial.0 x ≡ true)
-      → ((m : Linked) → linked_at k.path g.state.instances ≡ Some m → (m.page.serials ≡ ns) × (m.fragment ≡ f)) → IsUnder k v scope ks left g.state → IsRepeated o ns f g (repeat_fired k.path scope v o (t, n) w g)
-  repeat_fits o t n w ns f g of sites u =
+  pub repeat_fits : (o : ℕ) (which : Origin) (w : Repeated) (ns : List ℕ) (f : Fragment) (g : Firing) → ((x : OutletState) → slice_get (outlets_in (linked_at k.path g.state.instances)) o ≡ Some x → is_filled_by k.serial.0 x ≡ true)
+      → ((m : Linked) → linked_at k.path g.state.instances ≡ Some m → (m.page.serials ≡ ns) × (m.fragment ≡ f)) → IsUnder k v scope ks left g.state → IsRepeated o ns f g (repeat_fired k.path scope v o which w g)
+  repeat_fits o which w ns f g of sites u =
       let xs : List OutletState = outlets_in (linked_at k.path g.state.instances) in
       let r : Run (List Item) = items_made (entries_in v) [] g.state.core in
       let g1 : Firing = with_state (with_core r.0 g.state) g in
@@ -408,6 +409,6 @@ module _ (k : Key) (v : ViewTree) (scope : ℕ) (ks : List Key) (left : list_any
       let first : IsFrom o xs ns f of g.state = record { under = u; sites = sites; altered = λ m at. subst (Altered o xs) (outlets_there (linked_at k.path g.state.instances) m at) (altered_first o xs) } in
       let children : AllByRecursion (IsChild g1.state.core.scopes scope) (bodies_or (slice_get xs o)) =
       all_map (IsChild g.state.core.scopes scope) (IsChild g1.state.core.scopes scope) (bodies_or (slice_get xs o)) (child_stays g.state.core.scopes g1.state.core.scopes scope stay.core.scopes u.there) (children_stood g.state o u) in
-      let end : HasRows o xs ns f of (repeat_fired k.path scope v o (t, n) w g) =
-      by_made o xs ns f of (once_stood g.state u) t n w g1 (rows_in o (linked_at k.path g.state.instances)) children (from_stays o xs ns f of g.state g1.state stay first) r.1 (λ items is. items_entries (entries_in v) [] g.state.core items is) in
+      let end : HasRows o xs ns f of (repeat_fired k.path scope v o which w g) =
+      by_made o xs ns f of (once_stood g.state u) which w g1 (rows_in o (linked_at k.path g.state.instances)) children (from_stays o xs ns f of g.state g1.state stay first) r.1 (λ items is. items_entries (entries_in v) [] g.state.core items is) in
       record { under = end.from.under; sites = end.from.sites; altered = end.from.altered; rows = end.rows }

@@ -8,6 +8,7 @@ use Rattle.ng_base.specs.declared.path.Key.{Key}
 use Rattle.ng_behaviour.specs.Scopes.{Scope, path_at, children_at, child_path, with_child}
 use Rattle.ng_drawing.specs.Roles.{Role, a_body}
 use Rattle.ng_drawing.specs.Template.{Fragment}
+use Rattle.ng_drawing.specs.declared.origin.Origin.{Origin}
 use Rattle.ng_fire.specs.Blocks.{Firing, went, goes, gone, all_gone}
 use Rattle.ng_fire.specs.Runs.{destroy_run}
 use Rattle.ng_link.specs.Calls.{left_at, in_outlet, placed_on, unlinked_at}
@@ -187,7 +188,7 @@ module _ (k : Key) (v : ViewTree) (scope : ℕ) (ks : List Key) (left : list_any
   abbrev pub IsOfSite : ℕ → State → Type 0
   IsOfSite o s = (m : Linked) (x : OutletState) → linked_at k.path s.instances ≡ Some m → slice_get m.page.outlets o ≡ Some x → is_filled_by k.serial.0 x ≡ true
 
-  pub under_placed : (o i : ℕ) (role : Role) (which : ℕ × ℕ) (child : ℕ) (f : Fragment) (serials : List ℕ) (s : State) (base : ℕ) → (is : IsNew which child f serials s base) → HasRoom which child f serials s base (in_outlet k.path o i role)
+  pub under_placed : (o i : ℕ) (role : Role) (which : Origin) (child : ℕ) (f : Fragment) (serials : List ℕ) (s : State) (base : ℕ) → (is : IsNew which child f serials s base) → HasRoom which child f serials s base (in_outlet k.path o i role)
       → IsOfSite o s → IsUnder s → IsUnder (placed_on (in_outlet k.path o i role) which child f serials s)
   under_placed o i role which child f serials s base is room of u = record {
     watched = placed_watched which child f serials s base is (in_outlet k.path o i role) room u.watched;

@@ -1,7 +1,8 @@
 //! How a page is opened, up to its first digest.
-ghost use Rattle.std.specs.Prelude.{◌≡◌, ◌<◌, [], length, slice_get, option_map, IfOk, OnOk, Some, None, ◌∷◌, true};
+ghost use Rattle.std.specs.Prelude.{◌≡◌, ◌<◌, ◌++◌, [], length, slice_get, option_map, IfOk, OnOk, Some, None, ◌∷◌, true};
 ghost use Rattle.std.specs.List.{AllByRecursion};
 ghost use Rattle.ng_app.specs.AppOf.{facts};
+ghost use Rattle.ng_app.specs.Templates.{all_named};
 ghost use Rattle.ng_drawing.specs.Template.{Template};
 ghost use Rattle.ng_link.specs.State.{state_of, templates_of};
 ghost use Rattle.ng_template.specs.Kept.{templates_of as kept_templates};
@@ -14,6 +15,7 @@ ghost use Rattle.ng_page.specs.Settled.{IsWatched, Fits};
 use ng_app::App;
 use ng_base::fault::{Fault, Memory};
 use ng_base::name::{ScopeId, TplId};
+use ng_drawing::origin::{Home, Origin};
 use ng_fire::following::follow;
 use ng_fire::linking::link_at;
 use ng_fire::programs::run_program;
@@ -28,10 +30,11 @@ fn prepare(alloc: Global, app: App, templates: Templates) -> Result<Works, Memor
     ensures state { IfOk result (λ w. (u : Template) → kept_templates templates ≡ (None, u) ∷ [] → state_of w ≡ prepared u (facts app)) }
     ensures works { IfOk result WorksAre }
     ensures bare { IfOk result (λ w. (state_of w).instances ≡ []) }
-    ensures templates { IfOk result (λ w. templates_of w ≡ kept_templates templates) }
+    ensures templates { IfOk result (λ w. templates_of w ≡ kept_templates templates ++ all_named (facts app).templates) }
 {
-    let (core, run) = app.begin()?;
-    let mut works = Works::new(alloc, core, templates);
+    let mut all = templates;
+    let (core, run) = app.begin(&mut all)?;
+    let mut works = Works::new(alloc, core, all);
     let end = run_program(&mut works.core, alloc, ScopeId(0), &run);
     follow(&mut works, alloc, end)?;
     Ok(works)
@@ -50,7 +53,8 @@ fn link_page(works: &mut Works, alloc: Global, t: TplId) -> Result<(), Memory>
 {
     let _in_order = works.watchers().count();
     works.core.scopes.sound();
-    let built = link_at(works, alloc, &Place::Top, t, 0, ScopeId(0))?;
+    let origin = Origin::plain(Home::first(t), 0);
+    let built = link_at(works, alloc, &Place::Top, origin, ScopeId(0))?;
     if built.room {
         Ok(())
     } else {
@@ -65,7 +69,6 @@ pub(crate) fn open(alloc: Global, t: Tpl, app: App) -> Result<Works, Memory>
     ensures page { IfOk result PageIs }
 {
     let mut templates = Templates::new(alloc);
-    let _regular = t.own();
     let t = templates.add(None, t)?;
     let mut works = prepare(alloc, app, templates)?;
     link_page(&mut works, alloc, t)?;

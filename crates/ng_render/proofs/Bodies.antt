@@ -24,7 +24,7 @@ use Rattle.ng_drawing.specs.declared.instance.Instance.TheFolds.{fold_out-Instan
 
 -- what an instance of the code has
 pub instance_out : (all : Fragments) (i : code_instance.Instance)
-    → instance_of all i ≡ instance_with (all (out-Instance i).template.0 (out-Instance i).fragment) (out-Instance i).scope.0 (map state_of (out-Instance i).sites.items)
+    → instance_of all i ≡ instance_with (all (out-Instance i).origin) (out-Instance i).scope.0 (map state_of (out-Instance i).sites.items)
     (outlets_from (map (group_of all) (out-Instance i).outlets.items))
 instance_out all i = fold_out-Instance Instance Group (instance_step all) instances_step i
 
@@ -52,7 +52,7 @@ abbrev mutual
 
 -- whatever the fragments are
 abbrev pub no_fragments : Fragments
-no_fragments t n = no_fragment
+no_fragments o = no_fragment
 
 pub size_out : (i : code_instance.Instance) → size (instance_of no_fragments i) ≡ 1 + size_in (outlets_from (map (group_of no_fragments) (out-Instance i).outlets.items))
 size_out i = ap size (instance_out no_fragments i)
@@ -128,7 +128,7 @@ module _ (objects : List Object) (scopes : List Scope) (all : Fragments) (i : co
   abbrev groups_of : Fragment → List Site → List SiteState → List (Rendered Forest)
   groups_of f sites states = rendering_in objects scopes (instance_now objects scopes sites states) states (cases_of f.outlets) f.outlets outlets
 
-  pub instance_is : (f : Fragment) (sites : List Site) (states : List SiteState) (os : List Outlet) (gs : List (Rendered Forest)) (parts : Parts) → all (out-Instance i).template.0 (out-Instance i).fragment ≡ f → sites ≡ f.sites → states ≡ kept → os ≡ f.outlets
+  pub instance_is : (f : Fragment) (sites : List Site) (states : List SiteState) (os : List Outlet) (gs : List (Rendered Forest)) (parts : Parts) → all (out-Instance i).origin ≡ f → sites ≡ f.sites → states ≡ kept → os ≡ f.outlets
       → gs ≡ rendering_in objects scopes (instance_now objects scopes sites states) states (cases_of os) os outlets → parts ≡ f.parts → rendering objects scopes (instance_of all i) ≡ shape sites states gs parts
   instance_is f sites states os gs parts e s t o g p =
       ap (rendering objects scopes) (instance_out all i)
@@ -142,5 +142,5 @@ module _ (objects : List Object) (scopes : List Scope) (all : Fragments) (i : co
   sites_stand h = subst (InstanceStands objects scopes) (instance_out all i) h
 
   -- there is no such fragment
-  pub nothing_is : all (out-Instance i).template.0 (out-Instance i).fragment ≡ no_fragment → rendering objects scopes (instance_of all i) ≡ shown_as no_nodes
+  pub nothing_is : all (out-Instance i).origin ≡ no_fragment → rendering objects scopes (instance_of all i) ≡ shown_as no_nodes
   nothing_is e = ap (rendering objects scopes) (instance_out all i) ∙ ap (λ x. rendering objects scopes (instance_with x (out-Instance i).scope.0 kept outlets)) e

@@ -10,7 +10,7 @@ use Rattle.ng_html.specs.declared.forest.Node as code_node
 use Rattle.ng_markup.specs.Forest.{Node, Forest, no_nodes, node, with_node, forest_from}
 use Rattle.ng_drawing.specs.Template.{Part, parts_from}
 use Rattle.ng_drawing.specs.Drawing.{followed_by, Now, GroupsNow, Rendered, ◌>>-◌, shown_as, render_part, render}
-use Rattle.ng_drawing.specs.Instance.{Instance, Instances, instances_from, outlets_from, rendering, rendering_all, Group}
+use Rattle.ng_drawing.specs.Instance.{Instance, instances_from, outlets_from, rendering, rendering_all, Group}
 use Rattle.ng_drawing.specs.Nodes.{part_nodes, nodes}
 use Rattle.ng_base.specs.Objects.{Object}
 use Rattle.ng_base.specs.declared.fault.Fault.{Fault}

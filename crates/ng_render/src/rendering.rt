@@ -5,9 +5,9 @@ ghost use Rattle.ng_base.specs.Meets.{Gives};
 ghost use Rattle.std.specs.List.{list_any};
 ghost use Rattle.ng_blocks.specs.Switching.{matches};
 ghost use Rattle.ng_drawing.specs.Cases.{case_in, cases_of, is_chosen as is_chosen_of, is_chosen_by as is_chosen_by_of, calls_for as calls_for_of};
-ghost use Rattle.ng_drawing.specs.Roles.{entries_kept};
+ghost use Rattle.ng_drawing.specs.Roles.{entries_kept, are_rows as are_rows_of};
 ghost use Rattle.ng_drawing.specs.RolesOf.{entries_of, role_of};
-ghost use Rattle.ng_drawing.specs.Rows.{is_as_called as is_as_called_of, is_filled as is_filled_of};
+ghost use Rattle.ng_drawing.specs.Rows.{is_as_called as is_as_called_of, is_included as is_included_of, is_filled as is_filled_of};
 ghost use Rattle.ng_drawing.specs.Instance.{rests_in, outlet_now, outlet_at, rendering, rendering_all, rendering_in, outlets_from};
 ghost use Rattle.ng_drawing.specs.InstanceOf.{state_of, instance_of, group_of as bodies_of, instances_of};
 ghost use Rattle.ng_html.specs.Seen.{forest_of};
@@ -25,11 +25,12 @@ use ng_base::fault::{Fault, Memory};
 use ng_base::txt::Txt;
 use ng_drawing::cases::{has_text, kept_as_text};
 use ng_drawing::instance::{Instance, Instances, SiteState};
-use ng_drawing::roles::{Entry, Role, are_rows, entries_in};
+use ng_drawing::roles::{Entry, Role, are_rows, entries_in, is_one_named};
 use ng_html::forest::Forest;
 use ng_scopes::scopes::Scopes;
 use ng_store::store::Store;
 use ng_template::{Filling, Outlet, Templates};
+use ng_value::operators::truthy;
 use ng_value::snapshot::Snap;
 use std::alloc::{AllocError, Global};
 
@@ -63,6 +64,7 @@ fn case_has(outlet: &Outlet, site: u32, value: &Txt) -> bool
         Filling::BodyIf(_) => false,
         Filling::OnCase(case, _) => has_text(value, case),
         Filling::ForEach(_, _) => false,
+        Filling::ByName(_) => false,
     }
 }
 
@@ -121,6 +123,7 @@ fn calls_for(
         Filling::BodyIf(_) => Ok(is_kept_true(shown)),
         Filling::OnCase(case, _) => is_chosen_by(alloc, outlets, outlet.site, case, shown),
         Filling::ForEach(_, _) => Ok(false),
+        Filling::ByName(_) => Ok(is_kept_true(shown)),
     }
 }
 
@@ -145,6 +148,44 @@ fn entries_shown(alloc: Global, shown: &Option<Snap>) -> Result<Vec<Entry>, Memo
     }
 }
 
+/// Whether the template that a value names is included, or none where it names none.
+fn is_included(alloc: Global, shown: &Option<Snap>, roles: &[Role]) -> Result<bool, Memory>
+    ensures { IfOk result (λ b. b ≡ is_included_of (option_map snap_of shown.now) (map role_of roles.now)) }
+{
+    match shown {
+        None => Ok(is_as_called(false, roles)),
+        Some(snap) => {
+            if !truthy(snap.view()) {
+                return Ok(is_as_called(false, roles));
+            }
+            let name = kept_as_text(alloc, snap.view())?;
+            Ok(is_one_named(&name, roles))
+        }
+    }
+}
+
+/// Whether a body stands in an outlet, which is one of these, exactly where a value of its site calls for it.
+fn is_called_for(
+    alloc: Global,
+    outlets: &[Outlet],
+    outlet: &Outlet,
+    shown: &Option<Snap>,
+    roles: &[Role],
+) -> Result<bool, Memory>
+    ensures { IfOk result (λ b. b ≡ is_as_called_of (calls_for_of (cases_of (outlets_of outlets.now) outlet.now.site) (filling_of outlet.now.filling) (option_map snap_of shown.now)) (map role_of roles.now)) }
+{
+    let called = calls_for(alloc, outlets, outlet, shown)?;
+    Ok(is_as_called(called, roles))
+}
+
+/// Whether a collection has these rows.
+fn has_rows(alloc: Global, shown: &Option<Snap>, roles: &[Role]) -> Result<bool, Memory>
+    ensures { IfOk result (λ b. b ≡ are_rows_of (entries_kept (option_map snap_of shown.now)) (map role_of roles.now)) }
+{
+    let entries = entries_shown(alloc, shown)?;
+    Ok(are_rows(entries.as_slice(), roles))
+}
+
 /// Whether the bodies that stand in an outlet, which is one of these, are those that a value of its site calls for.
 fn is_filled(
     alloc: Global,
@@ -155,12 +196,12 @@ fn is_filled(
 ) -> Result<bool, Memory>
     ensures { IfOk result (λ b. b ≡ is_filled_of (cases_of (outlets_of outlets.now) outlet.now.site) (filling_of outlet.now.filling) (option_map snap_of shown.now) (map role_of roles.now)) }
 {
-    if let Filling::ForEach(_, _) = &outlet.filling {
-        let entries = entries_shown(alloc, shown)?;
-        return Ok(are_rows(entries.as_slice(), roles));
+    match &outlet.filling {
+        Filling::BodyIf(_) => is_called_for(alloc, outlets, outlet, shown, roles),
+        Filling::OnCase(_, _) => is_called_for(alloc, outlets, outlet, shown, roles),
+        Filling::ForEach(_, _) => has_rows(alloc, shown, roles),
+        Filling::ByName(_) => is_included(alloc, shown, roles),
     }
-    let called = calls_for(alloc, outlets, outlet, shown)?;
-    Ok(is_as_called(called, roles))
 }
 
 /// What fills an outlet of which this was rendered, where it is what the value of the site calls for now.
@@ -213,9 +254,10 @@ fn rendered_instance(ground: &Ground<'_>, i: &Instance) -> Result<Option<Forest>
     requires { InstanceStands ground.now.store.now ground.now.scopes.now (instance_of (fragments_in (templates_of ground.now.all.now)) i.now) }
     ensures { Gives is_memory (option_map forest_of) (rendering ground.now.store.now ground.now.scopes.now (instance_of (fragments_in (templates_of ground.now.all.now)) i.now)) result }
 {
-    let Some(fragment) = ground.all.fragment(i.template, i.fragment) else {
+    let Some(whole) = ground.all.whole(ground.alloc, i.origin)? else {
         return Ok(Some(Forest::new(ground.alloc)));
     };
+    let fragment = whole.fragment();
     let over = Over {
         alloc: ground.alloc,
         sites: fragment.sites(),

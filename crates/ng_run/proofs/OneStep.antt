@@ -1,6 +1,6 @@
 -- A step of a session is one: what it prints, and how it leaves the page.
 use Rattle.std.proofs.Common.{◌≡◌, ℕ, Bool, true, false, List, [], ◌∷◌, ap, sym, ◌∙◌, subst}
-use Rattle.std.specs.Prelude.{codes, Option, None, Some, Result, Ok, Err}
+use Rattle.std.specs.Prelude.{codes, Option, None, Some, Ok, Err}
 use Rattle.ng_behaviour.specs.Scopes.{live_at}
 use Rattle.ng_digest.specs.declared.log.Report.{Report}
 use Rattle.ng_link.specs.Events.{named}

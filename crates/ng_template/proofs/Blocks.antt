@@ -1,28 +1,31 @@
 -- The blocks round an element, stage by stage.
 use Rattle.std.proofs.Common.{◌≡◌, ◌<◌, ◌≤◌, ◌+◌, ℕ, suc, ℤ, Bool, true, false, cond, List, [], ◌∷◌, ◌++◌, map, drop, get_or, length, Option, None, Some, Result, Ok, Err, refl, ap, sym, ◌∙◌, append_assoc, append-nil}
 use Rattle.std.proofs.lemmas.List.{at_drop_more, drop_all}
-use Rattle.std.specs.Prelude.{is_none, is_some, unwrap_or, IsErrAnd}
+use Rattle.std.proofs.lemmas.List.Folds.{list_any-append}
+use Rattle.std.specs.List.{list_any}
+use Rattle.std.specs.Prelude.{◌||◌, is_none, unwrap_or, IsErrAnd}
 use Rattle.ng_base.specs.Meets.{◌>>=◌, Gives}
 use Rattle.ng_collect.specs.Collected.{collected}
-use Rattle.ng_collect.specs.Sorted.{of_core}
 use Rattle.ng_collect.specs.declared.definition.DirectiveDef.{DirectiveDef}
 use Rattle.ng_collect.specs.declared.pick.Pick.{Pick}
 use Rattle.ng_drawing.specs.Cases.{Case}
 use Rattle.ng_drawing.specs.Template.{Site, Repeated, Outlet, Part}
-use Rattle.ng_drawing.specs.declared.kind.SiteKind.TheVariants as kinds
 use Rattle.ng_interp.specs.Parts.{Piece}
 use Rattle.ng_interp.specs.declared.pieces.InterpFault.{InterpFault}
+use Rattle.ng_language.specs.Trees.{Trees}
 use Rattle.ng_markup.specs.Forest.{Node}
-use Rattle.ng_template.specs.Around.{attributes_in, picks_in, at_place, checked_as, checked, block_priority, Inside, is_plain, has_picks, Block, block_if, block_for, is_repeat, if_heads, for_heads, Around, case_at, cases_in, switched, heads_by, heads_of, heads_onto, Found, first_case, found_after, with_found, bare_around, around_these, around_picks, around_below, block_room, around_node}
+use Rattle.ng_template.specs.Around.{attributes_in, picks_in, at_place, checked_as, checked, block_priority, Inside, is_plain, has_picks, has_template, Block, block_for, block_with, kind_of_block, names_template, templated, inside_in, Heads, checked_program, whole_heads, for_heads, start_heads, a_case, a_start, a_repeat, a_block, before_of, head_by, head_at, heads_from, head_onto, heads_onto, starts_in, Around, case_at, cases_in, switched, heads_of, Found, first_case, found_after, with_found, bare_around, around_these, around_picks, around_below, block_room, around_node}
 use Rattle.ng_template.specs.Compiles.{Made, Switch, Outermost, rounds, begun_body, wrapped, in_rounds, node_made}
 use Rattle.ng_template.specs.Directives.{text_on, whole}
 use Rattle.ng_template.specs.Free.{is_tpl_want}
 use Rattle.ng_template.specs.Manners.{are_built, any_makes_plain}
+use Rattle.ng_template.specs.Programs.{program_in, judged_program}
 use Rattle.ng_template.specs.Repeating.{repeat_in}
 use Rattle.ng_template.specs.Texts.{refused, wrong, judged_as, judged, sites_in}
 use Rattle.ng_template.specs.declared.fault.TplFault.{TplFault}
 use Rattle.ng_template.specs.declared.fault.TplKind.{TplKind}
-use Rattle.ng_template.specs.declared.fault.TplKind.TheVariants.{Later}
+use Rattle.ng_template.specs.declared.fault.TplKind.TheVariants.{Later, UnknownFilter}
+use Rattle.ng_view.specs.Purity.{all_filters_known}
 
 -- what is judged of a text is what it is checked for
 judged_as-checked : (place : ℕ) (o : Option TplKind) (ps : List Piece) → judged_as place o ps ≡ at_place place (checked_as o ps)
@@ -43,85 +46,116 @@ refused_first place (Ok v) go f e = absurd (cc)
 refused_first place (Err kind) go f e = cc
 
 -- blocks after those that were found
-onto-more : (place : ℕ) (before now : List Block) (r s : Result (List Block) TplKind) → at_place place (heads_onto before r) ≡ Ok now → heads_onto before (r >>= λ h. s >>= λ hs. Ok (h ++ hs)) ≡ heads_onto now s
-onto-more place before now (Ok h) (Ok hs) e =
-    let same : before ++ h ≡ now = (cc) in
-    ap Ok (sym (append_assoc before h hs) ∙ ap (λ (xs : List Block). xs ++ hs) same)
-onto-more place before now (Ok h) (Err kind) e = refl
-onto-more place before now (Err kind) s e = absurd (cc)
+onto-both : (before hs : List Block) (g : Result (List Block) TplKind) → heads_onto before (g >>= λ ks. Ok (hs ++ ks)) ≡ heads_onto (before ++ hs) g
+onto-both before hs (Ok ks) = ap Ok (sym (append_assoc before hs ks))
+onto-both before hs (Err kind) = refl
 
-onto-refused : (place : ℕ) (before : List Block) (r : Result (List Block) TplKind) (go : List Block → Result (List Block) TplKind) (f : TplFault) → at_place place (heads_onto before r) ≡ Err f
+onto-more : (place : ℕ) (before : List Block) (now : Heads) (r : Result Heads TplKind) (go : List Trees → Result (List Block) TplKind) → at_place place (head_onto before r) ≡ Ok now
+    → heads_onto before (r >>= λ h. go h.0 >>= λ hs. Ok (h.1 ++ hs)) ≡ heads_onto now.1 (go now.0)
+onto-more place before now (Ok h) go e =
+    let same : (h.0, before ++ h.1) ≡ now = (cc) in
+    onto-both before h.1 (go h.0) ∙ ap (λ (n : Heads). heads_onto n.1 (go n.0)) same
+onto-more place before now (Err kind) go e = absurd (cc)
+
+onto-refused : (place : ℕ) (before : List Block) (r : Result Heads TplKind) (go : Heads → Result (List Block) TplKind) (f : TplFault) → at_place place (head_onto before r) ≡ Err f
     → at_place place (heads_onto before (r >>= go)) ≡ Err f
 onto-refused place before (Ok h) go f e = absurd (cc)
 onto-refused place before (Err kind) go f e = cc
 
 -- a block more
-abbrev pub head_at : Pick → Result (List Block) TplKind
-head_at p = heads_by (case_at p) p.directive (text_on p.attribute)
+module _ (place : ℕ) (xs : List Pick) (i : ℕ) (x : Pick) (l : i < length xs) (is : x ≡ get_or xs i x) (starts : List Trees) (before : List Block) where
+  abbrev with_starts : List Pick → Result (List Block) TplFault
+  with_starts zs = at_place place (heads_onto before (heads_from starts zs))
 
-module _ (place : ℕ) (xs : List Pick) (i : ℕ) (x : Pick) (l : i < length xs) (is : x ≡ get_or xs i x) (before : List Block) where
-  here : at_place place (heads_onto before (head_at x)) ≡ at_place place (heads_onto before (head_at (get_or xs i x)))
-  here = ap (λ (y : Pick). at_place place (heads_onto before (head_at y))) is
+  here : at_place place (head_onto before (head_at starts x)) ≡ at_place place (head_onto before (head_at starts (get_or xs i x)))
+  here = ap (λ (y : Pick). at_place place (head_onto before (head_at starts y))) is
 
-  pub heads-turn : (now : List Block) → at_place place (heads_onto before (head_at x)) ≡ Ok now
-      → at_place place (heads_onto now (heads_of (drop (i + 1) xs))) ≡ at_place place (heads_onto before (heads_of (drop i xs)))
+  pub heads-turn : (now : Heads) → at_place place (head_onto before (head_at starts x)) ≡ Ok now
+      → at_place place (heads_onto now.1 (heads_from now.0 (drop (i + 1) xs))) ≡ with_starts (drop i xs)
   heads-turn now made =
-      sym (at_drop_more (λ zs. at_place place (heads_onto before (heads_of zs))) xs i x l
-      ∙ ap (at_place place) (onto-more place before now (head_at (get_or xs i x)) (heads_of (drop (i + 1) xs)) (sym here ∙ made)))
+      sym (at_drop_more with_starts xs i x l
+      ∙ ap (at_place place) (onto-more place before now (head_at starts (get_or xs i x)) (λ ts. heads_from ts (drop (i + 1) xs)) (sym here ∙ made)))
 
-  pub heads-refused : (f : TplFault) → at_place place (heads_onto before (head_at x)) ≡ Err f → at_place place (heads_onto before (heads_of (drop i xs))) ≡ Err f
+  pub heads-refused : (f : TplFault) → at_place place (head_onto before (head_at starts x)) ≡ Err f → with_starts (drop i xs) ≡ Err f
   heads-refused f made =
-      at_drop_more (λ zs. at_place place (heads_onto before (heads_of zs))) xs i x l
-      ∙ onto-refused place before (head_at (get_or xs i x)) (λ h. heads_of (drop (i + 1) xs) >>= λ hs. Ok (h ++ hs)) f (sym here ∙ made)
+      at_drop_more with_starts xs i x l
+      ∙ onto-refused place before (head_at starts (get_or xs i x)) (λ h. heads_from h.0 (drop (i + 1) xs) >>= λ hs. Ok (h.1 ++ hs)) f (sym here ∙ made)
 
-pub heads-end : (place : ℕ) (xs : List Pick) (i : ℕ) (before : List Block) → length xs ≤ i → at_place place (heads_onto before (heads_of (drop i xs))) ≡ Ok before
-heads-end place xs i before l = ap (λ zs. at_place place (heads_onto before (heads_of zs))) (drop_all i xs l) ∙ ap Ok (append-nil before)
+pub heads-end : (place : ℕ) (xs : List Pick) (i : ℕ) (starts : List Trees) (before : List Block) → length xs ≤ i → at_place place (heads_onto before (heads_from starts (drop i xs))) ≡ Ok before
+heads-end place xs i starts before l = ap (λ zs. at_place place (heads_onto before (heads_from starts zs))) (drop_all i xs l) ∙ ap Ok (append-nil before)
 
 -- the block whose text is an expression as a whole, from what was judged of that
-module _ (place : ℕ) (before : List Block) (t : List ℕ) where
+module _ (place : ℕ) (named : Bool) (starts : List Trees) (before : List Block) (t : List ℕ) where
   abbrev text : Result (List Piece) InterpFault
   text = whole t
 
-  abbrev go : List Piece → Result (List Block) TplKind
-  go h = Ok (map block_if (sites_in kinds.Reference h))
+  abbrev go : List Piece → Result Heads TplKind
+  go h = Ok ([], map (block_with named starts) (sites_in (kind_of_block named) h))
 
-  pub if-made : (h : List Piece) → judged place text ≡ Ok h → at_place place (heads_onto before (if_heads t)) ≡ Ok (before ++ map block_if (sites_in kinds.Reference h))
-  if-made h e =
+  pub whole-made : (h : List Piece) → judged place text ≡ Ok h
+      → at_place place (head_onto before (whole_heads named starts t)) ≡ Ok ([], before ++ map (block_with named starts) (sites_in (kind_of_block named) h))
+  whole-made h e =
       let c : checked text ≡ Ok h = placed_ok place (checked text) h (sym (judged-checked place text) ∙ e) in
-      ap (λ (r : Result (List Piece) TplKind). at_place place (heads_onto before (r >>= go))) c
+      ap (λ (r : Result (List Piece) TplKind). at_place place (head_onto before (r >>= go))) c
 
-  pub if-wrong : (f : TplFault) → judged place text ≡ Err f → at_place place (heads_onto before (if_heads t)) ≡ Err f
-  if-wrong f e =
+  pub whole-wrong : (f : TplFault) → judged place text ≡ Err f → at_place place (head_onto before (whole_heads named starts t)) ≡ Err f
+  whole-wrong f e =
       let c : at_place place (checked text) ≡ Err f = sym (judged-checked place text) ∙ e in
-      refused_first place (checked text >>= go) (λ hs. Ok (before ++ hs)) f (refused_first place (checked text) go f c)
+      refused_first place (checked text >>= go) (λ (h : Heads). Ok (h.0, before ++ h.1)) f (refused_first place (checked text) go f c)
 
 -- that of a repeat
 module _ (place : ℕ) (before : List Block) (t : List ℕ) where
-  abbrev went : Site × Repeated → Result (List Block) TplKind
-  went r = Ok (block_for r.0 r.1 ∷ [])
+  abbrev went : Site × Repeated → Result Heads TplKind
+  went r = Ok ([], block_for r.0 r.1 ∷ [])
 
-  pub for-made : (r : Site × Repeated) → at_place place (repeat_in t) ≡ Ok r → at_place place (heads_onto before (for_heads t)) ≡ Ok (before ++ block_for r.0 r.1 ∷ [])
-  for-made r e = ap (λ (x : Result (Site × Repeated) TplKind). at_place place (heads_onto before (x >>= went))) (placed_ok place (repeat_in t) r e)
+  pub for-made : (r : Site × Repeated) → at_place place (repeat_in t) ≡ Ok r → at_place place (head_onto before (for_heads t)) ≡ Ok ([], before ++ block_for r.0 r.1 ∷ [])
+  for-made r e = ap (λ (x : Result (Site × Repeated) TplKind). at_place place (head_onto before (x >>= went))) (placed_ok place (repeat_in t) r e)
 
-  pub for-wrong : (f : TplFault) → at_place place (repeat_in t) ≡ Err f → at_place place (heads_onto before (for_heads t)) ≡ Err f
-  for-wrong f e = refused_first place (repeat_in t >>= went) (λ hs. Ok (before ++ hs)) f (refused_first place (repeat_in t) went f e)
+  pub for-wrong : (f : TplFault) → at_place place (repeat_in t) ≡ Err f → at_place place (head_onto before (for_heads t)) ≡ Err f
+  for-wrong f e = refused_first place (repeat_in t >>= went) (λ (h : Heads). Ok (h.0, before ++ h.1)) f (refused_first place (repeat_in t) went f e)
 
--- which of these a directive is that makes no case
-module _ (place : ℕ) (before : List Block) (p : Pick) (none : case_at p ≡ None) where
-  abbrev onto : Bool → Result (List Block) TplFault
-  onto b = at_place place (heads_onto before (cond b (for_heads (text_on p.attribute)) (if_heads (text_on p.attribute))))
+-- a program that runs before its block's value is asked, from what was judged of it
+judged-program : (place : ℕ) (r : Option Trees) → judged_program place r ≡ at_place place (checked_program r)
+judged-program place None = refl
+judged-program place (Some b) = by (all_filters_known b)
+  where
+    by : (known : Bool) → cond known (Ok b) (Err (refused UnknownFilter place)) ≡ at_place place (cond known (Ok b) (Err UnknownFilter))
+    by true = refl
+    by false = refl
 
-  pub head-is : (b : Bool) → of_core is_repeat p.directive ≡ b → at_place place (heads_onto before (head_at p)) ≡ onto b
-  head-is b e = ap (λ (o : Option Case). at_place place (heads_onto before (heads_by o p.directive (text_on p.attribute)))) none ∙ ap onto e
+module _ (place : ℕ) (starts : List Trees) (t : List ℕ) where
+  abbrev started : Trees → Result Heads TplKind
+  started b = Ok (starts ++ b ∷ [], [])
 
--- a directive that makes no case
-pub makes_none : (o : Option Case) → false ≡ is_some o → o ≡ None
-makes_none None e = refl
-makes_none (Some c) e = absurd (cc)
+  pub start-made : (b : Trees) → judged_program place (program_in t) ≡ Ok b → at_place place (starts_in (start_heads starts t)) ≡ Ok (starts ++ b ∷ [])
+  start-made b e = ap (λ (r : Result Trees TplKind). at_place place (starts_in (r >>= started))) (placed_ok place (checked_program (program_in t)) b (sym (judged-program place (program_in t)) ∙ e))
 
--- and that of one that makes a case
-pub head-none : (place : ℕ) (before : List Block) (p : Pick) (c : Case) → case_at p ≡ Some c → at_place place (heads_onto before (head_at p)) ≡ Ok before
-head-none place before p c e = ap (λ (o : Option Case). at_place place (heads_onto before (heads_by o p.directive (text_on p.attribute)))) e ∙ ap Ok (append-nil before)
+  pub start-wrong : (f : TplFault) → judged_program place (program_in t) ≡ Err f → at_place place (starts_in (start_heads starts t)) ≡ Err f
+  start-wrong f e = refused_first place (start_heads starts t) (λ (h : Heads). Ok h.0) f (refused_first place (checked_program (program_in t)) started f (sym (judged-program place (program_in t)) ∙ e))
+
+-- the programs of a directive that adds no block but them
+module _ (place : ℕ) (before : List Block) (starts : List Trees) (p : Pick) where
+  pub head-case : before_of p.directive ≡ a_case → at_place place (head_onto before (head_at starts p)) ≡ Ok (starts, before)
+  head-case is = ap (λ b. at_place place (head_onto before (head_by b starts (text_on p.attribute)))) is ∙ ap (λ (hs : List Block). Ok (starts, hs)) (append-nil before)
+
+  started_onto : (r : Result Trees TplKind) → head_onto before (r >>= started place starts (text_on p.attribute)) ≡ (starts_in (r >>= started place starts (text_on p.attribute)) >>= λ ts. Ok (ts, before))
+  started_onto (Ok b) = ap (λ (hs : List Block). Ok (starts ++ b ∷ [], hs)) (append-nil before)
+  started_onto (Err kind) = refl
+
+  head-start : before_of p.directive ≡ a_start → head_onto before (head_at starts p) ≡ (starts_in (start_heads starts (text_on p.attribute)) >>= λ ts. Ok (ts, before))
+  head-start is = ap (λ b. head_onto before (head_by b starts (text_on p.attribute))) is ∙ started_onto (checked_program (program_in (text_on p.attribute)))
+
+  pub head-started : (ts : List Trees) → before_of p.directive ≡ a_start → at_place place (starts_in (start_heads starts (text_on p.attribute))) ≡ Ok ts → at_place place (head_onto before (head_at starts p)) ≡ Ok (ts, before)
+  head-started ts is e = ap (at_place place) (head-start is ∙ ap (λ (r : Result (List Trees) TplKind). r >>= λ us. Ok (us, before)) (placed_ok place (starts_in (start_heads starts (text_on p.attribute))) ts e))
+
+  pub head-unstarted : (f : TplFault) → before_of p.directive ≡ a_start → at_place place (starts_in (start_heads starts (text_on p.attribute))) ≡ Err f → at_place place (head_onto before (head_at starts p)) ≡ Err f
+  head-unstarted f is e = ap (at_place place) (head-start is) ∙ refused_first place (starts_in (start_heads starts (text_on p.attribute))) (λ us. Ok (us, before)) f e
+
+  pub head-repeat : before_of p.directive ≡ a_repeat → at_place place (head_onto before (head_at starts p)) ≡ at_place place (head_onto before (for_heads (text_on p.attribute)))
+  head-repeat is = ap (λ b. at_place place (head_onto before (head_by b starts (text_on p.attribute)))) is
+
+  pub head-block : (named : Bool) → before_of p.directive ≡ a_block named → at_place place (head_onto before (head_at starts p)) ≡ at_place place (head_onto before (whole_heads named starts (text_on p.attribute)))
+  head-block named is = ap (λ b. at_place place (head_onto before (head_by b starts (text_on p.attribute)))) is
 
 -- what directives add to what was found
 module _ (place : ℕ) (f : Found) (has_switch : Bool) (ps : List Pick) where
@@ -181,17 +215,32 @@ after-none : (r : Result Around TplKind) → around_after (None, []) r ≡ r
 after-none (Ok a) = refl
 after-none (Err kind) = refl
 
+-- an element in blocks of which some name a template
+templated-twice : (i : Inside) → templated (templated i) ≡ templated i
+templated-twice is_plain = refl
+templated-twice (has_picks ps) = refl
+templated-twice (has_template ps) = refl
+
+inside-both : (bs cs : List Block) (i : Inside) → inside_in bs (inside_in cs i) ≡ inside_in (bs ++ cs) i
+inside-both bs cs i = by (list_any names_template bs) (list_any names_template cs) ∙ ap (λ (b : Bool). cond b (templated i) i) (sym (list_any-append names_template bs cs))
+  where
+    by : (b c : Bool) → cond b (templated (cond c (templated i) i)) (cond c (templated i) i) ≡ cond (b || c) (templated i) i
+    by true true = templated-twice i
+    by true false = refl
+    by false c = refl
+
 after-both : (f g : Found) (r : Result Around TplKind) → around_after f (r >>= λ a. Ok (with_found g a)) ≡ around_after (joined f g) r
 after-both f g (Ok a) =
-    ap (λ (c : Option Case). let b : Around = record { case = c; heads = f.1 ++ (g.1 ++ a.heads); inside = a.inside } in Ok b) (first-assoc f.0 g.0 a.case)
-    ∙ ap (λ (hs : List Block). let b : Around = record { case = first_case (first_case f.0 g.0) a.case; heads = hs; inside = a.inside } in Ok b) (sym (append_assoc f.1 g.1 a.heads))
+    ap (λ (c : Option Case). let b : Around = record { case = c; heads = f.1 ++ (g.1 ++ a.heads); inside = inside_in f.1 (inside_in g.1 a.inside) } in Ok b) (first-assoc f.0 g.0 a.case)
+    ∙ (ap (λ (hs : List Block). let b : Around = record { case = first_case (first_case f.0 g.0) a.case; heads = hs; inside = inside_in f.1 (inside_in g.1 a.inside) } in Ok b) (sym (append_assoc f.1 g.1 a.heads))
+    ∙ ap (λ (i : Inside). let b : Around = record { case = first_case (first_case f.0 g.0) a.case; heads = (f.1 ++ g.1) ++ a.heads; inside = i } in Ok b) (inside-both f.1 g.1 a.inside))
 after-both f g (Err kind) = refl
 
 -- nothing more is round it
-after-bare : (f : Found) (i : Inside) → with_found f (bare_around i) ≡ record { case = f.0; heads = f.1; inside = i }
+after-bare : (f : Found) (i : Inside) → with_found f (bare_around i) ≡ record { case = f.0; heads = f.1; inside = inside_in f.1 i }
 after-bare f i =
-    ap (λ (hs : List Block). record { case = first_case f.0 None; heads = hs; inside = i }) (append-nil f.1)
-    ∙ ap (λ (c : Option Case). record { case = c; heads = f.1; inside = i }) (last f.0)
+    ap (λ (hs : List Block). record { case = first_case f.0 None; heads = hs; inside = inside_in f.1 i }) (append-nil f.1)
+    ∙ ap (λ (c : Option Case). record { case = c; heads = f.1; inside = inside_in f.1 i }) (last f.0)
   where
     last : (c : Option Case) → first_case c None ≡ c
     last None = refl
@@ -210,8 +259,19 @@ these-refused : (place : ℕ) (f : Found) (s : Result Found TplKind) (r : Result
 these-refused place f (Ok g) r e h = absurd (cc)
 these-refused place f (Err kind) r e h = cc
 
-abbrev around_with : Found → Inside → Around
+-- a plain element stays so in any blocks
+abbrev pub around_with : Found → Inside → Around
 around_with f i = record { case = f.0; heads = f.1; inside = i }
+
+plain-in : (bs : List Block) → inside_in bs is_plain ≡ is_plain
+plain-in bs = by (list_any names_template bs)
+  where
+    by : (b : Bool) → cond b (templated is_plain) is_plain ≡ is_plain
+    by true = refl
+    by false = refl
+
+after-plain : (f : Found) → with_found f (bare_around is_plain) ≡ around_with f is_plain
+after-plain f = after-bare f is_plain ∙ ap (around_with f) (plain-in f.1)
 
 module _ (place : ℕ) (defs : List DirectiveDef) (n : Node) where
   abbrev pub rest : Found → Bool → ℕ → Option ℤ → Result Around TplFault
@@ -223,7 +283,7 @@ module _ (place : ℕ) (defs : List DirectiveDef) (n : Node) where
       ∙ (ap (at_place place) (after-none (around_below room defs has_switch None n)) ∙ ap (λ k. at_place place (around_below k defs has_switch None n)) all)
 
   pub last-stage : (f : Found) (has_switch : Bool) (room : ℕ) (limit : Option ℤ) → room ≡ 0 → rest f has_switch room limit ≡ Ok (around_with f is_plain)
-  last-stage f has_switch room limit none = ap (λ k. rest f has_switch k limit) none ∙ ap Ok (after-bare f is_plain)
+  last-stage f has_switch room limit none = ap (λ k. rest f has_switch k limit) none ∙ ap Ok (after-plain f)
 
   module _ (f : Found) (has_switch : Bool) (room k : ℕ) (limit : Option ℤ) (more : room ≡ suc k) where
     abbrev below : ℤ → Result Around TplKind
@@ -247,7 +307,7 @@ module _ (place : ℕ) (defs : List DirectiveDef) (n : Node) where
           ∙ ap (λ r. at_place place (around_after f (r >>= λ qs. around_picks has_switch qs below))) (placed_ok place picks_here ps read)
 
       pub plain-stage : any_makes_plain ps ≡ true → rest f has_switch room limit ≡ Ok (around_with f is_plain)
-      plain-stage plain = stage ∙ (ap (λ b. picked b (are_built ps) (block_priority ps)) plain ∙ ap Ok (after-bare f is_plain))
+      plain-stage plain = stage ∙ (ap (λ b. picked b (are_built ps) (block_priority ps)) plain ∙ ap Ok (after-plain f))
 
       module _ (plain : any_makes_plain ps ≡ false) where
         read_stage : (b : Bool) → are_built ps ≡ b → rest f has_switch room limit ≡ picked false b (block_priority ps)
@@ -256,10 +316,10 @@ module _ (place : ℕ) (defs : List DirectiveDef) (n : Node) where
         pub later-stage : are_built ps ≡ false → rest f has_switch room limit ≡ Err (refused Later place)
         later-stage built = read_stage false built
 
-        pub inner-stage : are_built ps ≡ true → block_priority ps ≡ None → rest f has_switch room limit ≡ Ok (around_with f (has_picks ps))
+        pub inner-stage : are_built ps ≡ true → block_priority ps ≡ None → rest f has_switch room limit ≡ Ok (around_with f (inside_in f.1 (has_picks ps)))
         inner-stage built none = read_stage true built ∙ (ap (picked false true) none ∙ ap Ok (after-bare f (has_picks ps)))
 
-        pub last-found : are_built ps ≡ true → (o : Option ℤ) → o ≡ block_priority ps → is_none o ≡ true → rest f has_switch room limit ≡ Ok (around_with f (has_picks ps))
+        pub last-found : are_built ps ≡ true → (o : Option ℤ) → o ≡ block_priority ps → is_none o ≡ true → rest f has_switch room limit ≡ Ok (around_with f (inside_in f.1 (has_picks ps)))
         last-found built None is none = inner-stage built (sym is)
         last-found built (Some l) is none = absurd (cc)
 
@@ -275,6 +335,12 @@ module _ (place : ℕ) (defs : List DirectiveDef) (n : Node) where
         heads-stage built (Some l) some is e h =
             read_stage true built
             ∙ (ap (picked false true) (sym some) ∙ these-refused place f (found_after (None, []) has_switch ps) (below l) e (ap (at_place place) (sym (found-joined f has_switch ps)) ∙ h))
+
+-- the programs of a directive, of which nothing is known but what the call said
+pub gives-started : {A : Type 0} (place : ℕ) (before : List Block) (starts : List Trees) (p : Pick) → before_of p.directive ≡ a_start → (seen : A → List Trees) (r : Result A TplFault)
+    → Gives is_tpl_want seen (at_place place (starts_in (start_heads starts (text_on p.attribute)))) r → Gives is_tpl_want (λ a. (seen a, before)) (at_place place (head_onto before (head_at starts p))) r
+gives-started place before starts p is seen (Ok a) h = head-started place before starts p (seen a) is h
+gives-started place before starts p is seen (Err f) h = λ (free : is_tpl_want f ≡ false). head-unstarted place before starts p f is (h free)
 
 -- a refusal that is handed on
 pub gives_err : {A B : Type 0} (seen : A → B) (asked : Result B TplFault) (r : Result A TplFault) (e : TplFault) → IsErrAnd r (λ y. y ≡ e) → (is_tpl_want e ≡ false → asked ≡ Err e) → Gives is_tpl_want seen asked r

@@ -268,8 +268,11 @@ all_drawn n h g =
     both_all (λ a. is_value_drawn test a.1) h.attributes (class_setting h.class) g.attributes last
 
 -- so an element is numbered: its attributes are drawn from its own sites, but for that of its contents
+pub any_alone : (o w : Option ℕ) (n c : ℕ) (ats : PartAttributes) → are_drawn (apart_from o w n c) ats ≡ true → are_drawn (is_within n c) ats ≡ true
+any_alone o w n c ats e = attributes_more (apart_from o w n c) (is_within n c) (λ k f. (apart_parts n c o w k f).0) ats e
+
 pub plain_alone : (n c : ℕ) (w : Option ℕ) (ats : PartAttributes) → are_drawn (apart_from None w n c) ats ≡ true → are_drawn (is_within n c) ats ≡ true
-plain_alone n c w ats e = attributes_more (apart_from None w n c) (is_within n c) (λ k f. (apart_parts n c None w k f).0) ats e
+plain_alone n c w ats e = any_alone None w n c ats e
 
 pub bound_alone : (b n c : ℕ) (w : Option ℕ) (ats : PartAttributes) → is_within n c b ≡ true → are_drawn (apart_from (Some b) w n c) ats ≡ true → (is_within n c b && are_drawn (is_apart b n c) ats) ≡ true
 bound_alone b n c w ats e f =

@@ -8,21 +8,23 @@ use Rattle.ng_base.specs.Meets.{◌>>=◌}
 use Rattle.ng_collect.specs.declared.definition.DirectiveDef.{DirectiveDef}
 use Rattle.ng_collect.specs.declared.pick.Pick.{Pick}
 use Rattle.ng_drawing.specs.Cases.{Case}
-use Rattle.ng_drawing.specs.Template.{Site, on_case, Outlet, Part, Contents, Parts, no_parts, part_then, Fragment}
+use Rattle.ng_drawing.specs.Template.{Site, on_case, Outlet, Part, Contents, Parts, children, no_parts, part_then, Fragment}
 use Rattle.ng_drawing.specs.declared.kind.SiteKind.TheVariants as kinds
 use Rattle.ng_interp.specs.Parts as interp
 use Rattle.ng_markup.specs.Forest.{Attributes, Node, Forest, element, text, comment, no_nodes, node}
-use Rattle.ng_template.specs.Around.{Inside, is_plain, has_picks, Block, Around, at_place, around_node}
-use Rattle.ng_template.specs.Compiles.{Made, Switch, switch_in, first_place, other_places, with_text, text_made, bare, with_head, element_with, after_node, after_forest, contents_made, element_made, the_case, the_block, outermost_made, rounds, begun_body, site_in, filling_in, outlet_by, fragment_made, bodies_with, has_room, wrapped, in_rounds, node_made, compiled_node, compiled_forest}
+use Rattle.ng_template.specs.Around.{Inside, is_plain, has_picks, has_template, Block, Around, at_place, around_node}
+use Rattle.ng_template.specs.Compiles.{Made, Switch, switch_in, first_place, other_places, with_text, text_made, bare, with_head, element_with, after_node, after_forest, passed_over, contents_made, emptied_by, element_made, the_case, the_block, outermost_made, rounds, begun_body, site_in, filling_in, outlet_by, fragment_made, bodies_with, has_room, wrapped, in_rounds, node_made, compiled_node, compiled_forest}
 use Rattle.ng_template.specs.Directives.{Head, with_picks, attributes_of}
 use Rattle.ng_template.specs.Limits.{site_limit, worn}
-use Rattle.ng_template.specs.Numbering.{is_apart, are_drawn, after_own, after_part, after_contents, after_parts, part_draws, contents_draw, parts_draw, outlets_of_part, outlets_of_contents, after_outlets, is_undrawn, are_undrawn}
+use Rattle.ng_template.specs.Manners.{any_gives_contents}
+use Rattle.ng_template.specs.Numbering.{is_within, is_apart, are_drawn, after_own, after_part, after_contents, after_parts, part_draws, contents_draw, parts_draw, outlets_of_part, outlets_of_contents, after_outlets, is_undrawn, are_undrawn}
 use Rattle.ng_template.specs.Order.{Met, is_bind, is_switch, is_passed_over, has_switch, has_block, round_met, is_left, is_left_to_body, is_near, switch_near, first_pick_refusal, text_refusal, inside_refusal, around_refusal, refusal, FirstRefusal, refused_here, refused_after, NoneRefused, text_sites, pick_sites, inside_sites, around_sites, node_sites, sites_at, part_holes, content_holes, holes}
 use Rattle.ng_template.specs.Texts.{refused, judged, counted, sites_in}
 use Rattle.ng_template.specs.declared.fault.TplFault.{TplFault}
 use Rattle.ng_template.specs.declared.fault.TplKind.{TplKind}
+use Rattle.ng_template.specs.declared.fault.TplKind.TheVariants.{MultiDir}
 use Rattle.ng_template.proofs.Apart.{Apart, IsInside, all_weaker, all_joined, apart_contents, apart_first, apart_second, all_apart}
-use Rattle.ng_template.proofs.Drawn.{apart_from, is_bound_within, within_parts, Drawn, bare_drawn, all_drawn, bound_alone, plain_alone}
+use Rattle.ng_template.proofs.Drawn.{apart_from, is_bound_within, within_parts, Drawn, bare_drawn, all_drawn, any_alone, bound_alone, plain_alone}
 use Rattle.ng_template.proofs.Judging.{Judged, fine, faulty, judged_is}
 use Rattle.ng_template.proofs.NoCase.{no_case}
 use Rattle.ng_template.proofs.Numbers.{all_more, counted-append, after_own-counted, numbered-holes, after-numbered}
@@ -267,6 +269,26 @@ module _ (defs : List DirectiveDef) where
         with_contents (Err f) (inl g) = inl (refused_after (e ∙ none) g)
         with_contents (Err f) (inr g) = inr g
 
+        -- a template stands in place of the children
+        own_drawn : are_drawn (is_within (length m.sites) (length h.sites)) (attributes_of h) ≡ true
+        own_drawn = any_alone h.bound h.switch (length m.sites) (length h.sites) (attributes_of h) (all_drawn (length m.sites) h drawn)
+
+        with_template : (o : Bool) → Alone own_sites true o (Ok (element_with name h (children no_parts), passed_over kids after_head))
+        with_template o = record {
+          left = refl;
+          sites = own.sites ∙ ap (λ (ss : List Site). m.sites ++ ss) (sym (append-nil own_sites));
+          numbers = append-nil h.own ∙ (own.own ∙ ap (counted (length m.sites)) (sym (append-nil own_sites)));
+          regular = ap (option_and_then (λ c. after_contents (length m.sites) c (attributes_of h) (children no_parts))) (ap (after_own (length m.sites)) own.own ∙ (after_own-counted (length m.sites) own_sites ∙ ap Some (sym size)))
+              ∙ ap (λ x. cond x (Some (length h.sites)) None) own_drawn;
+          outlets = refl;
+          none = (e ∙ none, tt);
+          more = omega arith;
+          whole = λ i w. more_sites m (after_forest kids others) h.sites (omega (arith, size)) w;
+          new = [];
+          grown = sym (append-nil m.outlets);
+          apart = tt;
+        }
+
         abbrev contents_here : Result (Contents × Made) TplFault
         contents_here = contents_made h.bound kids after_head (compiled_forest defs inner_switch kids after_head)
 
@@ -296,6 +318,15 @@ module _ (defs : List DirectiveDef) where
           inl (subst (λ x. FirstRefusal defs ((met_this, first_place m.places) ∷ inside (list_any is_bind ps) (list_any is_switch ps || is_some outer)) x) at (refused_here here))
       picked_good go (Err f) (inr g) = inr g
 
+      templated_good : (o : Bool) (r : Result Head TplFault) → Answers (first_place m.places) own_sites (list_any is_bind ps) (list_any is_switch ps) (first_pick_refusal ps) (bare ats m.sites) r
+          → Alone own_sites true o (r >>= λ h. Ok (element_with name h (children no_parts), passed_over kids (with_head h m)))
+      templated_good o (Ok h) g = with_template g.1 h g.0 o
+      templated_good o (Err f) (inl g) =
+          let here : refusal defs met_this ≡ Some f.kind = e ∙ g.1 in
+          let at : refused f.kind (first_place m.places) ≡ f = ap (refused f.kind) (sym g.0) in
+          inl (subst (λ x. FirstRefusal defs ((met_this, first_place m.places) ∷ []) x) at (refused_here here))
+      templated_good o (Err f) (inr g) = inr g
+
     alone_good : KidsGood → (i : Inside) → refusal defs met_this ≡ inside_refusal i → ByItself i (element_made this name ats kids i (λ o k. compiled_forest defs o kids k) outer m)
     alone_good go is_plain e = record {
       left = refl;
@@ -311,6 +342,11 @@ module _ (defs : List DirectiveDef) where
       apart = tt;
     }
     alone_good go (has_picks ps) e = picked_good ps e go (with_picks (first_place m.places) ps (bare ats m.sites)) (picks_answer (first_place m.places) ps (bare ats m.sites))
+    alone_good go (has_template ps) e = by_contents (any_gives_contents ps) e
+      where
+        by_contents : (b : Bool) → refusal defs met_this ≡ cond b (Some MultiDir) (first_pick_refusal ps) → ByItself (has_template ps) (cond b (Err (refused MultiDir (first_place m.places))) (emptied_by name ats kids ps m))
+        by_contents true f = inl (refused_here f)
+        by_contents false f = templated_good ps f (list_any is_switch ps || is_some outer) (with_picks (first_place m.places) ps (bare ats m.sites)) (picks_answer (first_place m.places) ps (bare ats m.sites))
 
   -- an element in its blocks
   module _ (name : List ℕ) (ats : Attributes) (kids : Forest) (outer : Switch) (m : Made) where

@@ -1,5 +1,6 @@
 pub mod PartLists
 pub mod NodeLists
+pub mod Shifts
 pub mod HolePlaces
 pub mod Walks
 pub mod Judging
@@ -11,6 +12,8 @@ pub mod Picking
 pub mod Apart
 pub mod NoCase
 pub mod Wholes
+pub mod OnePart
+pub mod Inclusion
 pub mod Blocks
 pub mod Wraps
 pub mod Lookups

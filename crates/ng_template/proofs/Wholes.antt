@@ -4,8 +4,8 @@ use Rattle.std.proofs.lemmas.Bool.{and_parts, and_from, leb-true, le-leb, ltb-tr
 use Rattle.std.specs.List.{list_all}
 use Rattle.std.specs.Prelude.{◌&&◌, nat_le, nat_lt, option_and_then}
 use Rattle.ng_drawing.specs.Cases.{Case}
-use Rattle.ng_drawing.specs.Template.{Site, Part, no_parts, part_then, Filling, body_if, on_case, for_each, Outlet, Fragment}
-use Rattle.ng_template.specs.Around.{Block, block_if, block_for}
+use Rattle.ng_drawing.specs.Template.{Site, Part, no_parts, part_then, Filling, body_if, on_case, for_each, by_name, Outlet, Fragment}
+use Rattle.ng_template.specs.Around.{Block, block_if, block_for, block_named}
 use Rattle.ng_template.specs.Compiles.{Made, fragment_made, outlet_by, filling_in, block_alone, nested, bodies_with}
 use Rattle.ng_template.specs.Numbering.{after_part, after_parts, outlets_of_part, after_outlets, is_number, is_body, is_outlet, are_outlets, are_undrawn, is_numbered, is_whole}
 use Rattle.ng_template.proofs.Drawn.{both_all, one}
@@ -22,6 +22,7 @@ body_more : (c d : ℕ) → c ≤ d → (x : Filling) → is_body c x ≡ true �
 body_more c d l (body_if b) e = number_more c d b l e
 body_more c d l (on_case k b) e = number_more c d b l e
 body_more c d l (for_each r b) e = number_more c d b l e
+body_more c d l (by_name b) e = number_more c d b l e
 
 module _ (s t c d : ℕ) (up : s ≤ t) (more : c ≤ d) where
   outlet_more : (o : Outlet) → is_outlet s c o ≡ true → is_outlet t d o ≡ true
@@ -82,6 +83,7 @@ number_there n k some few = and_from (nat_lt 0 k) (nat_le k n) (lt-ltb 0 k some)
 pub block_there : (b : Block) (n k : ℕ) → 0 < k → k ≤ n → is_body n (filling_in b k) ≡ true
 block_there (block_if h) n k some few = number_there n k some few
 block_there (block_for h r) n k some few = number_there n k some few
+block_there (block_named h starts) n k some few = number_there n k some few
 
 pub case_there : (c : Case) (n k : ℕ) → 0 < k → k ≤ n → is_body n (on_case c k) ≡ true
 case_there c n k some few = number_there n k some few

@@ -1,7 +1,8 @@
--- The blocks of an element, from the outside in (guide: HTML Compiler, "How directives are compiled"; API: ngIf, ngSwitch, ngRepeat). A block stands
+-- The blocks of an element, from the outside in (guide: HTML Compiler, "How directives are compiled"; API: ngIf, ngSwitch, ngInclude, ngRepeat). A block stands
 -- in place of its element, and leaves the directives of lower priority to its body. Of two blocks of one priority the second is in the first.
 -- A case of a switch is the outermost, since none has a higher priority.
 use Rattle.std.specs.Prelude.{ℕ, zero, suc, ℤ, Bool, true, false, List, [], ◌∷◌, ◌++◌, map, find, Option, None, Some, option_map, Result, Ok, Err, codes, if◌then◌else◌}
+use Rattle.std.specs.List.{list_any}
 use Rattle.std.specs.Map.{lookup}
 use Rattle.std.specs.Str.{bytes_eq}
 use Rattle.ng_base.specs.Meets.{◌>>=◌}
@@ -18,27 +19,33 @@ use Rattle.ng_collect.specs.declared.table.CoreDirective.{CoreDirective}
 use Rattle.ng_collect.specs.declared.table.CoreDirective.TheVariants as dirs
 use Rattle.ng_drawing.specs.Cases.{Case}
 use Rattle.ng_drawing.specs.Template.{Site, Repeated}
+use Rattle.ng_drawing.specs.declared.kind.SiteKind.{SiteKind}
 use Rattle.ng_drawing.specs.declared.kind.SiteKind.TheVariants as kinds
+use Rattle.ng_language.specs.Trees.{Trees}
+use Rattle.ng_view.specs.Purity.{all_filters_known}
 use Rattle.ng_markup.specs.Forest.{Attributes, Node, element, text, comment}
 use Rattle.ng_tags.specs.declared.attrs.Attr.{Attr}
 use Rattle.ng_template.specs.Directives.{text_on, whole}
 use Rattle.ng_template.specs.Manners.{are_built, any_makes_plain}
+use Rattle.ng_template.specs.Programs.{program_in}
 use Rattle.ng_interp.specs.Parts.{Piece}
 use Rattle.ng_interp.specs.declared.pieces.InterpFault.{InterpFault}
 use Rattle.ng_template.specs.Repeating.{repeat_in}
 use Rattle.ng_template.specs.Texts.{refused, wrong, sites_in}
 use Rattle.ng_template.specs.declared.fault.TplFault.{TplFault}
 use Rattle.ng_template.specs.declared.fault.TplKind.{TplKind}
-use Rattle.ng_template.specs.declared.fault.TplKind.TheVariants.{LeftOut, MultiDir, CaseWithoutSwitch, Later, Expression, Memory}
+use Rattle.ng_template.specs.declared.fault.TplKind.TheVariants.{LeftOut, MultiDir, CaseWithoutSwitch, Later, Expression, UnknownFilter, Memory}
 
 abbrev pub unpicked : CollectFault → TplKind
 unpicked collect.MultiDir = MultiDir
 unpicked collect.LeftOut = LeftOut
 unpicked (collect.Memory m) = Memory m
 
--- The attribute that has the expression of a directive whose own is empty: `on` that of a switch (API: ngSwitch, "Usage").
+-- The attribute that has the expression of a directive whose own is empty: `on` that of a switch, `src` that of an inclusion (API: ngSwitch,
+-- ngInclude, "Usage").
 abbrev pub core_source : CoreDirective → Option (List ℕ)
 core_source dirs.Switch = Some (codes "on")
+core_source dirs.Include = Some (codes "src")
 core_source _ = None
 
 abbrev pub source_of : Directive → Option (List ℕ)
@@ -90,15 +97,18 @@ checked (Ok ps) = checked_as (wrong ps) ps
 abbrev pub block_priority : List Pick → Option ℤ
 block_priority ps = option_map (λ (p : Pick). p.priority) (find (λ (p : Pick). of_core is_block p.directive) ps)
 
--- what is made of the element itself: it is plain, or it has these directives
+-- what is made of the element itself: it is plain, or it has these directives, and its children or a template in their place
 pub data Inside : Type 0 where
   is_plain : Inside
   has_picks : List Pick → Inside
+  has_template : List Pick → Inside
 
--- a block round an element: its body stands while the value of its site is true, or there is one for each entry of that
+-- A block round an element: its body stands while the value of its site is true; or there is one for each entry of that; or it has a
+-- template in it, which the value names. Programs that stand before that run where its anchor is.
 pub data Block : Type 0 where
   block_if : Site → Block
   block_for : Site → Repeated → Block
+  block_named : Site → (starts : List Trees) → Block
 
 -- the case that an element is, the blocks round it, from the outside in, and the element itself
 pub record Around : Type 0 where
@@ -135,33 +145,85 @@ switched false (c ∷ cs) = Err CaseWithoutSwitch
 switched true (c ∷ []) = Ok (Some c)
 switched true (c ∷ d ∷ cs) = Err CaseWithoutSwitch
 
+-- what a directive is that stands before its element's body: a case, a program that runs, a repeat, or a block whose text is an expression as a
+-- whole, of which the value names a template or not
+pub data Before : Type 0 where
+  a_case : Before
+  a_start : Before
+  a_repeat : Before
+  a_block : (named : Bool) → Before
+
+abbrev pub core_before : CoreDirective → Before
+core_before dirs.SwitchWhen = a_case
+core_before dirs.SwitchDefault = a_case
+core_before dirs.Init = a_start
+core_before dirs.Repeat = a_repeat
+core_before dirs.Include = a_block true
+core_before _ = a_block false
+
+abbrev pub before_of : Directive → Before
+before_of (Core d) = core_before d
+before_of Interpolated = a_block false
+before_of (User n) = a_block false
+
+abbrev pub checked_program : Option Trees → Result Trees TplKind
+checked_program None = Err Expression
+checked_program (Some b) = if all_filters_known b then Ok b else Err UnknownFilter
+
+-- what the site of a block keeps
+abbrev pub kind_of_block : Bool → SiteKind
+kind_of_block false = kinds.Reference
+kind_of_block true = kinds.Deep
+
+abbrev pub block_with : Bool → List Trees → Site → Block
+block_with false starts h = block_if h
+block_with true starts h = block_named h starts
+
+-- programs that no block has yet, and blocks
+abbrev pub Heads : Type 0
+Heads = List Trees × List Block
+
 -- a block whose text is an expression as a whole, or what is wrong with it
-abbrev pub if_heads : List ℕ → Result (List Block) TplKind
-if_heads t = checked (whole t) >>= λ h. Ok (map block_if (sites_in kinds.Reference h))
+abbrev pub whole_heads : Bool → List Trees → List ℕ → Result Heads TplKind
+whole_heads named starts t = checked (whole t) >>= λ h. Ok ([], map (block_with named starts) (sites_in (kind_of_block named) h))
 
 -- a block whose text is a repeat, or what is wrong with it
-abbrev pub for_heads : List ℕ → Result (List Block) TplKind
-for_heads t = repeat_in t >>= λ r. Ok (block_for r.0 r.1 ∷ [])
+abbrev pub for_heads : List ℕ → Result Heads TplKind
+for_heads t = repeat_in t >>= λ r. Ok ([], block_for r.0 r.1 ∷ [])
 
-abbrev pub is_repeat : CoreDirective → Bool
-is_repeat dirs.Repeat = true
-is_repeat _ = false
+-- a program more, or what is wrong with it
+abbrev pub start_heads : List Trees → List ℕ → Result Heads TplKind
+start_heads starts t = checked_program (program_in t) >>= λ b. Ok (starts ++ b ∷ [], [])
 
-abbrev pub heads_for : Directive → List ℕ → Result (List Block) TplKind
-heads_for d t = if of_core is_repeat d then for_heads t else if_heads t
+-- a directive with its text, after programs that no block has yet: the programs that none has after it, and its blocks
+abbrev pub head_by : Before → List Trees → List ℕ → Result Heads TplKind
+head_by a_case starts t = Ok (starts, [])
+head_by a_start starts t = start_heads starts t
+head_by a_repeat starts t = for_heads t
+head_by (a_block named) starts t = whole_heads named starts t
 
--- the blocks of directives that are no cases, or what is wrong with the first of them
-abbrev pub heads_by : Option Case → Directive → List ℕ → Result (List Block) TplKind
-heads_by (Some c) d t = Ok []
-heads_by None d t = heads_for d t
+abbrev pub head_at : List Trees → Pick → Result Heads TplKind
+head_at starts p = head_by (before_of p.directive) starts (text_on p.attribute)
 
+abbrev pub heads_from : List Trees → List Pick → Result (List Block) TplKind
+heads_from starts [] = Ok []
+heads_from starts (p ∷ ps) = head_at starts p >>= λ h. heads_from h.0 ps >>= λ hs. Ok (h.1 ++ hs)
+
+-- the blocks of directives, or what is wrong with the first of them
 abbrev pub heads_of : List Pick → Result (List Block) TplKind
-heads_of [] = Ok []
-heads_of (p ∷ ps) = heads_by (case_at p) p.directive (text_on p.attribute) >>= λ h. heads_of ps >>= λ hs. Ok (h ++ hs)
+heads_of ps = heads_from [] ps
 
 -- blocks after those that were found
 abbrev pub heads_onto : List Block → Result (List Block) TplKind → Result (List Block) TplKind
 heads_onto before r = r >>= λ hs. Ok (before ++ hs)
+
+-- what one directive adds to them, with the programs that no block has then
+abbrev pub head_onto : List Block → Result Heads TplKind → Result Heads TplKind
+head_onto before r = r >>= λ h. Ok (h.0, before ++ h.1)
+
+-- the programs that no block has then
+abbrev pub starts_in : Result Heads TplKind → Result (List Trees) TplKind
+starts_in r = r >>= λ h. Ok h.0
 
 -- what was found so far
 abbrev pub Found : Type 0
@@ -175,8 +237,22 @@ first_case (Some c) o = Some c
 abbrev pub found_after : Found → Bool → List Pick → Result Found TplKind
 found_after f has_switch ps = switched has_switch (cases_in ps) >>= λ c. heads_of ps >>= λ hs. Ok (first_case f.0 c, f.1 ++ hs)
 
+-- an element in a block that names a template has that in place of its children
+abbrev pub names_template : Block → Bool
+names_template (block_if h) = false
+names_template (block_for h r) = false
+names_template (block_named h starts) = true
+
+abbrev pub templated : Inside → Inside
+templated is_plain = is_plain
+templated (has_picks ps) = has_template ps
+templated (has_template ps) = has_template ps
+
+abbrev pub inside_in : List Block → Inside → Inside
+inside_in bs i = if list_any names_template bs then templated i else i
+
 abbrev pub with_found : Found → Around → Around
-with_found f a = record { case = first_case f.0 a.case; heads = f.1 ++ a.heads; inside = a.inside }
+with_found f a = record { case = first_case f.0 a.case; heads = f.1 ++ a.heads; inside = inside_in f.1 a.inside }
 
 abbrev pub bare_around : Inside → Around
 bare_around i = record { case = None; heads = []; inside = i }

@@ -7,16 +7,19 @@ use Rattle.ng_collect.specs.Cloak.{kept_attributes}
 use Rattle.ng_collect.specs.declared.definition.DirectiveDef.{DirectiveDef}
 use Rattle.ng_collect.specs.declared.pick.Pick.{Pick}
 use Rattle.ng_drawing.specs.Cases.{Case}
-use Rattle.ng_drawing.specs.Template.{Site, Filling, Outlet, Fragment, Template, PartClass, Part, Contents, Parts, word, text_part, comment_part, element_part, anchor_part, children, bound, no_parts, part_then, body_if, on_case, for_each}
+use Rattle.ng_drawing.specs.Template.{Site, Filling, Outlet, Fragment, Template, PartClass, Part, Contents, Parts, word, text_part, comment_part, element_part, anchor_part, children, bound, no_parts, part_then, body_if, on_case, for_each, by_name}
 use Rattle.ng_drawing.specs.declared.kind.SiteKind.TheVariants as kinds
 use Rattle.ng_interp.specs.Parts as interp
+use Rattle.ng_language.specs.Trees.{Trees}
 use Rattle.ng_markup.specs.Forest.{Attributes, Node, Forest, element, text, comment, no_nodes, node}
-use Rattle.ng_template.specs.Around.{Inside, is_plain, has_picks, Block, block_if, block_for, Around, at_place, around_node}
+use Rattle.ng_template.specs.Around.{Inside, is_plain, has_picks, has_template, Block, block_if, block_for, block_named, Around, at_place, around_node}
 use Rattle.ng_template.specs.Directives.{Head, with_picks, attributes_of}
 use Rattle.ng_template.specs.Limits.{site_limit, worn}
+use Rattle.ng_template.specs.Manners.{any_gives_contents}
 use Rattle.ng_template.specs.Plain.{plain_values, plain_part}
-use Rattle.ng_template.specs.Texts.{judged, numbered, sites_in}
+use Rattle.ng_template.specs.Texts.{refused, judged, numbered, sites_in}
 use Rattle.ng_template.specs.declared.fault.TplFault.{TplFault}
+use Rattle.ng_template.specs.declared.fault.TplKind.TheVariants.{MultiDir}
 
 -- the places that are left; the sites and outlets so far of the fragment that is being made; and the bodies that are made
 pub record Made : Type 0 where
@@ -108,11 +111,21 @@ abbrev pub switch_in : Switch → Switch → Switch
 switch_in None outer = outer
 switch_in (Some n) outer = Some n
 
+-- An element whose children are not compiled, since a template will stand in their place. A directive that gives it contents as well is
+-- refused.
+abbrev pub emptied_by : List ℕ → Attributes → Forest → List Pick → Made → Result (Part × Made) TplFault
+emptied_by name attributes kids ps m = head_with ps attributes m >>= λ h. Ok (element_with name h (children no_parts), passed_over kids (with_head h m))
+
+abbrev pub emptied_made : List ℕ → Attributes → Forest → List Pick → Made → Result (Part × Made) TplFault
+emptied_made name attributes kids ps m =
+    if any_gives_contents ps then Err (refused MultiDir (first_place m.places)) else emptied_by name attributes kids ps m
+
 -- an element by itself, whose children come to this
 abbrev pub element_made : Node → List ℕ → Attributes → Forest → Inside → (Switch → Made → Result (Parts × Made) TplFault) → Switch → Made → Result (Part × Made) TplFault
 element_made n name attributes kids is_plain go outer m = Ok (with_plain n m)
 element_made n name attributes kids (has_picks ps) go outer m =
     head_with ps attributes m >>= λ h. contents_made h.bound kids (with_head h m) (go (switch_in h.switch outer) (with_head h m)) >>= λ r. Ok (element_with name h r.0, r.1)
+element_made n name attributes kids (has_template ps) go outer m = emptied_made name attributes kids ps m
 
 abbrev pub fragment_made : Parts × Made → Fragment
 fragment_made r = record { parts = r.0; sites = r.1.sites; outlets = r.1.outlets }
@@ -125,14 +138,22 @@ outlet_by site filling bodies = record { site = site; filling = filling (length 
 abbrev pub site_in : Block → Site
 site_in (block_if h) = h
 site_in (block_for h r) = h
+site_in (block_named h starts) = h
 
 abbrev pub filling_in : Block → ℕ → Filling
 filling_in (block_if h) n = body_if n
 filling_in (block_for h r) n = for_each r n
+filling_in (block_named h starts) n = by_name n
+
+-- the programs that run where its anchor is
+abbrev pub starts_in : Block → List Trees
+starts_in (block_if h) = []
+starts_in (block_for h r) = []
+starts_in (block_named h starts) = starts
 
 -- a block alone, which is the body of the block round it
 abbrev pub block_alone : Block → List Fragment → Fragment
-block_alone b bodies = record { parts = part_then (anchor_part 0 (0 ∷ []) []) no_parts; sites = site_in b ∷ []; outlets = outlet_by 0 (filling_in b) bodies ∷ [] }
+block_alone b bodies = record { parts = part_then (anchor_part 0 (0 ∷ []) (starts_in b)) no_parts; sites = site_in b ∷ []; outlets = outlet_by 0 (filling_in b) bodies ∷ [] }
 
 -- the bodies, with those of blocks that stand in one another
 abbrev pub nested : List Block → List Fragment → List Fragment
@@ -146,7 +167,7 @@ has_room sites outlets bodies = nat_lt (length sites) site_limit && (nat_le (len
 -- the outermost block in place of its element, after these sites and outlets
 abbrev pub with_block : Block → List Site → List Outlet → List ℕ → List Fragment → Part × Made
 with_block b sites outlets places bodies = (
-  anchor_part (length outlets) (length sites ∷ []) [],
+  anchor_part (length outlets) (length sites ∷ []) (starts_in b),
   record { places = places; sites = sites ++ site_in b ∷ []; outlets = outlets ++ outlet_by (length sites) (filling_in b) bodies ∷ []; bodies = bodies },
 )
 

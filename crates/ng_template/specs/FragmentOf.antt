@@ -6,7 +6,7 @@ use Rattle.ng_template.specs.Seen.{parts_of}
 use Rattle.ng_template.specs.SiteOf.{site_of}
 use Rattle.ng_template.specs.declared.fragment.Fragment.{Fragment}
 use Rattle.ng_template.specs.declared.outlets.Filling.{Filling}
-use Rattle.ng_template.specs.declared.outlets.Filling.TheVariants.{BodyIf, OnCase, ForEach}
+use Rattle.ng_template.specs.declared.outlets.Filling.TheVariants.{BodyIf, OnCase, ForEach, ByName}
 use Rattle.ng_template.specs.declared.outlets.Outlet.{Outlet}
 use Rattle.ng_template.specs.declared.site.Site.{Site}
 
@@ -17,6 +17,7 @@ abbrev pub filling_of : Filling → template.Filling
 filling_of (BodyIf body) = template.body_if body
 filling_of (OnCase text body) = template.on_case text body
 filling_of (ForEach r body) = template.for_each (repeated_of r) body
+filling_of (ByName body) = template.by_name body
 
 abbrev pub outlet_of : Outlet → template.Outlet
 outlet_of o = record { site = o.site; filling = filling_of o.filling }

@@ -1,6 +1,9 @@
 -- The templates of a page, each with the name that `ng-include` knows it by, if it has one.
-use Rattle.std.specs.Prelude.{ℕ, ◌+◌, Bool, List, [], ◌∷◌, map, Option, None, Some, option_and_then, unwrap_or, slice_get, if◌then◌else◌}
+use Rattle.std.specs.Prelude.{ℕ, ◌+◌, Bool, List, [], ◌∷◌, map, Option, None, Some, option_map, option_and_then, unwrap_or, slice_get, if◌then◌else◌}
+use Rattle.ng_base.specs.declared.name.TplId.{TplId}
+use Rattle.ng_drawing.specs.Included.{included}
 use Rattle.ng_drawing.specs.InstanceOf.{Fragments}
+use Rattle.ng_drawing.specs.declared.origin.Origin.{Origin}
 use Rattle.ng_drawing.specs.Template.{Fragment, Template, no_fragment, fragment_at}
 use Rattle.ng_template.specs.TemplateOf.{template_of}
 use Rattle.ng_template.specs.TplNames.{is_name}
@@ -28,5 +31,14 @@ named_from n w (t ∷ ts) = if is_named w t then Some n else named_from (n + 1) 
 abbrev pub fragment_in : List Named → ℕ → ℕ → Option Fragment
 fragment_in all t n = option_and_then (λ (k : Named). fragment_at k.1 n) (slice_get all t)
 
+-- a fragment with a template's own in it, if one is included
+abbrev pub including : List Named → Option TplId → Fragment → Option Fragment
+including all None f = Some f
+including all (Some t) f = option_map (included f) (fragment_in all t.0 0)
+
+-- the fragment that an instance is one of
+abbrev pub fragment_for : List Named → Origin → Option Fragment
+fragment_for all o = option_and_then (including all o.included) (fragment_in all o.home.template.0 o.fragment)
+
 abbrev pub fragments_in : List Named → Fragments
-fragments_in all t n = unwrap_or (fragment_in all t n) no_fragment
+fragments_in all o = unwrap_or (fragment_for all o) no_fragment

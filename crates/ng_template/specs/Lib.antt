@@ -16,6 +16,7 @@ pub mod Around
 pub mod Compiles
 pub mod Numbering
 pub mod FragmentOf
+pub mod WholeOf
 pub mod TemplateOf
 pub mod AroundOf
 pub mod Order

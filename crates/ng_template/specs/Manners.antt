@@ -2,6 +2,8 @@
 -- ngReadonly, ngSelected, ngBind, ngClass, ngShow, ngHide, ngInit, ngClick, ngNonBindable, ngIf, ngSwitch, ngRepeat).
 use Rattle.std.specs.Prelude.{ℕ, Bool, true, false, List, [], Option, None, Some, is_some, codes}
 use Rattle.std.specs.List.{list_all, list_any}
+use Rattle.ng_collect.specs.Sorted.{of_core}
+use Rattle.ng_collect.specs.Table.{gives_contents}
 use Rattle.ng_collect.specs.declared.pick.Directive.{Directive}
 use Rattle.ng_collect.specs.declared.pick.Directive.TheVariants.{Core, Interpolated, User}
 use Rattle.ng_collect.specs.declared.pick.Pick.{Pick}
@@ -19,6 +21,7 @@ core_manner dirs.SwitchWhen = Some manners.Fills
 core_manner dirs.SwitchDefault = Some manners.Fills
 core_manner dirs.Repeat = Some manners.Fills
 core_manner dirs.If = Some manners.Fills
+core_manner dirs.Include = Some manners.Fills
 core_manner dirs.Init = Some manners.Starts
 core_manner dirs.Checked = Some (manners.Sets Switches)
 core_manner dirs.Disabled = Some (manners.Sets Switches)
@@ -58,6 +61,10 @@ makes_plain (User n) = false
 
 abbrev pub any_makes_plain : List Pick → Bool
 any_makes_plain ps = list_any (λ (p : Pick). makes_plain p.directive) ps
+
+-- whether one of these directives gives its element contents, as a template does
+abbrev pub any_gives_contents : List Pick → Bool
+any_gives_contents ps = list_any (λ (p : Pick). of_core gives_contents p.directive) ps
 
 -- the attribute that a directive sets beside its own
 abbrev pub core_target : CoreDirective → List ℕ

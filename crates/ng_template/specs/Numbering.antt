@@ -1,8 +1,8 @@
 -- What the compiler makes: the sites and outlets of a fragment are numbered in document order, an element's own before those of its
 -- children, and an element's attributes and contents are drawn from its own sites alone.
-use Rattle.std.specs.Prelude.{ℕ, ◌+◌, ◌==◌, ◌&&◌, Bool, true, false, not, List, [], ◌∷◌, length, Option, Some, None, option_and_then, nat_le, nat_lt, if◌then◌else◌}
+use Rattle.std.specs.Prelude.{ℕ, ◌≡◌, ◌+◌, ◌==◌, ◌&&◌, Bool, true, false, not, List, [], ◌∷◌, length, Option, Some, None, option_and_then, nat_le, nat_lt, if◌then◌else◌}
 use Rattle.std.specs.List.{list_all}
-use Rattle.ng_drawing.specs.Template.{Piece, word, hole, Hiding, while_true, while_false, PartClass, PartValue, always, unless_empty, flag, classes, PartAttributes, Part, Contents, Parts, text_part, comment_part, element_part, anchor_part, children, bound, no_parts, part_then, Filling, body_if, on_case, for_each, Outlet, Fragment, Template}
+use Rattle.ng_drawing.specs.Template.{Piece, word, hole, Hiding, while_true, while_false, PartClass, PartValue, always, unless_empty, flag, classes, PartAttributes, Part, Contents, Parts, text_part, comment_part, element_part, anchor_part, children, bound, no_parts, part_then, Filling, body_if, on_case, for_each, by_name, Outlet, Fragment, Template}
 
 -- the number after those of the holes, where they are numbered from n on
 abbrev pub after_pieces : ℕ → List Piece → Option ℕ
@@ -101,6 +101,7 @@ abbrev pub is_body : ℕ → Filling → Bool
 is_body bodies (body_if b) = nat_lt 0 b && nat_le b bodies
 is_body bodies (on_case c b) = nat_lt 0 b && nat_le b bodies
 is_body bodies (for_each r b) = nat_lt 0 b && nat_le b bodies
+is_body bodies (by_name b) = nat_lt 0 b && nat_le b bodies
 
 abbrev pub is_outlet : ℕ → ℕ → Outlet → Bool
 is_outlet sites bodies o = nat_lt o.site sites && is_body bodies o.filling
@@ -122,6 +123,10 @@ is_numbered f = is_number (length f.sites) (after_parts 0 f.parts) && is_number 
 
 abbrev pub is_whole : ℕ → Fragment → Bool
 is_whole bodies f = is_numbered f && (are_outlets bodies f && are_undrawn f)
+
+-- and so are those of a fragment whose outlets have the numbers of bodies, whatever these are
+abbrev pub HasOrder : Fragment → Type 0
+HasOrder f = (bodies : ℕ) × (is_whole bodies f ≡ true)
 
 -- and so are those of each fragment of a template
 abbrev pub is_regular : Template → Bool

@@ -9,13 +9,13 @@ use Rattle.ng_drawing.specs.Template.{Site, Piece, word, hole, Part, Contents, P
 use Rattle.ng_interp.specs.Parts as interp
 use Rattle.ng_interp.specs.declared.pieces.InterpFault.{InterpFault}
 use Rattle.ng_markup.specs.Forest.{Node, Forest, element, text, comment, no_nodes, node}
-use Rattle.ng_template.specs.Around.{Inside, is_plain, has_picks, Block, Around, around_node}
+use Rattle.ng_template.specs.Around.{Inside, is_plain, has_picks, has_template, Block, Around, around_node}
 use Rattle.ng_template.specs.Compiles.{first_place, other_places, site_in}
 use Rattle.ng_drawing.specs.declared.kind.SiteKind.{SiteKind}
 use Rattle.ng_drawing.specs.declared.kind.SiteKind.TheVariants as kinds
 use Rattle.ng_tags.specs.declared.attrs.Attr.{Attr}
 use Rattle.ng_template.specs.Directives.{text_on, parts_for, kind_for}
-use Rattle.ng_template.specs.Manners.{manner_of}
+use Rattle.ng_template.specs.Manners.{manner_of, any_gives_contents}
 use Rattle.ng_template.specs.Programs.{program_in, program_refusal}
 use Rattle.ng_template.specs.Texts.{refused, wrong, sites_in}
 use Rattle.ng_template.specs.declared.manners.Manner.{Manner}
@@ -23,7 +23,7 @@ use Rattle.ng_template.specs.declared.manners.Manner.TheVariants.{Sets, Starts, 
 use Rattle.ng_template.specs.declared.manners.Setting.TheVariants.{Binds, Chooses}
 use Rattle.ng_template.specs.declared.fault.TplFault.{TplFault}
 use Rattle.ng_template.specs.declared.fault.TplKind.{TplKind}
-use Rattle.ng_template.specs.declared.fault.TplKind.TheVariants.{Later, Expression}
+use Rattle.ng_template.specs.declared.fault.TplKind.TheVariants.{Later, Expression, MultiDir}
 
 -- A node of a document, and whether it has a switch round it with no block between
 abbrev pub Met : Type 0
@@ -60,14 +60,16 @@ is_choosing _ = false
 abbrev pub is_switch : Pick → Bool
 is_switch p = is_choosing (manner_of p.directive)
 
--- whether the nodes in an element are not compiled: it is plain, or a text stands in their place
+-- whether the nodes in an element are not compiled: it is plain, or a text or a template stands in their place
 abbrev pub is_passed_over : Inside → Bool
 is_passed_over is_plain = true
 is_passed_over (has_picks ps) = list_any is_bind ps
+is_passed_over (has_template ps) = true
 
 abbrev pub has_switch : Inside → Bool
 has_switch is_plain = false
 has_switch (has_picks ps) = list_any is_switch ps
+has_switch (has_template ps) = list_any is_switch ps
 
 -- whether an element is a case, or has a block round it
 abbrev pub has_block : Option Case → List Block → Bool
@@ -152,6 +154,7 @@ first_pick_refusal (p ∷ ps) = first_of (pick_refusal p) (first_pick_refusal ps
 abbrev pub inside_refusal : Inside → Option TplKind
 inside_refusal is_plain = None
 inside_refusal (has_picks ps) = first_pick_refusal ps
+inside_refusal (has_template ps) = if any_gives_contents ps then Some MultiDir else first_pick_refusal ps
 
 abbrev pub around_refusal : Result Around TplKind → Option TplKind
 around_refusal (Err kind) = Some kind
@@ -195,6 +198,7 @@ pick_sites p = manner_sites (manner_of p.directive) p.attribute
 abbrev pub inside_sites : Inside → List Site
 inside_sites is_plain = []
 inside_sites (has_picks ps) = flat_map pick_sites ps
+inside_sites (has_template ps) = flat_map pick_sites ps
 
 -- the outermost block has a site of the fragment, and a case has none; without them it is the element that has
 abbrev pub heads_sites : Option Case → List Block → Inside → List Site

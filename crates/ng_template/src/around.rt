@@ -1,22 +1,22 @@
-//! The blocks of an element, from the outside in (guide: HTML Compiler, "How directives are compiled"; API: ngIf, ngSwitch, ngRepeat).
-ghost use Rattle.std.specs.Prelude.{◌≡◌, ◌++◌, map, true, OnOk, IfOk, is_some, option_map};
-ghost use Rattle.std.specs.List.{list_all};
-ghost use Rattle.std.specs.Map.{lookup};
-ghost use Rattle.std.specs.Str.{bytes_eq};
+//! The blocks of an element, from the outside in (guide: HTML Compiler, "How directives are compiled"; API: ngIf, ngSwitch, ngInclude,
+//! ngRepeat).
+ghost use Rattle.std.specs.Prelude.{◌≡◌, ◌++◌, map, length, true, None, Ok, OnOk, IfOk, option_map};
+ghost use Rattle.std.specs.Option.{option_to_list};
+ghost use Rattle.std.specs.List.{list_all, list_any};
 ghost use Rattle.ng_base.specs.Meets.{Gives};
 ghost use Rattle.ng_collect.specs.Collected.{collected};
 ghost use Rattle.ng_collect.specs.Sorted.{of_core};
 ghost use Rattle.ng_collect.specs.Table.{is_block as is_block_of};
-ghost use Rattle.ng_drawing.specs.declared.kind.SiteKind.TheVariants as kinds;
 ghost use Rattle.ng_html.specs.Seen.{node_of};
 ghost use Rattle.ng_interp.specs.Parts.{piece_of};
-ghost use Rattle.ng_template.specs.Around.{block_if, attributes_in, core_source, source_of, sourced, if_empty, worded as worded_of, picks_in, at_place, block_priority as block_priority_of, case_at as case_at_pick, cases_in, switched, is_repeat as is_repeat_of, if_heads, for_heads, heads_by, heads_of, heads_onto, found_after, block_room, around_node};
-ghost use Rattle.ng_template.specs.AroundOf.{blocks_of, case_of, found_of, around_of};
+ghost use Rattle.ng_template.specs.Around.{has_picks, attributes_in, picks_in, at_place, block_priority as block_priority_of, case_at as case_at_pick, cases_in, switched, core_before, before_of as before_of_directive, kind_of_block, block_with, whole_heads, for_heads, start_heads, head_at, heads_of, heads_onto, head_onto, starts_in, names_template, inside_in, found_after, block_room, around_node};
+ghost use Rattle.ng_template.specs.AroundOf.{inside_of, before_of, block_of, blocks_of, programs_of, case_of, found_of, around_of};
 ghost use Rattle.ng_template.specs.Directives.{text_on};
 ghost use Rattle.ng_template.specs.Free.{is_tpl_want};
+ghost use Rattle.ng_template.specs.SiteOf.{site_of};
 ghost use Rattle.ng_template.specs.Texts.{is_known, is_pure, sites_in};
 
-use crate::directives::{text_of, whole_parts};
+use crate::directives::{directive_program, text_of, whole_parts};
 use crate::fault::{TplFault, TplKind};
 use crate::known::Known;
 use crate::manners::{any_makes_plain, are_built};
@@ -24,27 +24,31 @@ use crate::repeated::Repeated;
 use crate::repeating::read_repeat;
 use crate::site::Site;
 use crate::texts::{refusal, want};
+use crate::wording::worded_in;
 use ng_base::txt::Txt;
 use ng_collect::table::is_block;
 use ng_collect::{CollectFault, CoreDirective, Directive, Pick, Registry, collect_below};
 use ng_drawing::kind::SiteKind;
-use ng_html::attrs::{Attr, Attrs};
 use ng_html::forest::Node;
 use ng_interp::Part;
+use ng_parse::Program;
 use std::alloc::{AllocError, Global};
 
-/// What is made of an element itself: it is plain, or it has these directives.
+/// What is made of an element itself: it is plain, or it has these directives, and its children or a template in their place.
 #[derive(Drop)]
 pub(crate) enum Inside {
     Plain,
     Picks(Vec<Pick>),
+    Template(Vec<Pick>),
 }
 
-/// A block round an element: its body stands while the value of its site is true, or there is one for each entry of that.
+/// A block round an element: its body stands while the value of its site is true; or there is one for each entry of that; or it has a template
+/// in it, which the value names. Programs that stand before that run where its anchor is.
 #[derive(Drop)]
 pub(crate) enum Block {
     If(Site),
     For(Site, Repeated),
+    Named(Site, Vec<Program>),
 }
 
 /// A case of a switch, with its text, or a default.
@@ -73,122 +77,6 @@ fn priorities() -> usize
     ensures { result ≡ block_room }
 {
     5
-}
-
-/// An attribute again.
-fn copied(on: &Option<Attr>) -> Result<Option<Attr>, AllocError>
-    ensures { IfOk result (λ a. a ≡ on.now) }
-{
-    match on {
-        None => Ok(None),
-        Some(attr) => Ok(Some(Attr {
-            name: attr.name.copied()?,
-            value: attr.value.copied()?,
-        })),
-    }
-}
-
-/// The value of the first attribute of a name.
-fn value_in<'a>(attrs: &'a Attrs, name: &Txt) -> Option<&'a Txt>
-    ensures { option_map (λ v. v.now) result ≡ lookup (λ n. bytes_eq n name.now) attrs.now }
-{
-    for attr in attrs.as_slice() {
-        if attr.name.same(name) {
-            return Some(&attr.value);
-        }
-    }
-    None
-}
-
-/// The name of the attribute that has the expression of one of the core's directives, where its own is empty.
-fn core_source(alloc: Global, d: CoreDirective) -> Result<Option<Txt>, AllocError>
-    ensures { IfOk result (λ t. t ≡ core_source d) }
-{
-    match d {
-        CoreDirective::Switch => {
-            let mut name = Txt::new(alloc);
-            name.push_word("on")?;
-            Ok(Some(name))
-        }
-        _ => Ok(None),
-    }
-}
-
-/// The name of the attribute that has the expression of a directive, where its own is empty.
-fn source_of(alloc: Global, d: Directive) -> Result<Option<Txt>, AllocError>
-    ensures { IfOk result (λ t. t ≡ source_of d) }
-{
-    match d {
-        Directive::Core(core) => core_source(alloc, core),
-        Directive::Interpolated => Ok(None),
-        Directive::User(_) => Ok(None),
-    }
-}
-
-/// The attribute that has the text of a directive whose own is empty.
-fn sourced(alloc: Global, attrs: &Attrs, p: &Pick) -> Result<Option<Attr>, AllocError>
-    ensures { IfOk result (λ a. a ≡ sourced (source_of p.now.directive) attrs.now p.now.attribute) }
-{
-    let Some(name) = source_of(alloc, p.directive)? else {
-        return copied(&p.attribute);
-    };
-    match value_in(attrs, &name) {
-        None => copied(&p.attribute),
-        Some(value) => {
-            let value = value.copied()?;
-            Ok(Some(Attr { name, value }))
-        }
-    }
-}
-
-/// Whether a text is empty: the one of two attributes.
-fn if_empty(text: &Txt, other: Option<Attr>, own: Option<Attr>) -> Option<Attr>
-    ensures { result ≡ if_empty text.now other own }
-{
-    if text.is_empty() { other } else { own }
-}
-
-/// The attribute that has the text of a directive.
-fn attribute_for(alloc: Global, attrs: &Attrs, p: &Pick) -> Result<Option<Attr>, AllocError>
-    ensures { IfOk result (λ a. a ≡ (worded_of attrs.now p.now).attribute) }
-{
-    let text = text_of(alloc, &p.attribute)?;
-    let other = sourced(alloc, attrs, p)?;
-    Ok(if_empty(&text, other, copied(&p.attribute)?))
-}
-
-/// A directive with the attribute that has its text.
-fn worded(alloc: Global, attrs: &Attrs, p: &Pick) -> Result<Pick, AllocError>
-    ensures { IfOk result (λ q. q ≡ worded_of attrs.now p.now) }
-{
-    Ok(Pick {
-        directive: p.directive,
-        name: p.name.copied()?,
-        priority: p.priority,
-        attribute: attribute_for(alloc, attrs, p)?,
-    })
-}
-
-/// Directives with the attributes that have their texts.
-fn all_worded(alloc: Global, attrs: &Attrs, picks: &[Pick]) -> Result<Vec<Pick>, AllocError>
-    ensures { IfOk result (λ v. v.items ≡ map (worded_of attrs.now) picks.now) }
-{
-    let mut all = Vec::new(alloc);
-    for p in picks {
-        all.push(worded(alloc, attrs, p)?)?;
-    }
-    Ok(all)
-}
-
-/// Directives of a node with the attributes that have their texts.
-fn worded_in(alloc: Global, e: &Node, picks: &[Pick]) -> Result<Vec<Pick>, AllocError>
-    ensures { IfOk result (λ v. v.items ≡ map (worded_of (attributes_in (node_of e.now))) picks.now) }
-{
-    match e {
-        Node::Element { attrs, .. } => all_worded(alloc, attrs, picks),
-        Node::Text(_) => all_worded(alloc, &Attrs::new(alloc), picks),
-        Node::Comment(_) => all_worded(alloc, &Attrs::new(alloc), picks),
-    }
 }
 
 /// The directives of an element below a limit, or their refusal.
@@ -278,41 +166,92 @@ fn find_case(
     }
 }
 
-/// The sites of holes are those of blocks more.
-fn push_sites(heads: &mut Vec<Block>, parts: Vec<Part>) -> Result<(), AllocError>
+/// What a directive is that stands before its element's body: a case, a program that runs, a repeat, or a block whose text is an expression as a
+/// whole, of which the value names a template or not.
+#[derive(Clone, Copy, Debug, PartialEq, Eq, Drop)]
+enum Before {
+    Case,
+    Start,
+    Repeat,
+    Block(bool),
+}
+
+/// What one of the core's directives is before its element's body.
+fn core_before(d: CoreDirective) -> Before
+    ensures { before_of result ≡ core_before d }
+{
+    match d {
+        CoreDirective::SwitchWhen => Before::Case,
+        CoreDirective::SwitchDefault => Before::Case,
+        CoreDirective::Init => Before::Start,
+        CoreDirective::Repeat => Before::Repeat,
+        CoreDirective::Include => Before::Block(true),
+        _ => Before::Block(false),
+    }
+}
+
+/// What a directive is before its element's body.
+fn before_body(d: Directive) -> Before
+    ensures { before_of result ≡ before_of_directive d }
+{
+    match d {
+        Directive::Core(core) => core_before(core),
+        Directive::Interpolated => Before::Block(false),
+        Directive::User(_) => Before::Block(false),
+    }
+}
+
+/// What the site of a block keeps.
+fn kind_of_block(named: bool) -> SiteKind
+    ensures { result ≡ kind_of_block named }
+{
+    if named {
+        SiteKind::Deep
+    } else {
+        SiteKind::Reference
+    }
+}
+
+/// A block with its site. One that names a template has the programs that run before it.
+fn block_with(named: bool, starts: Vec<Program>, site: Site) -> Block
+    ensures { block_of result ≡ block_with named (programs_of starts.items) (site_of site) }
+{
+    if named {
+        Block::Named(site, starts)
+    } else {
+        Block::If(site)
+    }
+}
+
+/// The part of a text that has one.
+fn only_part(parts: Vec<Part>) -> Option<Part>
+    requires { length parts.items ≡ 1 }
+    ensures { parts.items ≡ option_to_list result }
+{
+    let mut left = parts;
+    left.pop()
+}
+
+/// The block of a hole is added.
+fn push_block(
+    named: bool,
+    starts: Vec<Program>,
+    parts: Vec<Part>,
+    heads: &mut Vec<Block>,
+) -> Result<(), AllocError>
     requires known { list_all is_known (map piece_of parts.items) ≡ true }
     requires pure { list_all is_pure (map piece_of parts.items) ≡ true }
-    ensures { OnOk result (blocks_of heads.new.items ≡ blocks_of heads.old.items ++ map block_if (sites_in kinds.Reference (map piece_of parts.items))) }
+    requires one { length parts.items ≡ 1 }
+    ensures { OnOk result (blocks_of heads.new.items ≡ blocks_of heads.old.items ++ map (block_with named (programs_of starts.items)) (sites_in (kind_of_block named) (map piece_of parts.items))) }
 {
-    for part in parts {
-        match part {
-            Part::Words(_) => {}
-            Part::Hole { one_time, program } => {
-                heads.push(Block::If(Site::new(SiteKind::Reference, one_time, program)))?
-            }
+    match only_part(parts) {
+        None => Ok(()),
+        Some(Part::Words(_)) => Ok(()),
+        Some(Part::Hole { one_time, program }) => {
+            let site = Site::new(kind_of_block(named), one_time, program);
+            heads.push(block_with(named, starts, site))?;
+            Ok(())
         }
-    }
-    Ok(())
-}
-
-/// Whether a directive makes a case of its element.
-fn is_case(p: &Pick) -> bool
-    ensures { result ≡ is_some (case_at_pick p.now) }
-{
-    match p.directive {
-        Directive::Core(CoreDirective::SwitchWhen) => true,
-        Directive::Core(CoreDirective::SwitchDefault) => true,
-        _ => false,
-    }
-}
-
-/// Whether a directive is a repeat.
-fn is_repeat(p: &Pick) -> bool
-    ensures { result ≡ of_core is_repeat_of p.now.directive }
-{
-    match p.directive {
-        Directive::Core(CoreDirective::Repeat) => true,
-        _ => false,
     }
 }
 
@@ -322,47 +261,64 @@ fn push_repeat(
     place: u64,
     pick: &Pick,
     heads: &mut Vec<Block>,
-) -> Result<(), TplFault>
-    ensures { Gives is_tpl_want (λ _. blocks_of heads.new.items) (at_place place (heads_onto (blocks_of heads.old.items) (for_heads (text_on pick.now.attribute)))) result }
+) -> Result<Vec<Program>, TplFault>
+    ensures { Gives is_tpl_want (λ s. (programs_of s.items, blocks_of heads.new.items)) (at_place place (head_onto (blocks_of heads.old.items) (for_heads (text_on pick.now.attribute)))) result }
 {
     let text = text_of(alloc, &pick.attribute)?;
     let read = read_repeat(alloc, place, &text)?;
     heads.push(Block::For(read.site, read.repeated))?;
-    Ok(())
+    Ok(Vec::new(alloc))
 }
 
 /// The block of a directive whose text is an expression as a whole is added.
-fn push_if(
+fn push_whole(
     alloc: Global,
     known: &mut Known,
     place: u64,
     pick: &Pick,
+    named: bool,
+    starts: Vec<Program>,
     heads: &mut Vec<Block>,
-) -> Result<(), TplFault>
-    ensures { Gives is_tpl_want (λ _. blocks_of heads.new.items) (at_place place (heads_onto (blocks_of heads.old.items) (if_heads (text_on pick.now.attribute)))) result }
+) -> Result<Vec<Program>, TplFault>
+    ensures { Gives is_tpl_want (λ s. (programs_of s.items, blocks_of heads.new.items)) (at_place place (head_onto (blocks_of heads.old.items) (whole_heads named (programs_of starts.items) (text_on pick.now.attribute)))) result }
 {
     let parts = whole_parts(alloc, known, place, pick)?;
-    push_sites(heads, parts)?;
-    Ok(())
+    push_block(named, starts, parts, heads)?;
+    Ok(Vec::new(alloc))
 }
 
-/// The block of a directive is added, unless it makes a case of its element.
+/// The program of a directive is one more of those that no block has yet.
+fn push_start(
+    alloc: Global,
+    place: u64,
+    pick: &Pick,
+    starts: Vec<Program>,
+) -> Result<Vec<Program>, TplFault>
+    ensures { Gives is_tpl_want (λ s. programs_of s.items) (at_place place (starts_in (start_heads (programs_of starts.items) (text_on pick.now.attribute)))) result }
+{
+    let program = directive_program(alloc, place, pick)?;
+    let mut more = starts;
+    more.push(program)?;
+    Ok(more)
+}
+
+/// The block of a directive is added, with the programs before it that no block has yet; the programs that none has then are handed back.
 fn push_head(
     alloc: Global,
     known: &mut Known,
     place: u64,
     pick: &Pick,
+    starts: Vec<Program>,
     heads: &mut Vec<Block>,
-) -> Result<(), TplFault>
-    ensures { Gives is_tpl_want (λ _. blocks_of heads.new.items) (at_place place (heads_onto (blocks_of heads.old.items) (heads_by (case_at_pick pick.now) pick.now.directive (text_on pick.now.attribute)))) result }
+) -> Result<Vec<Program>, TplFault>
+    ensures { Gives is_tpl_want (λ s. (programs_of s.items, blocks_of heads.new.items)) (at_place place (head_onto (blocks_of heads.old.items) (head_at (programs_of starts.items) pick.now))) result }
 {
-    if is_case(pick) {
-        return Ok(());
+    match before_body(pick.directive) {
+        Before::Case => Ok(starts),
+        Before::Start => push_start(alloc, place, pick, starts),
+        Before::Repeat => push_repeat(alloc, place, pick, heads),
+        Before::Block(named) => push_whole(alloc, known, place, pick, named, starts, heads),
     }
-    if is_repeat(pick) {
-        return push_repeat(alloc, place, pick, heads);
-    }
-    push_if(alloc, known, place, pick, heads)
 }
 
 /// The blocks of one priority are added.
@@ -375,10 +331,45 @@ fn push_heads(
 ) -> Result<(), TplFault>
     ensures { Gives is_tpl_want (λ _. blocks_of heads.new.items) (at_place place (heads_onto (blocks_of heads.old.items) (heads_of picks.now))) result }
 {
+    let mut starts = Vec::new(alloc);
     for pick in picks {
-        push_head(alloc, known, place, pick, heads)?;
+        starts = push_head(alloc, known, place, pick, starts, heads)?;
     }
     Ok(())
+}
+
+/// Whether a block names a template.
+fn names_template(block: &Block) -> bool
+    ensures { result ≡ names_template (block_of block.now) }
+{
+    match block {
+        Block::If(_) => false,
+        Block::For(_, _) => false,
+        Block::Named(_, _) => true,
+    }
+}
+
+/// Whether one of these blocks names a template.
+fn any_named(heads: &[Block]) -> bool
+    ensures { result ≡ list_any names_template (blocks_of heads.now) }
+{
+    for block in heads {
+        if names_template(block) {
+            return true;
+        }
+    }
+    false
+}
+
+/// An element with these directives in the blocks that were found.
+fn inside_in(found: &Found, picked: Vec<Pick>) -> Inside
+    ensures { inside_of result ≡ inside_in (blocks_of found.now.heads.items) (has_picks picked.items) }
+{
+    if any_named(found.heads.as_slice()) {
+        Inside::Template(picked)
+    } else {
+        Inside::Picks(picked)
+    }
 }
 
 /// What directives of which one is a block add to what was found.
@@ -432,10 +423,8 @@ pub(crate) fn find_blocks(
         }
         let below = block_priority(picked.as_slice());
         if below.is_none() {
-            return Ok(Around {
-                found,
-                inside: Inside::Picks(picked),
-            });
+            let inside = inside_in(&found, picked);
+            return Ok(Around { found, inside });
         }
         find_more(
             alloc,

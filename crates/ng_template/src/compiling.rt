@@ -4,7 +4,7 @@ ghost use Rattle.ng_base.specs.Meets.{Gives};
 ghost use Rattle.ng_html.specs.Seen.{node_of, forest_of};
 ghost use Rattle.ng_html.specs.TreeSeen.{source_of};
 ghost use Rattle.ng_interp.specs.Parts.{pieces_in};
-ghost use Rattle.ng_template.specs.Compiles.{first_place, past as past_of, text_made, after_node as after_node_of, after_forest as after_forest_of, contents_made, switch_in as switch_in_of, element_made, rounds as rounds_of, compiled_node, compiled_forest, compiled};
+ghost use Rattle.ng_template.specs.Compiles.{first_place, past as past_of, text_made, after_node as after_node_of, after_forest as after_forest_of, contents_made, switch_in as switch_in_of, emptied_made, element_made, rounds as rounds_of, compiled_node, compiled_forest, compiled};
 ghost use Rattle.ng_template.specs.AroundOf.{inside_of, blocks_of, case_of, outermost_of};
 ghost use Rattle.ng_template.specs.Free.{is_tpl_want};
 ghost use Rattle.ng_template.specs.Numbering.{is_regular};
@@ -15,17 +15,18 @@ ghost use Rattle.ng_template.specs.Texts.{judged};
 
 use crate::around::{Around, Block, Found, Inside, find_blocks};
 use crate::elements::{Element, element_of};
-use crate::fault::TplFault;
+use crate::fault::{TplFault, TplKind};
 use crate::fragment::Fragment;
 use crate::known::Known;
+use crate::manners::any_gives_contents;
 use crate::parts::{Contents, Part, Parts, bound as bound_to, children, comment, element, text};
 use crate::plain::plain_part;
 use crate::settings::with_class;
-use crate::texts::{SITE_LIMIT, count_holes, first_of, place_parts, read_text, worn};
+use crate::texts::{SITE_LIMIT, count_holes, first_of, place_parts, read_text, refusal, worn};
 use crate::tpl::{Making, Tpl};
 use crate::wrapping::{Outermost, wrap};
 use ng_base::txt::Txt;
-use ng_collect::Registry;
+use ng_collect::{Pick, Registry};
 use ng_drawing::kind::SiteKind;
 use ng_html::attrs::Attrs;
 use ng_html::forest::{Forest, Node};
@@ -191,6 +192,49 @@ fn part_at<'a>(
     }
 }
 
+/// An element by itself whose children are not compiled, since a template will stand in their place.
+fn emptied_at<'a>(
+    alloc: Global,
+    known: &mut Known,
+    kids: &Forest,
+    name: &Txt,
+    attrs: &Attrs,
+    picked: Vec<Pick>,
+    made: Making<'a>,
+) -> Result<(Part, Making<'a>), TplFault>
+    ensures { Gives is_tpl_want (λ q. (part_of q.0, made_of q.1)) (emptied_made name.now attrs.now (forest_of kids.now) picked.items (made_of made.entry)) result }
+{
+    let (place, others) = first_of(made.places);
+    if any_gives_contents(picked.as_slice()) {
+        return Err(refusal(TplKind::MultiDir, place));
+    }
+    let name = name.copied()?;
+    let Making {
+        places,
+        sites,
+        outlets,
+        bodies,
+    } = made;
+    let Element {
+        attributes,
+        class,
+        bound: _,
+        switch: _,
+        own,
+        acts,
+        sites,
+    } = element_of(alloc, known, picked.as_slice(), attrs, places, sites)?;
+    let attributes = with_class(alloc, attributes, class)?;
+    let after = Making {
+        places: after_forest(kids, others),
+        sites,
+        outlets,
+        bodies,
+    };
+    let contents = children(Parts::new(alloc));
+    Ok((element(name, own, acts, attributes, contents), after))
+}
+
 /// The part of an element by itself.
 #[cycle(build)]
 fn element_at<'a>(
@@ -238,6 +282,7 @@ fn element_at<'a>(
             let (contents, after) = contents_at(alloc, r, known, near, bound, kids, inner)?;
             Ok((element(name, own, acts, attributes, contents), after))
         }
+        Inside::Template(picked) => emptied_at(alloc, known, kids, name, attrs, picked, made),
     }
 }
 
@@ -294,7 +339,7 @@ fn parts_at<'a>(
 /// Compiles a document (guide: HTML Compiler). The first refusal in document order stands, at the `<` of its element or at the first
 /// byte of its text: in an element LeftOut, MultiDir, Later where a directive is not built yet, CaseWithoutSwitch, what is wrong with the text
 /// of a block round it, and then directive by directive, in their order, Expression, UnknownFilter and, unless it is a program that runs, Impure; in a
-/// text Expression of all its holes, UnknownFilter of all, then Impure of all. The children in whose place a bound text stands are neither
+/// text Expression of all its holes, UnknownFilter of all, then Impure of all. The children in whose place a bound text or a template stands are neither
 /// compiled nor refused. Of a plain element and of what is in it nothing is read.
 pub fn compile(alloc: Global, s: &Source, r: &Registry, slots: bool) -> Result<Tpl, TplFault>
     ensures template { Gives is_tpl_want template_of (compiled (source_of s.now) r.now slots) result }

@@ -1,5 +1,5 @@
 //! The text of a directive: its parts, or its program (guide: Interpolation; API: ngInit).
-ghost use Rattle.std.specs.Prelude.{◌≡◌, true, map, Some, IfOk};
+ghost use Rattle.std.specs.Prelude.{◌≡◌, true, map, length, Some, IfOk};
 ghost use Rattle.std.specs.List.{list_all};
 ghost use Rattle.ng_base.specs.Meets.{Gives};
 ghost use Rattle.ng_interp.specs.Parts.{is_free, piece_of};
@@ -62,7 +62,8 @@ pub(crate) fn kind_for(setting: Setting) -> SiteKind
 
 /// A text that is an expression as a whole: one hole.
 fn read_whole(alloc: Global, known: &mut Known, text: &Txt) -> Result<Vec<Part>, InterpFault>
-    ensures { Gives is_free (λ v. map piece_of v.items) (whole_text text.now) result }
+    ensures parts { Gives is_free (λ v. map piece_of v.items) (whole_text text.now) result }
+    ensures one { IfOk result (λ v. length v.items ≡ 1) }
 {
     let hole = known.hole(0, text)?;
     let mut parts = Vec::new(alloc);
@@ -117,6 +118,7 @@ pub(crate) fn whole_parts(
     ensures parts { Gives is_tpl_want (λ v. map piece_of v.items) (judged place (whole_text (text_on pick.now.attribute))) result }
     ensures known { IfOk result (λ v. list_all is_known (map piece_of v.items) ≡ true) }
     ensures pure { IfOk result (λ v. list_all is_pure (map piece_of v.items) ≡ true) }
+    ensures one { IfOk result (λ v. length v.items ≡ 1) }
 {
     let text = text_of(alloc, &pick.attribute)?;
     judged_parts(place, read_whole(alloc, known, &text))

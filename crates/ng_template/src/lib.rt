@@ -11,12 +11,14 @@
 //!
 //! A hole with the text of an earlier one shares its program, so that it is read once (`known`).
 //!
-//! `Templates` has the templates of a page, each under a name of its own; some have a name that `ng-include` knows.
+//! `Templates` has the templates of a page, each under a name of its own; some have a name that `ng-include` knows. An instance is one of a
+//! fragment of a template, or of an element with another template in it, which `including` makes.
 //!
 //! In reading order: `fault` has the refusals; `pieces`, `classes`, `acts`, `parts`, `site`, `outlets`, `fragment` and `tpl` are what a
 //! template is; `known` and `texts` read texts; `manners` lists what each directive does, `directives` reads its text and `settings` sets
-//! what it sets; `elements` has what the directives of an element come to, `plain` copies one that is plain; `around` finds the blocks
-//! round an element and `wrapping` puts it in them; `compiling` walks the document; `templates`; `laws`.
+//! what it sets; `elements` has what the directives of an element come to, `plain` copies one that is plain; `wording` finds the text of a
+//! directive, `around` the blocks round an element, and `wrapping` puts it in them; `compiling` walks the document; `including`; `templates`;
+//! `laws`.
 //!
 //! Not here: which directives an element has (`ng_collect`), how a text is cut and a hole is read (`ng_interp`), and what
 //! a template shows (`ng_drawing`).
@@ -30,6 +32,7 @@ mod directives;
 mod elements;
 pub mod fault;
 pub mod fragment;
+pub mod including;
 mod known;
 pub mod laws;
 pub mod manners;
@@ -45,6 +48,7 @@ pub mod templates;
 mod texts;
 pub mod tpl;
 pub mod track;
+mod wording;
 mod wrapping;
 
 pub use acts::{Acts, Handler};
@@ -52,6 +56,7 @@ pub use classes::{ClassValue, Hiding};
 pub use compiling::compile;
 pub use fault::{TplFault, TplKind};
 pub use fragment::Fragment;
+pub use including::Whole;
 pub use outlets::{Filling, Outlet};
 pub use parts::{Contents, Part, Parts};
 pub use pieces::{Attribute, AttributeValue, Attributes, Piece, Pieces};

@@ -2,9 +2,12 @@
 //! ngOpen, ngReadonly, ngSelected, ngBind, ngClass, ngShow, ngHide, ngInit, ngClick, ngNonBindable, ngIf, ngSwitch, ngRepeat; guide: Interpolation, "How text and attribute
 //! bindings work").
 ghost use Rattle.std.specs.Prelude.{◌≡◌, IfOk};
-ghost use Rattle.ng_template.specs.Manners.{core_manner as core_manner_of, manner_of, are_built as are_built_all, core_makes_plain as core_makes_plain_of, makes_plain as makes_plain_of, any_makes_plain as any_makes_plain_of, core_target as core_target_of, target_of, event_name as event_name_of};
+ghost use Rattle.ng_collect.specs.Sorted.{of_core};
+ghost use Rattle.ng_collect.specs.Table.{gives_contents as gives_contents_of};
+ghost use Rattle.ng_template.specs.Manners.{core_manner as core_manner_of, manner_of, are_built as are_built_all, core_makes_plain as core_makes_plain_of, makes_plain as makes_plain_of, any_makes_plain as any_makes_plain_of, any_gives_contents as any_gives_contents_of, core_target as core_target_of, target_of, event_name as event_name_of};
 
 use ng_base::txt::Txt;
+use ng_collect::table::gives_contents;
 use ng_collect::{CoreDirective, Directive, DomEvent, Pick};
 use std::alloc::{AllocError, Global};
 
@@ -43,6 +46,7 @@ fn core_manner(d: CoreDirective) -> Option<Manner>
         CoreDirective::SwitchDefault => Some(Manner::Fills),
         CoreDirective::Repeat => Some(Manner::Fills),
         CoreDirective::If => Some(Manner::Fills),
+        CoreDirective::Include => Some(Manner::Fills),
         CoreDirective::Init => Some(Manner::Starts),
         CoreDirective::Checked => Some(Manner::Sets(Setting::Switches)),
         CoreDirective::Disabled => Some(Manner::Sets(Setting::Switches)),
@@ -111,6 +115,29 @@ pub(crate) fn any_makes_plain(picks: &[Pick]) -> bool
 {
     for pick in picks {
         if makes_plain(pick.directive) {
+            return true;
+        }
+    }
+    false
+}
+
+/// Whether a directive gives its element contents.
+fn gives(d: Directive) -> bool
+    ensures { result ≡ of_core gives_contents_of d }
+{
+    match d {
+        Directive::Core(core) => gives_contents(core),
+        Directive::Interpolated => false,
+        Directive::User(_) => false,
+    }
+}
+
+/// Whether one of these directives gives its element contents, as a template does.
+pub(crate) fn any_gives_contents(picks: &[Pick]) -> bool
+    ensures { result ≡ any_gives_contents_of picks.now }
+{
+    for pick in picks {
+        if gives(pick.directive) {
             return true;
         }
     }

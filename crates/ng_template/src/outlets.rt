@@ -1,4 +1,4 @@
-//! Outlets, the places that the bodies of blocks fill (API: ngIf, ngSwitch, ngRepeat).
+//! Outlets, the places that the bodies of blocks fill (API: ngIf, ngSwitch, ngRepeat, ngInclude).
 ghost use Rattle.std.specs.Prelude.{◌≡◌, IfOk};
 ghost use Rattle.ng_template.specs.FragmentOf.{filling_of};
 
@@ -7,12 +7,14 @@ use ng_base::txt::Txt;
 use std::alloc::{AllocError, Global};
 
 /// How an outlet is filled: the body of this number stands while the value of the site is true; or it is a case of a switch, with its text, or
-/// a default; or there is one of it for each entry of a collection.
+/// a default; or there is one of it for each entry of a collection; or it stands while the value is true, with the template in it that the value
+/// names.
 #[derive(Drop)]
 pub enum Filling {
     BodyIf(u32),
     OnCase(Option<Txt>, u32),
     ForEach(Repeated, u32),
+    ByName(u32),
 }
 
 /// An outlet is filled by the value of a site.
@@ -43,6 +45,7 @@ impl Filling {
             Filling::ForEach(repeated, body) => {
                 Ok(Filling::ForEach(repeated.copied(alloc)?, *body))
             }
+            Filling::ByName(body) => Ok(Filling::ByName(*body)),
         }
     }
 }

@@ -1,6 +1,7 @@
 //! The parts of a template. `specs/Seen.antt` says which parts of the definitions they stand for.
 ghost use Rattle.std.specs.Prelude.{◌≡◌, [], map, OnOk, OnErr};
 ghost use Rattle.ng_drawing.specs.Template.{text_part, comment_part, element_part, anchor_part, children as children_with, bound as bound_to, no_parts, with_part, parts_from};
+ghost use Rattle.ng_parse.specs.ProgramOf.{program};
 ghost use Rattle.ng_template.specs.Seen.{acts_of, part_of, contents_of, parts_of};
 
 use crate::acts::Acts;
@@ -111,13 +112,13 @@ pub(crate) fn element(
 }
 
 /// An anchor that runs no program.
-pub(crate) fn anchor(alloc: Global, outlet: u32, own: Vec<u32>) -> Part
-    ensures { part_of result ≡ anchor_part outlet own.items [] }
+pub(crate) fn anchor(outlet: u32, own: Vec<u32>, starts: Vec<Program>) -> Part
+    ensures { part_of result ≡ anchor_part outlet own.items (map program starts.items) }
 {
     Part::Anchor {
         outlet,
         own,
-        starts: Vec::new(alloc),
+        starts,
     }
 }
 

@@ -1,10 +1,12 @@
 //! Sites, the watched expressions of a template (guide: Scopes, "`$digest`").
-ghost use Rattle.std.specs.Prelude.{◌≡◌, true};
+ghost use Rattle.std.specs.Prelude.{◌≡◌, true, IfOk};
 ghost use Rattle.ng_parse.specs.ProgramOf.{program as trees};
 ghost use Rattle.ng_view.specs.Purity.{are_pure, all_filters_known};
 
+use ng_base::fault::Memory;
 use ng_drawing::kind::SiteKind;
 use ng_parse::Program;
+use std::alloc::Global;
 
 /// What is watched. Its program is pure and names known filters alone.
 #[derive(Drop)]
@@ -53,5 +55,13 @@ impl Site {
         ensures pure { are_pure (trees result.now) ≡ true }
     {
         &self.program
+    }
+
+    /// The same site again. Its program has one owner more.
+    pub fn copied(&self, alloc: Global) -> Result<Site, Memory>
+        ensures { IfOk result (λ s. site_of s ≡ site_of self.now) }
+    {
+        let program = self.program.copied(alloc)?;
+        Ok(Site::new(self.kind, self.one_time, program))
     }
 }

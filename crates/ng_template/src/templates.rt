@@ -5,10 +5,12 @@ ghost use Rattle.ng_base.specs.Meets.{Gives};
 ghost use Rattle.ng_template.specs.TplNames.{is_refused_memory, is_name, next_name};
 
 use crate::fragment::Fragment;
+use crate::including::{Whole, included};
 use crate::tpl::Tpl;
 use ng_base::fault::Memory;
 use ng_base::name::TplId;
 use ng_base::txt::Txt;
+use ng_drawing::origin::Origin;
 use std::alloc::Global;
 
 /// A template, and the name that `ng-include` knows it by.
@@ -49,9 +51,11 @@ fn is_word(word: &Txt, name: &Option<Txt>) -> bool
 }
 
 impl Templates {
-    ghost use Rattle.ng_template.specs.Kept.{templates_of, is_named, named_from, fragment_in};
+    ghost use Rattle.ng_template.specs.Kept.{templates_of, is_named, named_from, fragment_in, including, fragment_for};
     ghost use Rattle.ng_template.specs.FragmentOf.{fragment_of};
+    ghost use Rattle.ng_template.specs.Numbering.{HasOrder};
     ghost use Rattle.ng_template.specs.TemplateOf.{template_of};
+    ghost use Rattle.ng_template.specs.WholeOf.{whole_of};
 
     /// No template.
     pub fn new(alloc: Global) -> Templates
@@ -83,11 +87,43 @@ impl Templates {
 
     /// The fragment of a number in the template of a name.
     pub fn fragment(&self, t: TplId, n: u32) -> Option<&Fragment>
-        ensures { option_map (λ f. fragment_of f.now) result ≡ fragment_in (templates_of self.now) t.0 n }
+        ensures fragment { option_map (λ f. fragment_of f.now) result ≡ fragment_in (templates_of self.now) t.0 n }
+        ensures order { IfSome result (λ f. HasOrder (fragment_of f.now)) }
     {
         match self.items.get(t.0 as usize) {
             None => None,
             Some(kept) => kept.template.fragment(n),
+        }
+    }
+
+    /// A fragment with a template's own in it, if one is included.
+    fn with_included<'a>(
+        &'a self,
+        alloc: Global,
+        own: &'a Fragment,
+        other: Option<TplId>,
+    ) -> Result<Option<Whole<'a>>, Memory>
+        requires { HasOrder (fragment_of own.now) }
+        ensures fragment { IfOk result (λ w. option_map whole_of w ≡ including (templates_of self.now) other (fragment_of own.now)) }
+        ensures order { IfOk result (λ w. IfSome w (λ x. HasOrder (whole_of x))) }
+    {
+        match other {
+            None => Ok(Some(Whole::Kept(own))),
+            Some(t) => match self.fragment(t, 0) {
+                None => Ok(None),
+                Some(template) => Ok(Some(included(alloc, own, template)?)),
+            },
+        }
+    }
+
+    /// The fragment that an instance is one of. One with a template in it is made each time.
+    pub fn whole(&self, alloc: Global, origin: Origin) -> Result<Option<Whole<'_>>, Memory>
+        ensures fragment { IfOk result (λ w. option_map whole_of w ≡ fragment_for (templates_of self.now) origin) }
+        ensures order { IfOk result (λ w. IfSome w (λ x. HasOrder (whole_of x))) }
+    {
+        match self.fragment(origin.home.template, origin.fragment) {
+            None => Ok(None),
+            Some(own) => self.with_included(alloc, own, origin.included),
         }
     }
 

@@ -145,6 +145,7 @@ pub(crate) fn judged_parts(
     ensures parts { (asked : Result (List InterpPiece) InterpFault) → Gives is_free (λ v. map piece_of v.items) asked read → Gives is_tpl_want (λ v. map piece_of v.items) (judged place asked) result }
     ensures known { IfOk result (λ v. list_all is_known (map piece_of v.items) ≡ true) }
     ensures pure { IfOk result (λ v. list_all is_pure_piece (map piece_of v.items) ≡ true) }
+    ensures same { IfOk result (λ v. read ≡ Ok v) }
 {
     match read {
         Err(fault) => match fault.kind {

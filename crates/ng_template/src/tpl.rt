@@ -1,7 +1,7 @@
 //! What a document compiles to.
-ghost use Rattle.std.specs.Prelude.{◌≡◌, true};
+ghost use Rattle.std.specs.Prelude.{◌≡◌, true, length, IfSome};
 ghost use Rattle.ng_template.specs.FragmentOf.{fragment_of, fragments_of};
-ghost use Rattle.ng_template.specs.Numbering.{is_regular};
+ghost use Rattle.ng_template.specs.Numbering.{is_regular, is_whole};
 
 use crate::fragment::Fragment;
 use crate::outlets::Outlet;
@@ -39,7 +39,8 @@ impl Tpl {
 
     /// The fragment of a number: 0 is its own, and its bodies follow.
     pub fn fragment(&self, n: u32) -> Option<&Fragment>
-        ensures { option_map (λ f. fragment_of f.now) result ≡ fragment_at (template_of self.now) n }
+        ensures fragment { option_map (λ f. fragment_of f.now) result ≡ fragment_at (template_of self.now) n }
+        ensures order { IfSome result (λ f. is_whole (length (template_of self.now).bodies) (fragment_of f.now) ≡ true) }
     {
         if n == 0 {
             Some(&self.own)

@@ -1,9 +1,9 @@
-//! An element in its blocks: bodies are fragments, and anchors stand in place of blocks (guide: HTML Compiler; API: ngIf, ngSwitch).
+//! An element in its blocks: bodies are fragments, and anchors stand in place of blocks (guide: HTML Compiler; API: ngIf, ngSwitch, ngInclude).
 ghost use Rattle.std.specs.Prelude.{List, ◌≡◌, ◌+◌, ◌≤◌, [], true, length, IfOk, OnOk};
 ghost use Rattle.ng_base.specs.Meets.{Gives};
 ghost use Rattle.ng_drawing.specs.Template.{Fragment as TemplateFragment, no_parts, part_then, anchor_part};
-ghost use Rattle.ng_template.specs.AroundOf.{block_of, blocks_of, case_of, outermost_of, numbers_of};
-ghost use Rattle.ng_template.specs.Compiles.{site_in, filling_in, block_alone as block_alone_of, nested, has_room as has_room_for, bodies_with, with_block as with_block_of, with_case as with_case_of, wrapped};
+ghost use Rattle.ng_template.specs.AroundOf.{block_of, blocks_of, programs_of, case_of, outermost_of, numbers_of};
+ghost use Rattle.ng_template.specs.Compiles.{site_in, filling_in, starts_in, block_alone as block_alone_of, nested, has_room as has_room_for, bodies_with, with_block as with_block_of, with_case as with_case_of, wrapped};
 ghost use Rattle.ng_template.specs.Free.{is_tpl_want};
 ghost use Rattle.ng_template.specs.Limits.{site_limit};
 ghost use Rattle.ng_template.specs.Seen.{part_of, parts_of};
@@ -19,6 +19,7 @@ use crate::parts::{Part, Parts, anchor};
 use crate::site::Site;
 use crate::texts::{SITE_LIMIT, worn};
 use crate::tpl::Making;
+use ng_parse::Program;
 use std::alloc::{AllocError, Global};
 
 /// One part alone.
@@ -30,25 +31,32 @@ fn lone(alloc: Global, part: Part) -> Result<Parts, AllocError>
     Ok(parts)
 }
 
-/// An anchor with its outlet and the number of its site, if it has one.
-fn anchor_with(alloc: Global, outlet: u32, site: Option<u32>) -> Result<Part, AllocError>
-    ensures { IfOk result (λ p. part_of p ≡ anchor_part outlet (numbers_of site) []) }
+/// An anchor with its outlet, the number of its site, if it has one, and the programs that run there.
+fn anchor_with(
+    alloc: Global,
+    outlet: u32,
+    site: Option<u32>,
+    starts: Vec<Program>,
+) -> Result<Part, AllocError>
+    ensures { IfOk result (λ p. part_of p ≡ anchor_part outlet (numbers_of site) (programs_of starts.items)) }
 {
     let mut own = Vec::new(alloc);
     if let Some(site) = site {
         own.push(site)?;
     }
-    Ok(anchor(alloc, outlet, own))
+    Ok(anchor(outlet, own, starts))
 }
 
-/// The site of a block, and how the body of a number fills its outlet.
-fn split_block(block: Block, body: u32) -> (Site, Filling)
+/// The site of a block, how the body of a number fills its outlet, and the programs that run at its anchor.
+fn split_block(alloc: Global, block: Block, body: u32) -> (Site, Filling, Vec<Program>)
     ensures site { site_of result.0 ≡ site_in (block_of block) }
     ensures filling { filling_of result.1 ≡ filling_in (block_of block) body }
+    ensures starts { programs_of result.2.items ≡ starts_in (block_of block) }
 {
     match block {
-        Block::If(site) => (site, Filling::BodyIf(body)),
-        Block::For(site, repeated) => (site, Filling::ForEach(repeated, body)),
+        Block::If(site) => (site, Filling::BodyIf(body), Vec::new(alloc)),
+        Block::For(site, repeated) => (site, Filling::ForEach(repeated, body), Vec::new(alloc)),
+        Block::Named(site, starts) => (site, Filling::ByName(body), starts),
     }
 }
 
@@ -56,8 +64,8 @@ fn split_block(block: Block, body: u32) -> (Site, Filling)
 fn block_alone(alloc: Global, block: Block, body: u32) -> Result<Fragment, AllocError>
     ensures { IfOk result (λ f. (bodies : List TemplateFragment) → body ≡ length bodies → fragment_of f ≡ block_alone_of (block_of block) bodies) }
 {
-    let (head, filling) = split_block(block, body);
-    let parts = lone(alloc, anchor_with(alloc, 0, Some(0))?)?;
+    let (head, filling, starts) = split_block(alloc, block, body);
+    let parts = lone(alloc, anchor_with(alloc, 0, Some(0), starts)?)?;
     let mut sites = Vec::new(alloc);
     sites.push(head)?;
     let mut outlets = Vec::new(alloc);
@@ -129,8 +137,8 @@ fn with_block<'a>(
     let mut sites = sites;
     let mut outlets = outlets;
     let site = sites.len() as u32;
-    let place = anchor_with(alloc, outlets.len() as u32, Some(site))?;
-    let (head, filling) = split_block(block, bodies.len() as u32);
+    let (head, filling, starts) = split_block(alloc, block, bodies.len() as u32);
+    let place = anchor_with(alloc, outlets.len() as u32, Some(site), starts)?;
     outlets.push(Outlet { site, filling })?;
     sites.push(head)?;
     Ok((
@@ -158,7 +166,7 @@ fn with_case<'a>(
     ensures { IfOk result (λ q. (part_of q.0, made_of q.1) ≡ with_case_of switch (case_of case) (sites_of sites.items) (outlets_of outlets.items) places.now (fragments_of bodies.items)) }
 {
     let mut outlets = outlets;
-    let place = anchor_with(alloc, outlets.len() as u32, None)?;
+    let place = anchor_with(alloc, outlets.len() as u32, None, Vec::new(alloc))?;
     outlets.push(Outlet {
         site: switch,
         filling: Filling::OnCase(case.text, bodies.len() as u32),

@@ -1,18 +1,26 @@
-use Rattle.std.proofs.Common.{◌≡◌, ◌∙◌, ◌<◌, ℕ, ap, subst, sym}
-use Rattle.ng_fire.proofs.Answered.{there}
-use Rattle.ng_fire.proofs.Bodies.{link_paths}
-use Rattle.ng_fire.proofs.ScopePaths.{paths_of, same_count}
+use Rattle.std.proofs.Common.{◌≡◌, ◌∙◌, true, false, ap, sym}
+use Rattle.ng_base.specs.declared.fault.Fault.TheVariants.{Depth}
+use Rattle.ng_drawing.specs.Origins.{is_too_deep}
+use Rattle.ng_fire.specs.Blocks.{Firing, faulted_with}
+use Rattle.ng_fire.specs.FiringOf.{firing}
 use Rattle.ng_link.specs.PlaceOf.{place_of}
-use Rattle.ng_link.specs.State.{State, state_of, templates_of}
-use Rattle.ng_template.specs.Kept.{fragment_in}
+use Rattle.ng_link.specs.State.{State, state_of}
+use Rattle.ng_fire.proofs.Answered.{ok_then}
+use Rattle.ng_fire.proofs.Bodies.{too_deep, not_deep}
 use Rattle.ng_fire.proofs.blocks.link_body.Goals as goal
 
-pub discard-requires-clause-scope : goal.discard-requires-clause-scope
-discard-requires-clause-scope c =
+pub returns-then-is_too_deep-clause-fired : goal.returns-then-is_too_deep-clause-fired
+returns-then-is_too_deep-clause-fired c = λ f known.
     let w = c.args.works.now in
-    let m = c.link_at.new.works in
-    let q = there (fragment_in (templates_of w) c.args.template.0 c.args.body) c.requires.template in
-    let state = (c.in_ok-room.ensures.linked q.0 q.1).0 in
-    let paths : paths_of m.core.scopes ≡ paths_of w.core.scopes =
-    ap (λ (s : State). paths_of s.core.scopes) state ∙ link_paths (place_of c.args.place.now) (c.args.template.0, c.args.body) c.args.child.0 q.0 (state_of w) in
-    subst (λ (n : ℕ). c.args.child.0 < n) (sym (same_count w.core.scopes m.core.scopes paths)) c.requires.scope
+    let told = c.args.told.now in
+    let deep : is_too_deep c.args.origin ≡ true = sym c.if-is_too_deep.ensures in
+    c.fault.ensures.fired
+    ∙ (ap (λ (t : State). faulted_with Depth (record { state = t; faulted = told.faulted; added = told.added })) c.in_ok-discard.ensures.state
+    ∙ too_deep (place_of c.args.place.now) c.args.origin f c.args.child.0 (state_of w) (firing w told) deep)
+
+pub returns-clause-fired : goal.returns-clause-fired
+returns-clause-fired c =
+    let w = c.args.works.now in
+    let shallow : is_too_deep c.args.origin ≡ false = sym c.if-is_too_deep.ensures in
+    ok_then c.link_within.result c.link_within.ensures.fired
+    (λ fired f known. fired f known ∙ not_deep (place_of c.args.place.now) c.args.origin f c.args.child.0 (state_of w) (firing w c.args.told.now) shallow)

@@ -17,7 +17,7 @@ use Rattle.ng_link.specs.Shape.{linked}
 use Rattle.ng_link.specs.State.{State, state_of, templates_of}
 use Rattle.ng_link.specs.StepOf.{step_of}
 use Rattle.ng_link.specs.declared.ordering.LinkStep.{LinkStep}
-use Rattle.ng_template.specs.Kept.{Named, fragment_in}
+use Rattle.ng_template.specs.Kept.{Named, fragment_for}
 use Rattle.ng_fire.proofs.linking.link_at.Goals as goal
 
 pub place-requires-clause-free : goal.place-requires-clause-free
@@ -34,9 +34,9 @@ place-requires-clause-room c = λ f at.
     let s = state_of c.args.works.now in
     let u = state_of c.link_steps-2.new.works in
     let xs = map step_of c.as_slice-2.result.now in
-    let was : fragment_in (templates_of c.args.works.now) c.args.t.0 c.args.n ≡ Some f = ap (λ (ts : List Named). fragment_in ts c.args.t.0 c.args.n) (sym c.link_steps-2.ensures.templates) ∙ at in
+    let was : fragment_for (templates_of c.args.works.now) c.args.origin ≡ Some f = ap (λ (ts : List Named). fragment_for ts c.args.origin) (sym c.link_steps-2.ensures.templates) ∙ at in
     let live = live_nodes_same u s (linking_instances c.args.scope.0 xs s _ c.in_ok-serials.ensures.steps) in
-    ap (λ (n : ℕ). linked n f.parts) live ∙ ok_is _ (c.has_room.ensures f was ∙ c.if-not-has_room.false)
+    ap (λ (n : ℕ). linked n f.parts) live ∙ ok_is _ (c.in_ok-has_room.ensures f was ∙ c.if-not-branch.false)
 
 pub place-requires-clause-rising : goal.place-requires-clause-rising
 place-requires-clause-rising c =
@@ -51,7 +51,7 @@ place-requires-clause-below c =
 pub place-requires-clause-count : goal.place-requires-clause-count
 place-requires-clause-count c = λ f at.
     let order : List LinkStep = c.as_slice-2.result.now in
-    let was : fragment_in (templates_of c.args.works.now) c.args.t.0 c.args.n ≡ Some f = ap (λ (ts : List Named). fragment_in ts c.args.t.0 c.args.n) (sym c.link_steps-2.ensures.templates) ∙ at in
+    let was : fragment_for (templates_of c.args.works.now) c.args.origin ≡ Some f = ap (λ (ts : List Named). fragment_for ts c.args.origin) (sym c.link_steps-2.ensures.templates) ∙ at in
     ap length c.as_slice-3.ensures.value
     ∙ (ap (λ (g : Linking). length g.serials) c.in_ok-serials.ensures.steps
     ∙ (linking_counted c.args.scope.0 (map step_of order) (state_of c.args.works.now)
@@ -62,9 +62,9 @@ rest_on_dead-requires-clause-whole c =
     let v = c.link_steps-2.new.works in
     let w = c.place.new.self in
     let s = state_of v in
-    let q = there (fragment_in (templates_of c.args.works.now) c.args.t.0 c.args.n) c.requires.template in
+    let q = there (fragment_for (templates_of c.args.works.now) c.args.origin) c.requires.template in
     let f : Fragment = q.0 in
-    let at : fragment_in (templates_of v) c.args.t.0 c.args.n ≡ Some f = ap (λ (ts : List Named). fragment_in ts c.args.t.0 c.args.n) c.link_steps-2.ensures.templates ∙ q.1 in
+    let at : fragment_for (templates_of v) c.args.origin ≡ Some f = ap (λ (ts : List Named). fragment_for ts c.args.origin) c.link_steps-2.ensures.templates ∙ q.1 in
     let state = on_ok c.place.result tt c.in_ok-placed.ensures c.place.ensures.state in
     let core = on_ok c.place.result tt c.in_ok-placed.ensures c.place.ensures.core in
     let stands = on_ok c.place.result tt c.in_ok-placed.ensures c.place.ensures.stands in
@@ -77,5 +77,5 @@ rest_on_dead-requires-clause-whole c =
     let lt : c.args.scope.0 < length s.core.scopes = subst (λ (n : ℕ). c.args.scope.0 < n) (sym c.in_ok-serials.ensures.scopes) c.requires.scope in
     whole_by v w c.in_ok-serials.ensures.whole core stands
     (subst (λ (x : State). Stays v.core.scopes (length v.core.store) x) (sym (state f at))
-    (placed_stays (length v.core.store) (place_of c.args.place.now) (c.args.t.0, c.args.n) c.args.scope.0 f c.as_slice-3.result.now s lt free
-    (fragment_bodies (templates_of v) c.args.t.0 c.args.n f (templates_regular v) at) (stays_of v c.in_ok-serials.ensures.whole)))
+    (placed_stays (length v.core.store) (place_of c.args.place.now) c.args.origin c.args.scope.0 f c.as_slice-3.result.now s lt free
+    (fragment_bodies (templates_of v) c.args.origin f (templates_regular v) at) (stays_of v c.in_ok-serials.ensures.whole)))

@@ -1,6 +1,7 @@
 use Rattle.std.proofs.Common.{◌≡◌, ◌∙◌, ℕ, List, ap, length, map, subst, sym, arith}
 use Rattle.std.proofs.lemmas.List.{length-map}
 use Rattle.ng_core.specs.declared.core_state.Core.{Core}
+use Rattle.ng_drawing.specs.declared.origin.Origin.{Origin}
 use Rattle.ng_drawing.specs.Template.{Repeated}
 use Rattle.ng_fire.proofs.Answered.{ok_then}
 use Rattle.ng_fire.proofs.KeptRows.{rows_wider}
@@ -78,7 +79,7 @@ returns-clause-fired c =
     let spot = c.args.spot.now in
     let holder : List ℕ = spot.holder.now in
     let o : ℕ = spot.outlet in
-    let which : ℕ × ℕ = (spot.template.0, spot.body) in
+    let which : Origin = spot.origin in
     let bs : List Body = map body_of c.args.bodies.now in
     let rows : List Row = rows_of c.args.rows.now in
     let kept = map body_of c.in_ok-kept_rows.field-0.items in

@@ -54,7 +54,7 @@ returns-in-Err-clause-fired c =
     ap (λ (o : ℕ). track_keys w.core.store o r 0 [] xs) (sym (c.object-object.ensures ∙ ap (object_at w.core.scopes) c.scope_on.ensures))
     ∙ (ap (λ (ys : List Item). track_keys w.core.store c.object-object.result.0 r 0 [] ys) (sym (ap items_of c.as_slice.ensures.value)) ∙ c.in-Err.ensures other) in
     c.fault.ensures.fired
-    ∙ sym (ap (λ (k : Result (List TrackKey) Fault). by_keys holder scope spot.outlet (spot.template.0, spot.body) r (rows_at holder spot.outlet (state_of w).instances) xs k (firing w c.args.told.now)) asked)
+    ∙ sym (ap (λ (k : Result (List TrackKey) Fault). by_keys holder scope spot.outlet spot.origin r (rows_at holder spot.outlet (state_of w).instances) xs k (firing w c.args.told.now)) asked)
 
 pub returns-in-Err-clause-keeps : goal.returns-in-Err-clause-keeps
 returns-in-Err-clause-keeps c =

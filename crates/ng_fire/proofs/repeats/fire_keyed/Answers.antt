@@ -50,7 +50,7 @@ returns-in-Err-clause-fired c =
     let refused : as_fault (planned (keys_of (rows_at holder spot.outlet is)) c.args.keys.now) ≡ Err c.in-Err.f =
     ap (λ (bs : List Body). as_fault (planned (keys_of bs) c.args.keys.now)) stand ∙ (sym c.in_ok-f.ensures.plan ∙ c.in-Err.is) in
     c.fault.ensures.fired
-    ∙ sym (ap (λ (p : Result Plan Fault). by_plan holder scope spot.outlet (spot.template.0, spot.body) r (rows_at holder spot.outlet is) (items_of c.args.items.items) c.args.keys.now p g) refused)
+    ∙ sym (ap (λ (p : Result Plan Fault). by_plan holder scope spot.outlet spot.origin r (rows_at holder spot.outlet is) (items_of c.args.items.items) c.args.keys.now p g) refused)
 
 pub returns-in-Ok-clause-fired : goal.returns-in-Ok-clause-fired
 returns-in-Ok-clause-fired c =
@@ -64,7 +64,7 @@ returns-in-Ok-clause-fired c =
     let one = there (outlet_of_linked spot.outlet (linked_at holder is)) (outlet_there holder spot.outlet is c.requires.spot.outlet) in
     let stand : rows_at holder spot.outlet is ≡ map body_of c.as_slice-in-Ok.result.now = ap bodies_or one.1 ∙ (sym (c.in_ok-bodies.ensures one.0 one.1) ∙ sym (ap (map body_of) c.as_slice-in-Ok.ensures.value)) in
     ok_then c.fire_plan.result c.fire_plan.ensures.fired
-    (λ fired. fired ∙ sym (ap (λ (bs : List Body). by_keys holder scope spot.outlet (spot.template.0, spot.body) r bs (items_of c.args.items.items) (Ok c.args.keys.now) g) stand))
+    (λ fired. fired ∙ sym (ap (λ (bs : List Body). by_keys holder scope spot.outlet spot.origin r bs (items_of c.args.items.items) (Ok c.args.keys.now) g) stand))
 
 pub returns-in-Err-clause-keeps : goal.returns-in-Err-clause-keeps
 returns-in-Err-clause-keeps c =

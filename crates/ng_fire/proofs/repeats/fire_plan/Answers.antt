@@ -2,6 +2,7 @@ use Rattle.std.proofs.Common.{◌∙◌, ℕ, List, ap, length, map, subst, sym}
 use Rattle.std.specs.Prelude.{Result}
 use Rattle.ng_blocks.specs.declared.plans.Plan.{Plan}
 use Rattle.ng_blocks.specs.declared.plans.PlanFault.{PlanFault}
+use Rattle.ng_drawing.specs.declared.origin.Origin.{Origin}
 use Rattle.ng_drawing.specs.Template.{Repeated}
 use Rattle.ng_fire.proofs.Answered.{ok_then}
 use Rattle.ng_fire.proofs.KeptRows.{kept_or_gone, rows_stand}
@@ -35,7 +36,7 @@ returns-clause-fired c =
     let spot = c.args.spot.now in
     let holder : List ℕ = spot.holder.now in
     let scope : ℕ = scope_in (linked_at holder (state_of w).instances) in
-    let which : ℕ × ℕ = (spot.template.0, spot.body) in
+    let which : Origin = spot.origin in
     let r : Repeated = repeated_of c.args.repeated.now in
     let bs : List Body = map body_of c.args.bodies.now in
     let g : Firing = firing w c.args.told.now in

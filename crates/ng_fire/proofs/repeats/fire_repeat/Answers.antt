@@ -66,7 +66,7 @@ returns-in-Err-clause-fired c =
     let made : items_made (entries_in (view_of c.args.value.now)) [] s ≡ (cores.state_of c.make_items-made.new.core, Err c.in-Err.f) =
     ap (λ (es : List Entry). items_made es [] s) (sym c.in_ok-entries.ensures) ∙ c.in-Err.ensures.run other in
     c.fault.ensures.fired
-    ∙ sym (ap (λ (x : Run (List Item)). by_items holder scope spot.outlet (spot.template.0, spot.body) r x.1 (with_state (with_core x.0 g.state) g)) made)
+    ∙ sym (ap (λ (x : Run (List Item)). by_items holder scope spot.outlet spot.origin r x.1 (with_state (with_core x.0 g.state) g)) made)
 
 pub returns-in-Ok-clause-fired : goal.returns-in-Ok-clause-fired
 returns-in-Ok-clause-fired c =
@@ -81,7 +81,7 @@ returns-in-Ok-clause-fired c =
     ap (λ (es : List Entry). items_made es [] s) (sym c.in_ok-entries.ensures) ∙ c.in-Ok.ensures.run in
     ok_then c.fire_items.result c.fire_items.ensures.fired
     (λ fired. fired
-    ∙ sym (ap (λ (x : Run (List Item)). by_items holder scope spot.outlet (spot.template.0, spot.body) r x.1 (with_state (with_core x.0 g.state) g)) made))
+    ∙ sym (ap (λ (x : Run (List Item)). by_items holder scope spot.outlet spot.origin r x.1 (with_state (with_core x.0 g.state) g)) made))
 
 pub returns-in-Err-clause-keeps : goal.returns-in-Err-clause-keeps
 returns-in-Err-clause-keeps c =

@@ -1,4 +1,5 @@
 use Rattle.std.proofs.Common.{◌≡◌, ◌∙◌, ◌+◌, ℕ, suc, List, ◌∷◌, ap, drop, length, refl, sym, subst, arith}
+use Rattle.ng_drawing.specs.declared.origin.Origin.{Origin}
 use Rattle.ng_fire.proofs.Answered.{dropped}
 use Rattle.ng_fire.proofs.KeptRows.{rows_wider}
 use Rattle.ng_fire.proofs.RowsStay.{others_same, others_then}
@@ -47,7 +48,7 @@ loop-i-preserved c =
     let spot = c.args.spot.now in
     let holder : List ℕ = spot.holder.now in
     let o : ℕ = spot.outlet in
-    let which : ℕ × ℕ = (spot.template.0, spot.body) in
+    let which : Origin = spot.origin in
     let repeated = repeated_of ground.repeated.now in
     let count : ℕ = ground.count in
     let rows = c.args.rows.now in

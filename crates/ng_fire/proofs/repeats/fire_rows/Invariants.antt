@@ -12,8 +12,8 @@ use Rattle.ng_fire.proofs.repeats.fire_rows.Given as goal
 
 abbrev pub invariant-loop-i : goal.invariant-loop-i
 invariant-loop-i l = record {
-  fired : (rows_fired l.spot.holder.now (scope_in (linked_at l.spot.holder.now (state_of l.initial.works).instances)) l.spot.outlet (l.spot.template.0, l.spot.body) (repeated_of l.ground.repeated.now) l.ground.count l.i (rows_of (drop l.i l.rows)) (filled_to l.at (firing l.works l.told))).firing
-      ≡ (rows_fired l.spot.holder.now (scope_in (linked_at l.spot.holder.now (state_of l.initial.works).instances)) l.spot.outlet (l.spot.template.0, l.spot.body) (repeated_of l.ground.repeated.now) l.ground.count 0 (rows_of l.rows) (filled_to 0 (firing l.initial.works l.initial.told))).firing;
+  fired : (rows_fired l.spot.holder.now (scope_in (linked_at l.spot.holder.now (state_of l.initial.works).instances)) l.spot.outlet l.spot.origin (repeated_of l.ground.repeated.now) l.ground.count l.i (rows_of (drop l.i l.rows)) (filled_to l.at (firing l.works l.told))).firing
+      ≡ (rows_fired l.spot.holder.now (scope_in (linked_at l.spot.holder.now (state_of l.initial.works).instances)) l.spot.outlet l.spot.origin (repeated_of l.ground.repeated.now) l.ground.count 0 (rows_of l.rows) (filled_to 0 (firing l.initial.works l.initial.told))).firing;
   few : l.at ≤ l.i;
   keeps : Keeps l.spot.holder.now (state_of l.initial.works).instances (state_of l.works).instances;
   others : OthersStay l.spot.holder.now (state_of l.initial.works).instances (state_of l.works).instances;

@@ -3,16 +3,16 @@ use Rattle.std.specs.Prelude.{IsSome, Option, Some, Ok}
 use Rattle.ng_core.specs.State as act
 use Rattle.ng_base.specs.declared.name.ScopeId.{ScopeId}
 use Rattle.ng_behaviour.specs.Scopes.{Scope, path_at}
+use Rattle.ng_drawing.specs.declared.origin.Origin.{Origin}
 use Rattle.ng_drawing.specs.Roles.{Role, a_body}
 use Rattle.ng_fire.proofs.Answered.{ok_then, some_is, there}
-use Rattle.ng_fire.proofs.Bodies.{outlet_there, scope_path, scope_stands, then_holds, then_serves}
+use Rattle.ng_fire.proofs.Bodies.{outlet_there, scope_path, scope_stands, body_holds, body_serves}
 use Rattle.ng_fire.proofs.RowsStay.{others_come, others_same}
-use Rattle.ng_fire.proofs.NewRows.{filled_on, then_same}
+use Rattle.ng_fire.proofs.NewRows.{body_same, filled_on}
 use Rattle.ng_fire.proofs.RowsTaken.{serves_keeps}
 use Rattle.ng_fire.proofs.Told.{whole_told}
-use Rattle.ng_fire.specs.Blocks.{Firing, child_run, linked_then, told_on}
+use Rattle.ng_fire.specs.Blocks.{Firing, body_on, child_run, told_on}
 use Rattle.ng_fire.specs.FiringOf.{child_made, firing}
-use Rattle.ng_fire.specs.Links.{link_at}
 use Rattle.ng_fire.specs.Repeats.{role_for, row_names}
 use Rattle.ng_fire.specs.RepeatsOf.{row_of}
 use Rattle.ng_fire.specs.Serving.{outlet_count, OthersStay, Serves}
@@ -21,13 +21,12 @@ use Rattle.ng_link.specs.Calls.{Place, in_outlet, with_core}
 use Rattle.ng_link.specs.Events.{scope_in}
 use Rattle.ng_link.specs.Instances.{Instances, linked_at}
 use Rattle.ng_link.specs.PlaceOf.{IsFree}
-use Rattle.ng_link.specs.Shape.{linked}
 use Rattle.ng_link.specs.Standing.{IsIn}
-use Rattle.ng_link.specs.State.{State, state_of, templates_of, live_nodes}
+use Rattle.ng_link.specs.State.{State, state_of, templates_of}
 use Rattle.ng_members.specs.Leaves.{Local}
 use Rattle.ng_store.proofs.Sound.{stands_more}
 use Rattle.ng_template.specs.RepeatedOf.{repeated_of}
-use Rattle.ng_template.specs.Kept.{Named, fragment_in}
+use Rattle.ng_template.specs.Kept.{Named, fragment_for}
 use Rattle.ng_fire.proofs.repeats.make_row.Goals as goal
 
 -- what is known of a child that was made
@@ -63,7 +62,7 @@ link_body-requires-clause-scope c =
     (some_is (IsNew w.core.scopes m.core.scopes c.scope_on-scope.result.0 (state_of m).instances) _ c.in-Some.child c.in_ok-child.ensures.free c.in-Some.is).0
 
 pub link_body-requires-clause-template : goal.link_body-requires-clause-template
-link_body-requires-clause-template c = subst (λ (ts : List Named). IsSome (fragment_in ts c.args.spot.now.template.0 c.args.spot.now.body)) (sym c.make_child.ensures.templates) c.requires.spot.body
+link_body-requires-clause-template c = subst (λ (ts : List Named). IsSome (fragment_for ts c.args.spot.now.origin)) (sym c.make_child.ensures.templates) c.requires.spot.body
 
 pub link_body-requires-clause-free : goal.link_body-requires-clause-free
 link_body-requires-clause-free c =
@@ -97,7 +96,7 @@ returns-in-Some-clause-keeps c =
     let holder : List ℕ = spot.holder.now in
     let o : ℕ = spot.outlet in
     let role : Role = role_for (row_of c.args.row.now) in
-    let which : ℕ × ℕ = (spot.template.0, spot.body) in
+    let which : Origin = spot.origin in
     let child : ℕ = c.in-Some.child.0 in
     let s : State = state_of t in
     let g : Firing = firing t c.args.told.now in
@@ -105,9 +104,9 @@ returns-in-Some-clause-keeps c =
     let lt : o < outlet_count holder s.instances = subst (λ (is : Instances). o < outlet_count holder is) (sym same) c.requires.spot.outlet in
     let made = some_is (IsNew w.core.scopes m.core.scopes c.scope_on-scope.result.0 (state_of m).instances) _ c.in-Some.child c.in_ok-child.ensures.free c.in-Some.is in
     let free : linked_at (path_at t.core.scopes child) s.instances ≡ None = subst (λ (x : List Scope). linked_at (path_at x child) s.instances ≡ None) (sym c.tell_row.ensures.scopes) made.2 in
-    let q = there (fragment_in (templates_of t) spot.template.0 spot.body) (subst (λ (ts : List Named). IsSome (fragment_in ts spot.template.0 spot.body)) (sym c.make_child.ensures.templates) c.requires.spot.body) in
-    let one = then_serves holder o c.args.at role which child q.0 s lt free (linked (live_nodes s) q.0.parts) g in
-    let placed = ap (λ (p : Place). linked_then child (linked (live_nodes s) q.0.parts) (link_at p which child q.0 s) g) c.in_ok-place.ensures in
+    let q = there (fragment_for (templates_of t) spot.origin) (subst (λ (ts : List Named). IsSome (fragment_for ts spot.origin)) (sym c.make_child.ensures.templates) c.requires.spot.body) in
+    let one = body_serves holder o c.args.at role which child q.0 s lt free g in
+    let placed = ap (λ (p : Place). body_on p which q.0 child s g) c.in_ok-place.ensures in
     ok_then c.link_body.result c.link_body.ensures.fired
     (λ fired. serves_keeps holder [] (state_of w).instances (state_of v).instances
     (subst (λ (is : Instances). Serves holder [] is (state_of v).instances) same
@@ -123,17 +122,17 @@ returns-in-Some-clause-others c =
     let holder : List ℕ = spot.holder.now in
     let o : ℕ = spot.outlet in
     let role : Role = role_for (row_of c.args.row.now) in
-    let which : ℕ × ℕ = (spot.template.0, spot.body) in
+    let which : Origin = spot.origin in
     let child : ℕ = c.in-Some.child.0 in
     let s : State = state_of t in
     let g : Firing = firing t c.args.told.now in
     let same : s.instances ≡ (state_of w).instances = ap (λ (x : State). x.instances) c.make_child.ensures.state in
     let made = some_is (IsNew w.core.scopes m.core.scopes c.scope_on-scope.result.0 (state_of m).instances) _ c.in-Some.child c.in_ok-child.ensures.free c.in-Some.is in
     let free : linked_at (path_at t.core.scopes child) s.instances ≡ None = subst (λ (x : List Scope). linked_at (path_at x child) s.instances ≡ None) (sym c.tell_row.ensures.scopes) made.2 in
-    let q = there (fragment_in (templates_of t) spot.template.0 spot.body) (subst (λ (ts : List Named). IsSome (fragment_in ts spot.template.0 spot.body)) (sym c.make_child.ensures.templates) c.requires.spot.body) in
-    let one = then_holds holder o c.args.at role which child q.0 s (λ (is : Instances). OthersStay holder s.instances is) (others_same holder s.instances s.instances refl)
-    (λ m. others_come holder o c.args.at role (path_at s.core.scopes child) m s.instances free) (linked (live_nodes s) q.0.parts) g in
-    let placed = ap (λ (p : Place). linked_then child (linked (live_nodes s) q.0.parts) (link_at p which child q.0 s) g) c.in_ok-place.ensures in
+    let q = there (fragment_for (templates_of t) spot.origin) (subst (λ (ts : List Named). IsSome (fragment_for ts spot.origin)) (sym c.make_child.ensures.templates) c.requires.spot.body) in
+    let one = body_holds holder o c.args.at role which child q.0 s (λ (is : Instances). OthersStay holder s.instances is) (others_same holder s.instances s.instances refl)
+    (λ m on. others_come holder o c.args.at role (path_at s.core.scopes child) m s.instances free) g in
+    let placed = ap (λ (p : Place). body_on p which q.0 child s g) c.in_ok-place.ensures in
     ok_then c.link_body.result c.link_body.ensures.fired
     (λ fired. subst (λ (is : Instances). OthersStay holder is (state_of v).instances) same
     (subst (λ (is : Instances). OthersStay holder s.instances is) (sym (ap (λ (x : Firing). x.state.instances) (fired q.0 q.1 ∙ placed))) one))
@@ -148,21 +147,21 @@ returns-in-Some-clause-fired c =
     let spot = c.args.spot.now in
     let holder : List ℕ = spot.holder.now in
     let place : Place = in_outlet holder spot.outlet c.args.at (role_for (row_of c.args.row.now)) in
-    let which : ℕ × ℕ = (spot.template.0, spot.body) in
+    let which : Origin = spot.origin in
     let child : ℕ = c.in-Some.child.0 in
     let scope : ℕ = scope_in (linked_at holder (state_of w).instances) in
     let names : List Local = row_names (repeated_of ground.repeated.now) ground.count c.args.i (item_of c.args.row.now.item) in
     let g : Firing = firing w told in
     let s : State = state_of t in
-    let q = there (fragment_in (templates_of t) spot.template.0 spot.body) (subst (λ (ts : List Named). IsSome (fragment_in ts spot.template.0 spot.body)) (sym c.make_child.ensures.templates) c.requires.spot.body) in
-    let known : fragment_in (templates_of w) spot.template.0 spot.body ≡ Some q.0 = ap (λ (ts : List Named). fragment_in ts spot.template.0 spot.body) (sym c.make_child.ensures.templates) ∙ q.1 in
+    let q = there (fragment_for (templates_of t) spot.origin) (subst (λ (ts : List Named). IsSome (fragment_for ts spot.origin)) (sym c.make_child.ensures.templates) c.requires.spot.body) in
+    let known : fragment_for (templates_of w) spot.origin ≡ Some q.0 = ap (λ (ts : List Named). fragment_for ts spot.origin) (sym c.make_child.ensures.templates) ∙ q.1 in
     let made : child_run scope (state_of w).core ≡ ((state_of m).core, Ok child) =
     sym (ap (λ (n : ℕ). child_run n (state_of w).core) c.scope_on-scope.ensures) ∙ (c.in_ok-child.ensures.run ∙ ap (λ (x : Option ScopeId). child_made x (state_of m).core) c.in-Some.is) in
     let state : s ≡ with_core (told_on child names (state_of m).core) (state_of w) =
     ap (λ (k : act.State). with_core k (state_of m)) c.in_ok-tell_row-in-Some.ensures.told ∙ ap (with_core (told_on child names (state_of m).core)) c.make_child.ensures.state in
     ok_then c.link_body.result c.link_body.ensures.fired
     (λ fired. fired q.0 q.1
-    ∙ (ap (λ (p : Place). linked_then child (linked (live_nodes s) q.0.parts) (link_at p which child q.0 s) (firing t told)) c.in_ok-place.ensures
-    ∙ (then_same child (linked (live_nodes s) q.0.parts) (link_at place which child q.0 s) s (state_of w) told.faulted told.added
-    ∙ (ap (λ (x : State). linked_then child (linked (live_nodes x) q.0.parts) (link_at place which child q.0 x) g) state
+    ∙ (ap (λ (p : Place). body_on p which q.0 child s (firing t told)) c.in_ok-place.ensures
+    ∙ (body_same place which q.0 child s s (state_of w) told.faulted told.added
+    ∙ (ap (λ (x : State). body_on place which q.0 child x g) state
     ∙ sym (filled_on place scope names which g (state_of m).core child q.0 made known)))))

@@ -86,7 +86,7 @@ instance_on-returns t c =
     let many : map (seen_group (fragments_in (templates_of w))) c.in_ok-outlets.outlets.items ≡ read_groups l.page.outlets =
     c.in_ok-outlets.ensures ∙ ap (λ (os : List code_outlet.OutletState). read_groups (map outlet_of os)) c.as_slice.ensures.value in
     let outlets : List Group = map (seen_group (fragments_in (templates_of w))) c.in_ok-outlets.outlets.items in
-    instance_made (fragments_in (templates_of w)) (record { template = i.template; fragment = i.fragment; scope = i.scope; sites = c.in_ok-sites.sites; outlets = c.in_ok-outlets.outlets })
+    instance_made (fragments_in (templates_of w)) (record { origin = i.origin; scope = i.scope; sites = c.in_ok-sites.sites; outlets = c.in_ok-outlets.outlets })
     ∙ (ap (λ (xs : List SiteState). instance_with l.fragment l.page.scope xs (outlets_from outlets)) c.in_ok-sites.ensures
     ∙ (ap (λ (os : List Group). instance_with l.fragment l.page.scope (site_states s.watchers s.resting l.page) (outlets_from os)) many ∙ sym read))
 

@@ -1,14 +1,16 @@
-use Rattle.std.proofs.Common.{◌≡◌, ◌∙◌, ◌<◌, ap, sym, subst, length, arith}
+use Rattle.std.proofs.Common.{◌≡◌, ◌∙◌, ◌<◌, ◌++◌, List, ap, sym, subst, length, length-append, arith}
 use Rattle.ng_core.specs.Frames as cores
 use Rattle.ng_core.specs.Frames.{IsSound}
 use Rattle.ng_core.specs.declared.core_state.Core.{Core}
 use Rattle.ng_app.specs.AppOf.{facts}
+use Rattle.ng_app.specs.Templates.{all_named}
 use Rattle.ng_fire.specs.Runs.{program_run}
 use Rattle.ng_fire.specs.Whole.{IsWhole}
 use Rattle.ng_link.specs.State.{State}
 use Rattle.ng_link.specs.declared.works.Works.{Works}
 use Rattle.ng_parse.specs.ProgramOf.{program}
-use Rattle.ng_template.specs.Kept.{templates_of as kept_templates}
+use Rattle.ng_template.specs.Kept.{Named, templates_of as kept_templates}
+use Rattle.ng_page.specs.Opening.{templates_for}
 use Rattle.ng_page.proofs.Prepared.{whole_new, prepared_by}
 use Rattle.ng_page.proofs.Ran.{whole_ran}
 use Rattle.ng_page.proofs.StepsStay.{program_stays}
@@ -23,7 +25,7 @@ follow-requires c =
     let sound : IsSound v.core = subst (λ (x : Core). IsSound x) (sym same) c.in_ok-core.ensures.sound in
     let idle : v.core.depth ≡ 0 = ap (λ (x : Core). x.depth) same ∙ c.in_ok-core.ensures.depth in
     let root : 0 < length v.core.scopes = subst (λ (x : Core). 0 < length x.scopes) (sym same) (omega (arith, one)) in
-    let whole : IsWhole v = whole_new v (kept_templates c.args.templates) (cores.state_of k) c.new-works.ensures.state sound idle root c.new-works.ensures.stands in
+    let whole : IsWhole v = whole_new v (kept_templates c.begin.new.templates) (cores.state_of k) c.new-works.ensures.state sound idle root c.new-works.ensures.stands in
     let s = cores.state_of v.core in
     let p = program c.in_ok-core.run' in
     let e = c.run_program-end.ensures in
@@ -33,17 +35,23 @@ pub returns-clause-state : goal.returns-clause-state
 returns-clause-state c = λ u only.
     let v : Works = c.new-works.result in
     let p = program c.in_ok-core.run' in
-    prepared_by u (facts c.args.app) v c.follow.new.works (kept_templates c.args.templates) p (cores.state_of c.in_ok-core.core) c.new-works.ensures.state only c.in_ok-core.ensures.state c.in_ok-core.ensures.run
+    let all : kept_templates c.begin.new.templates ≡ templates_for u (facts c.args.app) =
+    c.in_ok-core.ensures.templates ∙ ap (λ (ts : List Named). ts ++ all_named (facts c.args.app).templates) only in
+    prepared_by u (facts c.args.app) v c.follow.new.works (kept_templates c.begin.new.templates) p (cores.state_of c.in_ok-core.core) c.new-works.ensures.state all c.in_ok-core.ensures.state c.in_ok-core.ensures.run
     (c.in_ok-follow.ensures.state (program_run 0 p (cores.state_of v.core)) c.run_program-end.ensures.run).0
 
 pub returns-clause-works : goal.returns-clause-works
-returns-clause-works c = record {
-  whole = c.in_ok-follow.ensures.whole;
-  templates = subst (λ ts. 0 < length ts) (sym (c.follow.ensures.templates ∙ c.new-works.ensures.templates)) c.requires;
-}
+returns-clause-works c =
+    let old = kept_templates c.args.templates in
+    let more = all_named (facts c.args.app).templates in
+    let some : 0 < length (old ++ more) = let first = c.requires in omega (arith, first, length-append old more) in
+    record {
+      whole = c.in_ok-follow.ensures.whole;
+      templates = subst (λ ts. 0 < length ts) (sym (c.follow.ensures.templates ∙ (c.new-works.ensures.templates ∙ c.in_ok-core.ensures.templates))) some;
+    }
 
 pub returns-clause-bare : goal.returns-clause-bare
 returns-clause-bare c = c.in_ok-follow.ensures.linked ∙ ap (λ (s : State). s.instances) c.new-works.ensures.state
 
 pub returns-clause-templates : goal.returns-clause-templates
-returns-clause-templates c = c.follow.ensures.templates ∙ c.new-works.ensures.templates
+returns-clause-templates c = c.follow.ensures.templates ∙ (c.new-works.ensures.templates ∙ c.in_ok-core.ensures.templates)

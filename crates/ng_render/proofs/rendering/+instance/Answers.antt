@@ -6,12 +6,13 @@ use Rattle.ng_drawing.specs.Drawing.{followed_by, shown_as}
 use Rattle.ng_drawing.specs.Instance.{instances_from, outlets_from, instance_now, outlet_at, rendering, rendering_all, rendering_in}
 use Rattle.ng_drawing.specs.RolesOf.{role_of}
 use Rattle.ng_drawing.specs.InstanceOf.{state_of, instance_of, group_of as bodies_of, instances_of}
-use Rattle.ng_drawing.specs.Template.{no_fragment}
+use Rattle.ng_drawing.specs.Template.{Fragment, no_fragment}
 use Rattle.ng_html.specs.Seen.{forest_of}
 use Rattle.ng_template.specs.FragmentOf.{fragment_of, outlets_of}
 use Rattle.ng_template.specs.Kept.{templates_of, fragments_in}
 use Rattle.ng_template.specs.Seen.{parts_of}
 use Rattle.ng_template.specs.SiteOf.{site_of}
+use Rattle.ng_template.specs.WholeOf.{whole_of}
 use Rattle.ng_render.specs.OverOf.{group_of, now_over, NamesStand, InstancesStand, OutletsStand}
 use Rattle.ng_render.proofs.Walks.{behind, bodies_list, bodies_walk, walk_turn, walk_unfit, walk_faulted, walk_last, body_stands, bodies_stand, gives_err}
 use Rattle.ng_render.proofs.Bodies.{size_all, size_in, no_fragments, size_out, size_within, sizes_within, instances_out, roles_out, instance_is, sites_stand, filled_by, filled_turn}
@@ -91,8 +92,11 @@ rendered_instance-returns t c =
     let groups = ap (map group_of) c.as_slice-3.ensures.value
     ∙ (c.in_ok-groups.ensures.groups
     ∙ ap (λ xs. rendering_in ground.store.now ground.scopes.now (instance_now ground.store.now ground.scopes.now sites states) states (cases_of os) os (outlets_from (map (bodies_of all) xs))) c.as_slice-2.ensures.value) in
-    let is = instance_is ground.store.now ground.scopes.now all c.args.i.now (fragment_of c.in-Some.fragment.now) sites states os (map group_of c.as_slice-3.result.now) (parts_of c.parts.result.now)
-    (ap (λ o. unwrap_or o no_fragment) (sym c.in-Some.ensures)) c.sites.ensures (ap (map state_of) c.as_slice.ensures.value) c.outlets.ensures groups c.parts.ensures in
+    let f : Fragment = whole_of c.in-Some.whole in
+    let of : fragment_of c.fragment-fragment.result.now ≡ f = c.fragment-fragment.ensures in
+    let is = instance_is ground.store.now ground.scopes.now all c.args.i.now f sites states os (map group_of c.as_slice-3.result.now) (parts_of c.parts.result.now)
+    (ap (λ o. unwrap_or o no_fragment) (sym c.in_ok-whole.ensures.fragment ∙ ap (option_map whole_of) c.in-Some.is))
+    (c.sites.ensures ∙ ap (λ (g : Fragment). g.sites) of) (ap (map state_of) c.as_slice.ensures.value) (c.outlets.ensures ∙ ap (λ (g : Fragment). g.outlets) of) groups (c.parts.ensures ∙ ap (λ (g : Fragment). g.parts) of) in
     rw is c.rendered.ensures
 
 pub rendered_outlets-rendered_all-requires : goal.rendered_outlets-rendered_all-requires

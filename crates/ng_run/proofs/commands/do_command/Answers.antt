@@ -9,7 +9,7 @@ use Rattle.ng_run.specs.Performed.{PerformedAct, IsStepOf}
 use Rattle.ng_run.specs.ReplyOf.{told_lines}
 use Rattle.ng_run.specs.Steps.{idle_step, aimless_step, step_of}
 use Rattle.ng_run.proofs.Answering.{if_ok}
-use Rattle.ng_run.proofs.Performing.{aimless_does, idle_does, outcome_does, outcomes_does, after_outcome, after_outcomes}
+use Rattle.ng_run.proofs.Performing.{aimless_does, idle_does, outcome_does, outcomes_does}
 use Rattle.ng_run.proofs.commands.do_command.Goals as goal
 
 pub returns-in_ok-aimless-in-Aimless : goal.returns-in_ok-aimless-in-Aimless

@@ -1,9 +1,9 @@
-use Rattle.std.proofs.Common.{◌≡◌, ◌-◌, ◌∙◌, true, false, not, Err, ap, sym, arith}
+use Rattle.std.proofs.Common.{◌≡◌, ◌-◌, ◌∙◌, true, false, not, Ok, Err, ap, sym, arith}
 use Rattle.ng_html.specs.Seen.{node_of}
-use Rattle.ng_template.specs.Around.{at_place, block_priority, found_after, around_node}
+use Rattle.ng_template.specs.Around.{Inside, at_place, block_priority, found_after, around_node}
 use Rattle.ng_template.specs.AroundOf.{found_of, around_of}
 use Rattle.ng_template.specs.Manners.{are_built, any_makes_plain}
-use Rattle.ng_template.proofs.Blocks.{gives_err, picks-refused, later-stage, heads-stage, last-found, block-stage}
+use Rattle.ng_template.proofs.Blocks.{gives_err, around_with, picks-refused, plain-stage, later-stage, last-stage, heads-stage, last-found, block-stage}
 use Rattle.ng_template.proofs.around.find_blocks.Goals as goal
 
 pub returns-in_err-picked : goal.returns-in_err-picked
@@ -40,8 +40,20 @@ returns-then-is_none c =
     let built : are_built ps ≡ true = ap are_built (sym c.as_slice-in-loop-room.ensures.value) ∙ sym c.if-not-are_built.ensures in
     let block = c.block_priority-below.ensures ∙ ap block_priority c.as_slice-in-loop-room-2.ensures.value in
     sym c.loop-room.invariant
-    ∙ last-found c.args.place c.args.r.now (node_of c.args.e.now) (found_of c.loop-room.found) c.loop-room.has_switch c.loop-room.room (c.loop-room.room - 1) c.loop-room.limit (omega arith) ps c.in_ok-picked.ensures plain built
+    ∙ (last-found c.args.place c.args.r.now (node_of c.args.e.now) (found_of c.loop-room.found) c.loop-room.has_switch c.loop-room.room (c.loop-room.room - 1) c.loop-room.limit (omega arith) ps c.in_ok-picked.ensures plain built
     c.block_priority-below.result block (ap not c.if-is_none.ensures)
+    ∙ ap (λ (i : Inside). Ok (around_with (found_of c.loop-room.found) i)) (sym c.inside_in-inside.ensures))
+
+pub returns-then-any_makes_plain : goal.returns-then-any_makes_plain
+returns-then-any_makes_plain c =
+    let ps = c.in_ok-picked.picked.items in
+    let plain : any_makes_plain ps ≡ true = ap any_makes_plain (sym c.as_slice.ensures.value) ∙ sym c.if-any_makes_plain.ensures in
+    sym c.loop-room.invariant
+    ∙ plain-stage c.args.place c.args.r.now (node_of c.args.e.now) (found_of c.loop-room.found) c.loop-room.has_switch c.loop-room.room (c.loop-room.room - 1) c.loop-room.limit (omega arith) ps c.in_ok-picked.ensures plain
+
+pub returns : goal.returns
+returns c =
+    sym c.loop-room.invariant ∙ last-stage c.args.place c.args.r.now (node_of c.args.e.now) (found_of c.loop-room.found) c.loop-room.has_switch c.loop-room.room c.loop-room.limit (omega arith)
 
 pub loop-room-preserved : goal.loop-room-preserved
 loop-room-preserved c =

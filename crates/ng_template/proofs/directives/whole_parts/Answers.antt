@@ -7,4 +7,4 @@ use Rattle.ng_template.proofs.directives.whole_parts.Goals as goal
 pub returns-clause-parts : goal.returns-clause-parts
 returns-clause-parts c =
     c.judged_parts.ensures.parts (whole (text_on c.args.pick.now.attribute))
-    (subst (λ t. Gives is_free (λ v. map piece_of v.items) (whole t) c.read_whole.result) c.in_ok-text.ensures c.read_whole.ensures)
+    (subst (λ t. Gives is_free (λ v. map piece_of v.items) (whole t) c.read_whole.result) c.in_ok-text.ensures c.read_whole.ensures.parts)

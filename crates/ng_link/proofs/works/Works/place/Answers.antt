@@ -8,7 +8,8 @@ use Rattle.ng_dom.specs.Document.{next_name}
 use Rattle.ng_dom.specs.Drawing.{shows}
 use Rattle.ng_drawing.specs.Nodes.{nodes}
 use Rattle.ng_drawing.specs.Template.{Fragment}
-use Rattle.ng_template.specs.Kept.{fragment_in}
+use Rattle.ng_drawing.specs.declared.origin.Origin.{Origin}
+use Rattle.ng_template.specs.Kept.{fragment_for}
 use Rattle.ng_link.specs.Building.{IsStood}
 use Rattle.ng_link.specs.Calls.{Place, linked_on, taken_in, placed_under}
 use Rattle.ng_link.specs.PlaceOf.{place_of, IsFree}
@@ -50,7 +51,7 @@ returns-clause-state c = λ f known.
     let os = c.note.new.self.owners in
     let one : code.Linked = c.in_ok-one.one in
     let place : Place = place_of c.args.place.now in
-    let which : ℕ × ℕ = (c.args.t.0, c.args.n) in
+    let which : Origin = c.args.origin in
     let scope = c.args.scope.0 in
     let path : List ℕ = c.in_ok-path.path in
     let serials : List ℕ = c.args.serials.now in
@@ -78,13 +79,13 @@ returns-clause-stands c =
     let os = c.note.new.self.owners in
     let one : code.Linked = c.in_ok-one.one in
     let place : Place = place_of c.args.place.now in
-    let which : ℕ × ℕ = (c.args.t.0, c.args.n) in
+    let which : Origin = c.args.origin in
     let scope = c.args.scope.0 in
     let path : List ℕ = c.in_ok-path.path in
     let serials : List ℕ = c.args.serials.now in
-    let there = fragment_found (fragment_in all c.args.t.0 c.args.n) c.requires.template in
+    let there = fragment_found (fragment_for all which) c.requires.template in
     let f : Fragment = there.0 in
-    let known : fragment_in all c.args.t.0 c.args.n ≡ Some f = there.1 in
+    let known : fragment_for all which ≡ Some f = there.1 in
     let p = c.in_ok-one.ensures.built f known in
     let m = next_name w.dom in
     let rest : built ≡ record w { dom = built.dom; watchers = built.watchers } = c.build.ensures.rest in

@@ -1,6 +1,0 @@
-use Rattle.std.proofs.Common.{◌≡◌, ◌++◌, drop, map}
-use Rattle.ng_template.specs.Around.{worded}
-use Rattle.ng_template.proofs.around.all_worded.Given as goal
-
-abbrev pub invariant-loop-p : goal.invariant-loop-p
-invariant-loop-p l = l.all.items ++ map (worded l.attrs) (drop l.p-index l.picks) ≡ map (worded l.attrs) l.picks
