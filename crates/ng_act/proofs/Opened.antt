@@ -1,23 +1,19 @@
 -- What is opened, as the code goes through it.
-use Rattle.std.proofs.Common.{◌≡◌, ◌<◌, ◌≤◌, ◌+◌, ◌-◌, ℕ, zero, suc, Bool, true, false, List, [], ◌∷◌, Option, Some, None, Result, Ok, Err, refl, ap, sym, ◌∙◌, subst, arith}
-use Rattle.std.specs.Prelude.{nat_lt, codes}
-use Rattle.ng_base.specs.Faults.{is_memory}
+use Rattle.std.proofs.Common.{◌≡◌, ◌<◌, ◌≤◌, ◌+◌, ◌-◌, ℕ, suc, true, List, ◌∷◌, Result, Ok, Err, refl, ap, sym, ◌∙◌, subst, arith}
+use Rattle.std.specs.Prelude.{nat_lt}
 use Rattle.ng_base.specs.ViewOf.{view_of}
-use Rattle.ng_base.specs.Views.{ViewTree}
 use Rattle.ng_base.specs.declared.fault.Fault.{Fault}
-use Rattle.ng_base.specs.declared.fault.Fault.TheVariants.{Depth, CallLimit}
 use Rattle.ng_base.specs.declared.view.View.{View}
 use Rattle.ng_behaviour.specs.Listeners.{place_of}
 use Rattle.ng_events.specs.Stands.{Table, Begins, lists_of}
 use Rattle.ng_events.specs.declared.stands.EventWalk.{EventWalk}
 use Rattle.ng_language.specs.Trees.{Trees}
 use Rattle.ng_members.specs.Leaves.{Local}
-use Rattle.ng_core.specs.Burying.{many}
-use Rattle.ng_core.specs.Events.{Event, announced, finished}
-use Rattle.ng_act.specs.Asked.{Doing, Asked, a_body, an_emit, a_broadcast}
+use Rattle.ng_core.specs.Events.{Event}
+use Rattle.ng_act.specs.Asked.{Asked, a_body}
 use Rattle.ng_act.specs.Expressions.{programmed}
-use Rattle.ng_act.specs.Emitting.{rises, sweeps, visits, visited}
-use Rattle.ng_act.specs.Actions.{emitted, broadcasted, body_run, done, does}
+use Rattle.ng_act.specs.Emitting.{visited}
+use Rattle.ng_act.specs.Actions.{done, does}
 use Rattle.ng_core.specs.Frames.{Acts}
 use Rattle.ng_core.specs.State.{State, Run, with_locals, with_body}
 use Rattle.ng_act.specs.Turns.{walk_turns}
@@ -36,11 +32,6 @@ opened_does d d1 a s h e =
     let q : 64 - d ≡ suc (64 - d1) = omega arith in
     ap (λ (n : ℕ). does n a s) q
 
-pub full_does : (d : ℕ) (a : Asked) (s : State) → 64 ≤ d → does (64 - d) a s ≡ (s, Err Depth)
-full_does d a s h =
-    let q : 64 - d ≡ 0 = omega arith in
-    ap (λ (n : ℕ). does n a s) q
-
 pub event_acts : (r : Result View Fault) (d d1 : ℕ) (a : Asked) (s s1 s2 s3 : State) → d < 64 → d1 ≡ d + 1 → s1 ≡ s → s3 ≡ s2 → Acts view_of r s2 (done (does (64 - d1)) a s1) → Acts view_of r s3 (does (64 - d) a s)
 event_acts r d d1 a s s1 s2 s3 h hd e1 e3 run =
     acts_left view_of r s2 s3 (does (64 - d) a s) e3
@@ -54,19 +45,6 @@ body_acts (Err f) d d1 sc ls p s s1 s2 s3 h hd hn e1 e3 run =
     λ m.
     let ran : programmed (does (64 - d1)) sc p (with_locals ls (with_body s)) ≡ (s2, Err f) = subst (λ t. programmed (does (64 - d1)) sc p t ≡ (s2, Err f)) e1 (run m) in
     opened_does d d1 (a_body sc ls p) s h hd ∙ rw (hn, ran, e3) refl
-
-pub body_limit : (d sc : ℕ) (ls : List Local) (p : Trees) (s : State) → d < 64 → nat_lt s.entered 100000 ≡ false → does (64 - d) (a_body sc ls p) s ≡ (s, Err CallLimit)
-body_limit d sc ls p s h hn = opened_does d (d + 1) (a_body sc ls p) s h refl ∙ rw hn refl
-
-pub emitted_acts : (r : Result View Fault) (d0 d1 sc : ℕ) (name : List ℕ) (args : List ViewTree) (s s1 s2 s3 : State) (e : Event) → d1 ≡ d0 → announced sc name args s ≡ (s1, Ok e) → s2 ≡ rises (many s1) (does (64 - d1)) e (Some sc) s1 → Acts view_of r s3 (finished e s2) → Acts view_of r s3 (emitted (does (64 - d0)) sc name args s)
-emitted_acts r d0 d1 sc name args s s1 s2 s3 e ed ann run fin =
-    let ran : s2 ≡ rises (many s1) (does (64 - d0)) e (Some sc) s1 = subst (λ d. s2 ≡ rises (many s1) (does (64 - d)) e (Some sc) s1) ed run in
-    acts_as view_of r s3 (finished e s2) (emitted (does (64 - d0)) sc name args s) (rw (ann, ran) refl) fin
-
-pub broadcasted_acts : (r : Result View Fault) (d0 d1 sc : ℕ) (name : List ℕ) (args : List ViewTree) (s s1 s2 s3 : State) (e : Event) → d1 ≡ d0 → announced sc name args s ≡ (s1, Ok e) → s2 ≡ sweeps (many s1) (does (64 - d1)) e sc sc (visits (does (64 - d1)) e sc s1) → Acts view_of r s3 (finished e s2) → Acts view_of r s3 (broadcasted (does (64 - d0)) sc name args s)
-broadcasted_acts r d0 d1 sc name args s s1 s2 s3 e ed ann run fin =
-    let ran : s2 ≡ sweeps (many s1) (does (64 - d0)) e sc sc (visits (does (64 - d0)) e sc s1) = subst (λ d. s2 ≡ sweeps (many s1) (does (64 - d)) e sc sc (visits (does (64 - d)) e sc s1)) ed run in
-    acts_as view_of r s3 (finished e s2) (broadcasted (does (64 - d0)) sc name args s) (rw (ann, ran) refl) fin
 
 -- the listeners of a scope have had their turns
 pub heard_run : (d0 d1 : ℕ) (e : Event) (sc : ℕ) (t u : Table) (n : List ℕ) (w : EventWalk) (s s1 s2 s3 : State) → d1 ≡ d0 → Begins t sc n w u → s.heard ≡ lists_of t → s1 ≡ s → s2 ≡ walk_turns (does (64 - d1)) e sc u w s1 → s3 ≡ s2 → s3 ≡ visited (does (64 - d0)) e sc (place_of s.heard sc n) s

@@ -1,5 +1,5 @@
 -- Each step of the loops over expressions and scopes.
-use Rattle.std.proofs.Common.{◌≡◌, ◌<◌, ◌≤◌, ◌+◌, ◌-◌, ℕ, zero, suc, true, false, List, [], ◌∷◌, ◌++◌, length, map, drop, get_or, Option, Some, None, Ok, refl, ap, sym, ◌∙◌, arith, add-one, subst, bytes_eq, max}
+use Rattle.std.proofs.Common.{◌≡◌, ◌<◌, ◌≤◌, ◌+◌, ◌-◌, ℕ, zero, suc, true, false, List, [], ◌∷◌, ◌++◌, length, map, drop, get_or, Option, Some, Ok, refl, ap, sym, ◌∙◌, arith, add-one, subst, bytes_eq, max}
 use Rattle.indexmap.specs.IndexMap.{insert_entry}
 use Rattle.ng_base.specs.Views.{ViewTree}
 use Rattle.ng_language.specs.Heights.{height, heights, pair_height, pair_heights}
@@ -9,10 +9,8 @@ use Rattle.ng_parse.specs.declared.tree.Expr.{Expr}
 use Rattle.ng_parse.specs.declared.tree.Pair.{Pair}
 use Rattle.ng_members.specs.Leaves.{Field}
 use Rattle.ng_behaviour.specs.Scopes.{parent_at, path_at, next_scope}
-use Rattle.ng_core.specs.Burying.{hushes, hushed}
 use Rattle.ng_core.specs.Events.{Event}
-use Rattle.ng_act.specs.Asked.{Doing}
-use Rattle.ng_act.specs.Expressions.{acted, acted_all, acted_pair, acted_pairs, statements}
+use Rattle.ng_act.specs.Expressions.{acted, acted_all, acted_pair, acted_pairs}
 use Rattle.ng_act.specs.Emitting.{rises, sweeps, visits}
 use Rattle.ng_act.specs.Actions.{does}
 use Rattle.ng_core.specs.State.{State, Run, is_stopped}
@@ -48,14 +46,6 @@ all_kept d0 d sc i ps p done v s t x h e ed run inv =
     let step : acted_all (does (64 - d0)) sc done (trees_from (map tree (drop i ps))) s ≡ acted_all (does (64 - d0)) sc (done ++ v ∷ []) (trees_from (map tree (drop (suc i) ps))) t = rw (drop_expr ps i p h e, r) refl in
     rw add-one (sym step ∙ inv)
 
-pub statement_kept : (d0 d sc i : ℕ) (ps : List Expr) (p : Expr) (w v : ViewTree) (s t : State) (x : Run ViewTree) → i < length ps → p ≡ get_or ps i p → d ≡ d0
-    → acted (does (64 - d)) sc (tree p) s ≡ (t, Ok v)
-    → statements (does (64 - d0)) sc w (trees_from (map tree (drop i ps))) s ≡ x → statements (does (64 - d0)) sc v (trees_from (map tree (drop (i + 1) ps))) t ≡ x
-statement_kept d0 d sc i ps p w v s t x h e ed run inv =
-    let r : acted (does (64 - d0)) sc (tree p) s ≡ (t, Ok v) = subst (λ k. acted (does (64 - k)) sc (tree p) s ≡ (t, Ok v)) ed run in
-    let step : statements (does (64 - d0)) sc w (trees_from (map tree (drop i ps))) s ≡ statements (does (64 - d0)) sc v (trees_from (map tree (drop (suc i) ps))) t = rw (drop_expr ps i p h e, r) refl in
-    rw add-one (sym step ∙ inv)
-
 pub pairs_kept : (d0 d sc i : ℕ) (ps : List Pair) (p : Pair) (done : List Field) (f : Field) (s t : State) (x : Run (List Field)) → i < length ps → p ≡ get_or ps i p → d ≡ d0
     → acted_pair (does (64 - d)) sc (pair_tree p) s ≡ (t, Ok f)
     → acted_pairs (does (64 - d0)) sc done (pairs_from (map pair_tree (drop i ps))) s ≡ x → acted_pairs (does (64 - d0)) sc (insert_entry bytes_eq done f.0 f.1) (pairs_from (map pair_tree (drop (i + 1) ps))) t ≡ x
@@ -83,22 +73,4 @@ pub sweep_step : (d0 d a b top last at : ℕ) (e : Event) (s t x : State) → a 
 sweep_step d0 d a b top last at e s t x ea eo ed run inv =
     let r : t ≡ visits (does (64 - d0)) e at s = subst (λ k. t ≡ visits (does (64 - k)) e at s) ed run in
     let step : sweeps a (does (64 - d0)) e top last s ≡ sweeps b (does (64 - d0)) e top at t = rw (ea, eo, sym r) refl in
-    sym step ∙ inv
-
--- above the root no scope is reached, and after the last one none
-pub rise_none : (k : ℕ) (go : Doing) (e : Event) (s : State) → rises k go e None s ≡ s
-rise_none zero go e s = refl
-rise_none (suc k) go e s = refl
-
-pub sweep_none : (k : ℕ) (go : Doing) (e : Event) (top last : ℕ) (s : State) → next_scope s.scopes (path_at s.scopes last) (path_at s.scopes top) ≡ None → sweeps k go e top last s ≡ s
-sweep_none zero go e top last s h = refl
-sweep_none (suc k) go e top last s h = rw h refl
-
-pub hush_none : (k top last : ℕ) (s : State) → next_scope s.scopes (path_at s.scopes last) (path_at s.scopes top) ≡ None → hushes k top last s ≡ s
-hush_none zero top last s h = refl
-hush_none (suc k) top last s h = rw h refl
-
-pub hush_step : (a b top last at : ℕ) (s t x : State) → a ≡ suc b → next_scope s.scopes (path_at s.scopes last) (path_at s.scopes top) ≡ Some at → t ≡ hushed at s → hushes a top last s ≡ x → hushes b top at t ≡ x
-hush_step a b top last at s t x ea eo run inv =
-    let step : hushes a top last s ≡ hushes b top at t = rw (ea, eo, run) refl in
     sym step ∙ inv

@@ -2,7 +2,7 @@
 use Rattle.std.proofs.Common.{ℕ, ◌<◌, ◌≡◌, true, false, List, [], ◌∷◌, ◌++◌, refl, ap, sym, ◌∙◌, arith, inl, inr, ◌⊎◌}
 use Rattle.std.specs.Ordering.{is_gt, nat_cmp, ordering_then}
 use Rattle.std.specs.declared.cmp.Ordering.{Ordering}
-use Rattle.std.specs.declared.cmp.Ordering.TheVariants.{Less, Equal, Greater}
+use Rattle.std.specs.declared.cmp.Ordering.TheVariants.{Equal, Greater}
 use Rattle.std.specs.Cmp.{nat_cmp_is}
 use Rattle.std.proofs.lemmas.Bool.Decides.{eqb_tells}
 use Rattle.ng_base.specs.Order.{path_cmp}
@@ -44,9 +44,6 @@ begins-before (u ∷ us) (p ∷ ps) k h =
 
 then-equal : (u q : ℕ) (r : Ordering) → u ≡ q → ordering_then (nat_cmp u q) r ≡ r
 then-equal u q r e = rw (← nat_cmp_is u q Equal e) refl
-
-then-less : (u q : ℕ) (r : Ordering) → u < q → ordering_then (nat_cmp u q) r ≡ Less
-then-less u q r e = rw (← nat_cmp_is u q Less e) refl
 
 then-greater : (u q : ℕ) (r : Ordering) → q < u → ordering_then (nat_cmp u q) r ≡ Greater
 then-greater u q r e = rw (← nat_cmp_is u q Greater e) refl

@@ -8,7 +8,6 @@ use Rattle.ng_dom.specs.Lists.{put_at}
 use Rattle.ng_dom.specs.Nodes.{NamedNode, NamedForest, NamedGroups, named_text, named_comment, named_element, named_anchor, nothing_named, named_then, no_groups, group_then, name_of, names_of}
 use Rattle.ng_dom.specs.Editing.{changed_in, node_inserted, with_kids}
 use Rattle.ng_dom.specs.Rooms.{Shape, Room, Rooms, shape_of, room_of, IsAfter, HasRoom, ReadsInside, ReadsIn, ReadsGroups, room_changed, room_added, shape_with_kids}
-use Rattle.ng_dom.specs.Removal.{room_gone}
 use Rattle.ng_dom.specs.Kept.{rooms_of, room_kept}
 use Rattle.ng_dom.specs.Asked.{is_element_room}
 use Rattle.ng_dom.specs.Making.{new_node, new_part}
@@ -169,11 +168,3 @@ element_shape_room (Some x) e = refl
 -- an element is live
 pub element_lives : (nodes : Runs) (n : ℕ) → is_element_room (rooms_of nodes n) ≡ true → IsSome (rooms_of nodes n)
 element_lives nodes n e = element_shape_room (rooms_of nodes n) e
-
--- a node that was made and is taken again leaves the table as it was
-pub taken_again : (r s t : Rooms) (k : ℕ) (x : Room) → r k ≡ None → ((q : ℕ) → s q ≡ room_added k x r q) → ((q : ℕ) → t q ≡ room_gone k s q) → (q : ℕ) → t q ≡ r q
-taken_again r s t k x free added gone q = by_test (q == k) refl
-  where
-    by_test : (b : Bool) → (q == k) ≡ b → t q ≡ r q
-    by_test true e = gone q ∙ rw e (sym (ap r (eqb-true q k e) ∙ free))
-    by_test false e = gone q ∙ rw e (added q ∙ rw e refl)

@@ -103,13 +103,6 @@ found_at n i [] d h e = absurd (omega arith)
 found_at n zero (k ∷ ks) d h e = (rw (eq-eqb k n e) refl, rw (eq-eqb k n e) refl)
 found_at n (suc i) (k ∷ ks) d h e = let r = found_at n i ks d (omega arith) e in (r.0, ap (λ (ns : List ℕ). k ∷ ns) r.1)
 
--- it isn't at i
-pub passed_at : (n i : ℕ) (ks : List ℕ) (d : ℕ) → i < length ks → (get_or ks i d == n) ≡ false
-    → (among n (drop (suc i) ks) ≡ among n (drop i ks)) × (take (suc i) ks ++ without_first n (drop (suc i) ks) ≡ take i ks ++ without_first n (drop i ks))
-passed_at n i [] d h e = absurd (omega arith)
-passed_at n zero (k ∷ ks) d h e = (rw e refl, rw e refl)
-passed_at n (suc i) (k ∷ ks) d h e = let r = passed_at n i ks d (omega arith) e in (r.0, ap (λ (ns : List ℕ). k ∷ ns) r.1)
-
 absent_by : (b : Bool) (n k : ℕ) (ks : List ℕ) → (among n ks ≡ false → without_first n ks ≡ ks) → cond b true (among n ks) ≡ false → cond b ks (k ∷ without_first n ks) ≡ k ∷ ks
 absent_by true n k ks h e = absurd (cc)
 absent_by false n k ks h e = ap (λ (ns : List ℕ). k ∷ ns) (h e)

@@ -127,11 +127,6 @@ row_within rs i j r h g = some_within r.1 j (subst (λ o. IsSome (row_in o j)) g
 pub row_read : (rs : Runs) (i j : ℕ) (r : ℕ × Rows) → slice_get rs i ≡ Some r → row_at rs i j ≡ slice_get r.1 j
 row_read rs i j r g = ap (λ o. row_in o j) g
 
--- a place with a name has a row
-pub named_some : (o : Option (ℕ × Record)) (n : ℕ) → name_in o ≡ Some n → IsSome o
-named_some None n h = absurd (cc)
-named_some (Some e) n h = refl
-
 pub on_ok : {T E : Type 0} {P Q : Type 0} (r : Result T E) → (P → Q) → OnOk r P → OnOk r Q
 on_ok (Ok x) f p = f p
 on_ok (Err e) f p = tt

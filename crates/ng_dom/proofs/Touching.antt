@@ -84,14 +84,6 @@ rooms_less nodes news n is q = ap (option_map room_kept) (is q) ∙ by_test (q =
     by_test true o = refl
     by_test false o = refl
 
--- each name from the next one on is free
-pub free_from : (nodes : Runs) (next : ℕ) → ((q : ℕ) → next ≤ q → is_some (node_at nodes q) ≡ false) → (q : ℕ) → next ≤ q → node_at nodes q ≡ None
-free_from nodes next fresh q le = none_of (node_at nodes q) (fresh q le)
-  where
-    none_of : (o : Option Record) → is_some o ≡ false → o ≡ None
-    none_of None f = refl
-    none_of (Some x) f = absurd (cc)
-
 pub on_err : {T E : Type 0} {P Q : Type 0} (r : Result T E) → (P → Q) → OnErr r P → OnErr r Q
 on_err (Ok x) f p = tt
 on_err (Err e) f p = f p

@@ -85,9 +85,6 @@ chain-added_at (x ∷ xs) y e (suc j) = chain-added_at xs y e j
 pub chain-added : (xs : List Stand) (y : Stand) → y.chain ≡ no_chain → chain_at (xs ++ y ∷ []) ≡ chain_at xs
 chain-added xs y e = fun_ext (λ j. chain-added_at xs y e j)
 
-pub walks-added : (xs : List Stand) (y : Stand) → y.chain ≡ no_chain → walks_on (xs ++ y ∷ []) ≡ walks_on xs
-walks-added xs y e = fun_ext (λ j. ap (λ c. c.walks) (chain-added_at xs y e j))
-
 pub walks-chains : (xs ys : List Stand) → chain_at ys ≡ chain_at xs → walks_on ys ≡ walks_on xs
 walks-chains xs ys e = fun_ext (λ j. ap (λ (f : ℕ → Walked Registered). (f j).walks) e)
 

@@ -9,9 +9,7 @@ use Rattle.std.proofs.lemmas.Bool.Decides.{eqb_tells}
 use Rattle.std.proofs.lemmas.Map.Entries.{btree_map_get_place}
 use Rattle.ng_base.specs.Order.{txt_cmp, txt_cmp_total}
 use Rattle.ng_chain.specs.Walked.{Walked, open_walks, value_of, same_token}
-use Rattle.ng_chain.specs.Slots.{standing, entry_before}
 use Rattle.ng_chain.specs.declared.chain.Token.{Token}
-use Rattle.ng_chain.specs.declared.slots.Slot.{Slot}
 use Rattle.ng_behaviour.specs.Listeners.{place_of, place_from, quiet, without_listeners_of}
 use Rattle.ng_events.specs.declared.stands.Stand.{Stand}
 use Rattle.ng_events.specs.declared.stands.Listener.{Listener as Registered}
@@ -202,19 +200,6 @@ quiet-nobody xs names s e p a = none-of xs s (λ k. nobody k (is_of xs s k) refl
         let y = of-one xs s z.scope k q (place-scope xs z.scope k z.name z.place) in
         let w : None ≡ Some k = sym (ap (option_and_then (λ m. get txt_cmp m z.name)) e) ∙ (p s z.name ∙ (ap (λ r. place_of (all_heard xs) r z.name) y ∙ z.place)) in
         absurd (cc)
-
--- the homes that are left
-pub forget-step : (x : Slot Registered) (xs : List (Slot Registered)) (q : ℕ) (o n : Option Home) → n ≡ cond (is_named q (entry_before x.serial x.value [])) None o → cond (is_named q (standing xs)) None n ≡ cond (is_named q (standing (x ∷ xs))) None o
-forget-step x xs q o n e = ap (cond (is_named q (standing xs)) None) e ∙ by-value x.value
-  where
-    twice : (a b : Bool) → cond b None (cond (a || false) None o) ≡ cond (a || b) None o
-    twice true true = refl
-    twice true false = refl
-    twice false b = refl
-
-    by-value : (v : Option Registered) → cond (is_named q (standing xs)) None (cond (is_named q (entry_before x.serial v [])) None o) ≡ cond (is_named q (entry_before x.serial v (standing xs))) None o
-    by-value None = refl
-    by-value (Some l) = twice (eqb q l.id.0) (is_named q (standing xs))
 
 eqb-itself : (n : ℕ) → eqb n n ≡ true
 eqb-itself n = elim (eqb_tells n n) [ inl t ↦ t.0 | inr t ↦ absurd (t.1 refl) ]

@@ -11,14 +11,11 @@ use Rattle.ng_events.specs.declared.stands.Listener.{Listener as Registered}
 use Rattle.ng_events.specs.declared.stands.Stand.{Stand}
 use Rattle.ng_events.specs.declared.stands.Home.{Home}
 use Rattle.ng_events.specs.Stands.{all_heard, chain_at, change_chain, pushed, removed, seen, no_chain, open_on, entries_of, listening, listening_at}
-use Rattle.ng_events.specs.Names.{Names, AreSame}
+use Rattle.ng_events.specs.Names.{Names}
 use Rattle.ng_events.specs.Sound.{AreThere, HaveHomes, HavePlaces, ArePlaces, LeavesWalks}
 use Rattle.ng_events.proofs.Entries.{entries-append, without-last}
 use Rattle.ng_events.proofs.Changed.{or_new, place-added, place-kept, walks-kept, open-change, change-length, change-same, change-other, heard-change, heard-push, heard-length, heard-read, chain-added, place-within}
 use Rattle.ng_events.proofs.Homes.{there-kept, known-kept}
-
-pub places-same : (xs : List Stand) (m k : BTreeMap ℕ (BTreeMap (List ℕ) ℕ)) → AreSame m k → HavePlaces xs m → HavePlaces xs k
-places-same xs m k e p s n = e s n ∙ p s n
 
 pub places-added : (xs : List Stand) (y : Stand) (m k : BTreeMap ℕ (BTreeMap (List ℕ) ℕ)) → place_of (all_heard xs) y.scope y.name ≡ None → Names m y.scope y.name (length xs) k → HavePlaces xs m → HavePlaces (xs ++ y ∷ []) k
 places-added xs y m k e h p s n = h s n ∙ (ap (cond (eqb s y.scope && bytes_eq n y.name) (Some (length xs))) (p s n) ∙ sym (place-added xs y s n ∙ by-test (eqb s y.scope && bytes_eq n y.name) (place_of (all_heard xs) s n) same))
@@ -55,9 +52,6 @@ alone-added xs y e a i h = elim (eqb_tells i (length xs)) [
     length-added : (zs : List Stand) → length (zs ++ y ∷ []) ≡ length zs + 1
     length-added [] = refl
     length-added (z ∷ zs) = let q = length-added zs in omega arith
-
-pub leaves-itself : (xs : List Stand) → LeavesWalks xs xs
-leaves-itself xs = record { walks = refl; places = λ s n. refl; counted = refl; as_long = refl }
 
 pub leaves-change : (xs : List Stand) (i : ℕ) (f : Walked Registered → Walked Registered) → i < length xs → ((c : Walked Registered) → (f c).walks ≡ c.walks) → LeavesWalks xs (change_chain xs i f)
 leaves-change xs i f h k = record {

@@ -47,12 +47,6 @@ pub sound-begun : (xs : List Stand) (names : BTreeMap ℕ (BTreeMap (List ℕ) �
 sound-begun xs names homes w b i k s t h l e =
     sound-walks xs names homes w (w + 1) b i (begun k) (λ c. refl) s (let o = begun-open xs i k h l e in let q = s.counted in omega arith) (omega arith)
 
-pub sound-bare : (xs : List Stand) (names : BTreeMap ℕ (BTreeMap (List ℕ) ℕ)) (homes : BTreeMap ℕ Home) (w b : ℕ) → IsSound xs names homes w b → w < 64 → IsSound xs names homes (w + 1) (b + 1)
-sound-bare xs names homes w b s t = record { places = s.places; alone = s.alone; there = s.there; known = s.known; counted = (let q = s.counted in omega arith); few = omega arith }
-
-pub sound-unbare : (xs : List Stand) (names : BTreeMap ℕ (BTreeMap (List ℕ) ℕ)) (homes : BTreeMap ℕ Home) (w b : ℕ) → IsSound xs names homes w b → 0 < b → IsSound xs names homes (w - 1) (b - 1)
-sound-unbare xs names homes w b s t = record { places = s.places; alone = s.alone; there = s.there; known = s.known; counted = (let q = s.counted in omega arith); few = (let q = s.few in omega arith) }
-
 pub begun-walks : (xs : List Stand) (i k : ℕ) → i < length xs → walks_on (change_chain xs i (begun k)) ≡ put_walk (walks_on xs) i k (Some (record { place = 0; end = (heard_at (all_heard xs) i).last }))
 begun-walks xs i k h = walks-put xs i k (Some (record { place = 0; end = (heard_at (all_heard xs) i).last })) (begun k) h (ap (λ n. set (chain_at xs i).walks k (Some (record { place = 0; end = n }))) (sym (heard-read xs i).1))
 

@@ -1,9 +1,8 @@
 -- Properties in the order of keys, seen as the definition has them.
-use Rattle.std.proofs.Common.{◌≡◌, ◌∙◌, ◌+◌, ◌<◌, ℕ, zero, suc, List, [], ◌∷◌, ◌++◌, map, take, drop, length, refl, sym, ap, arith, Option, Some, None, Ordering, Less, Equal, Greater}
+use Rattle.std.proofs.Common.{◌≡◌, ◌∙◌, ◌+◌, ◌<◌, ℕ, List, [], ◌∷◌, ◌++◌, map, refl, ap, Ordering, Less, Equal, Greater}
 use Rattle.std.specs.BTreeMap.{insert_entry}
 use Rattle.std.specs.Map.{values_of}
 use Rattle.std.specs.Ordering.{match_ordering, nat_cmp}
-use Rattle.ng_language.specs.Unfolding.{Field, with_other}
 use Rattle.ng_filters.specs.declared.properties.Property.{Property}
 use Rattle.ng_filters.specs.Seen.{field_seen, indexed_seen}
 
@@ -21,7 +20,3 @@ map-insert_indexed (e ∷ es) i p =
 pub values-seen : (es : List (ℕ × Property)) → map field_seen (values_of es) ≡ values_of (map indexed_seen es)
 values-seen [] = refl
 values-seen (e ∷ es) = ap (λ xs. field_seen e.1 ∷ xs) (values-seen es)
-
-pub other_first : (o : Option ℕ) (f : Field) (fs : List Field) → with_other o f [] ++ fs ≡ with_other o f fs
-other_first None f fs = refl
-other_first (Some i) f fs = refl

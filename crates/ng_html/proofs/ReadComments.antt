@@ -16,9 +16,6 @@ begins [] cs = true
 begins (w ∷ ws) [] = false
 begins (w ∷ ws) (c ∷ cs) = if lower c == w then begins ws cs else false
 
-abbrev end_sign : List ℕ
-end_sign = codes "-->"
-
 -- with its end sign behind it no other stands before
 abbrev pub NeverEnds : List ℕ → Type 0
 NeverEnds [] = ⊤

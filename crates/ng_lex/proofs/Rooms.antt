@@ -56,9 +56,6 @@ spaced : (total k : ℕ) (ts : List Token) (ps : List ℕ) (c : ℕ) (cs : List 
 spaced total zero ts ps c cs whole less e h = absurd (omega arith)
 spaced total (suc k) ts ps c cs whole less e h = (k, omega arith, sym (if_true (is_space c) (lexes total k ts ps cs) (later total k ts ps c cs) h) ∙ e)
 
-pub space_on : (total : ℕ) (ts : List Token) (ps : List ℕ) (c : ℕ) (cs : List ℕ) (whole : Result (List Token × List ℕ) LexFault) → LexRoom total ts ps (c ∷ cs) whole → is_space c ≡ true → LexRoom total ts ps cs whole
-space_on total ts ps c cs whole r h = spaced total r.0 ts ps c cs whole r.1 r.2 h
-
 tokened : (total k : ℕ) (ts : List Token) (ps : List ℕ) (c : ℕ) (cs rest : List ℕ) (t : Token) (whole : LexAnswer) → length (c ∷ cs) < k → lexes total k ts ps (c ∷ cs) ≡ whole → is_space c ≡ false → token_at total (place total (c ∷ cs)) c cs ≡ Ok (t, rest) → length rest ≤ length cs → LexRoom total (ts ++ t ∷ []) (ps ++ place total (c ∷ cs) ∷ []) rest whole
 tokened total zero ts ps c cs rest t whole less e h i l = absurd (omega arith)
 tokened total (suc k) ts ps c cs rest t whole less e h i l =

@@ -1,5 +1,5 @@
 -- The items of arrays and fresh lists, one by one.
-use Rattle.std.proofs.Common.{◌≡◌, ◌<◌, ◌≤◌, ◌+◌, ◌-◌, ℕ, zero, suc, List, [], ◌∷◌, ◌++◌, map, take, drop, length, slice_get, Some, None, refl, ap, arith, add-one}
+use Rattle.std.proofs.Common.{◌≡◌, ◌<◌, ◌≤◌, ◌+◌, ◌-◌, ℕ, zero, suc, List, [], ◌∷◌, ◌++◌, map, take, drop, length, slice_get, Some, refl, ap, arith, add-one}
 use Rattle.std.specs.Prelude.{Ok, Err, true, false}
 use Rattle.ng_base.specs.Objects.{Object}
 use Rattle.ng_base.specs.declared.fault.Fault.{Fault}
@@ -21,16 +21,6 @@ get-prims [] i v h = absurd (cc)
 get-prims (x ∷ xs) zero v h = let e : x ≡ v = cc in ap (λ y. Some (prim y)) e
 get-prims (x ∷ xs) (suc i) v h = get-prims xs i v h
 
-pub get-views : (vs : List View) (i : ℕ) (v : View) → slice_get vs i ≡ Some v → slice_get (map view_of vs) i ≡ Some (view_of v)
-get-views [] i v h = absurd (cc)
-get-views (x ∷ xs) zero v h = let e : x ≡ v = cc in ap (λ y. Some (view_of y)) e
-get-views (x ∷ xs) (suc i) v h = get-views xs i v h
-
-pub get-no_view : (vs : List View) (i : ℕ) → slice_get vs i ≡ None → slice_get (map view_of vs) i ≡ None
-get-no_view [] i h = refl
-get-no_view (x ∷ xs) zero h = absurd (cc)
-get-no_view (x ∷ xs) (suc i) h = get-no_view xs i h
-
 pub length-views : (vs : List View) → length (map view_of vs) ≡ length vs
 length-views [] = refl
 length-views (v ∷ vs) = ap suc (length-views vs)
@@ -50,12 +40,6 @@ pub is_there : (ts : List ViewTree) (i : ℕ) → i < length ts → slice_get ts
 is_there [] i h = absurd (omega arith)
 is_there (t ∷ ts) zero h = refl
 is_there (t ∷ ts) (suc i) h = is_there ts i (omega arith)
-
-pub none_behind : (ts : List ViewTree) (i : ℕ) → length ts ≤ i → drop i ts ≡ []
-none_behind [] zero h = refl
-none_behind [] (suc i) h = refl
-none_behind (t ∷ ts) zero h = absurd (omega arith)
-none_behind (t ∷ ts) (suc i) h = none_behind ts i (omega arith)
 
 take_more : (ts : List ViewTree) (t : ViewTree) (i to : ℕ) → i < to → take (to - i) (t ∷ ts) ≡ t ∷ take (to - suc i) ts
 take_more ts t i to h = let e : to - i ≡ suc (to - suc i) = omega arith in rw e refl
@@ -78,9 +62,6 @@ take_all ts = let e : length ts - 0 ≡ length ts = omega arith in rw e (whole t
     whole : (us : List ViewTree) → take (length us) us ≡ us
     whole [] = refl
     whole (u ∷ us) = ap (λ xs. u ∷ xs) (whole us)
-
-pub take_less : (ts : List ViewTree) (from to : ℕ) → to ≤ from → take (to - from) ts ≡ []
-take_less ts from to h = let e : to - from ≡ 0 = omega arith in rw e refl
 
 pub place_here : (x : ViewTree) (ts : List ViewTree) (i : ℕ) → i < length ts → strict_eq (view_or_undefined (slice_get ts i)) x ≡ true → place_of x i (drop i ts) ≡ Some i
 place_here x ts i h e = rw (at_place ts i h, e) refl

@@ -1,6 +1,6 @@
 -- What is made of views whose objects stand.
-use Rattle.std.proofs.Common.{◌≡◌, ◌∙◌, ℕ, zero, suc, List, [], ◌∷◌, ◌++◌, map, slice_get, length, Option, Some, None, refl, sym, ap, subst, Bool, true, false, if◌then◌else◌, bytes_eq, ℤ, pos, ◌*ℤ◌, ◌-ℤ◌, ◌+ℤ◌, int_div, int_rem}
-use Rattle.std.specs.Prelude.{Result, Ok, Err, option_and_then, IfOk}
+use Rattle.std.proofs.Common.{◌≡◌, ◌∙◌, ℕ, zero, suc, List, [], ◌∷◌, ◌++◌, map, slice_get, Option, Some, None, refl, sym, ap, subst, Bool, true, false, if◌then◌else◌, bytes_eq, ℤ, pos, ◌*ℤ◌, ◌-ℤ◌, ◌+ℤ◌, int_div, int_rem}
+use Rattle.std.specs.Prelude.{Result, Ok, Err, IfOk}
 use Rattle.std.specs.Ordering.{int_eq}
 use Rattle.ng_base.specs.declared.fault.Fault.TheVariants.{NotWhole, Range}
 use Rattle.std.specs.List.{AllByRecursion}
@@ -9,7 +9,7 @@ use Rattle.indexmap.specs.IndexMap.{insert_entry}
 use Rattle.ng_base.proofs.Binds.{bind_ok}
 use Rattle.ng_base.specs.Faults.{is_memory}
 use Rattle.ng_base.specs.Meets.{Gives}
-use Rattle.ng_base.specs.Objects.{Object, StandsAmong, index_of}
+use Rattle.ng_base.specs.Objects.{Object, StandsAmong}
 use Rattle.ng_base.specs.Views.{ViewTree, ViewTrees, ViewFields, prim, no_views, view_then, no_fields, field_then, views_list, fields_list, views_from}
 use Rattle.ng_base.specs.ViewOf.{view_of, field_of}
 use Rattle.ng_base.specs.declared.view.View.{View}
@@ -21,8 +21,8 @@ use Rattle.ng_language.specs.Numbers.{is_in_range}
 use Rattle.ng_language.specs.Sums.{add, joined, as_view, is_undefined, is_joined}
 use Rattle.ng_language.specs.Texts.{to_text}
 use Rattle.ng_language.specs.Views.{ViewStands, ViewsStand, FieldsStand}
-use Rattle.ng_value.proofs.ViewParts.{views_stand, fields_stand}
-use Rattle.ng_members.specs.Members.{view_or_undefined, list_member, record_member, is_length, indexed, count}
+use Rattle.ng_value.proofs.ViewParts.{fields_stand}
+use Rattle.ng_members.specs.Members.{view_or_undefined, record_member}
 use Rattle.ng_members.specs.Leaves.{Field, FieldsAllStand, Local, LocalsStand}
 
 abbrev pub Named : Type 0
@@ -73,17 +73,6 @@ pub got_stands : (n : ℕ) (ts : List ViewTree) (i : ℕ) (t : ViewTree) → sli
 got_stands n [] i t h a = absurd (cc)
 got_stands n (u ∷ us) zero t h a = let e : u ≡ t = cc in subst (ViewStands n) e a.0
 got_stands n (u ∷ us) (suc i) t h a = got_stands n us i t h a.1
-
-indexed_stands : (n : ℕ) (ts : List ViewTree) (o : Option ℕ) → AllByRecursion (ViewStands n) ts → ViewStands n (view_or_undefined (option_and_then (λ i. slice_get ts i) o))
-indexed_stands n ts None a = tt
-indexed_stands n ts (Some i) a = one_stands n ts i a
-
-pub list_member_stands : (n : ℕ) (ts : ViewTrees) (name : List ℕ) → ViewsStand n ts → ViewStands n (list_member (views_list ts) name)
-list_member_stands n ts name s = by (is_length name) (indexed_stands n (views_list ts) (index_of name) (views_stand n ts s))
-  where
-    by : (b : Bool) → ViewStands n (view_or_undefined (indexed (views_list ts) name)) → ViewStands n (if b then count (length (views_list ts)) else view_or_undefined (indexed (views_list ts) name))
-    by true m = tt
-    by false m = m
 
 looked_stands : (n : ℕ) (fs : List Field) (name : List ℕ) → FieldsAllStand n fs → ViewStands n (view_or_undefined (lookup (bytes_eq name) fs))
 looked_stands n [] name a = tt

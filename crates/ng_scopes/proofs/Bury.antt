@@ -1,5 +1,5 @@
 -- One live scope dies after another.
-use Rattle.std.proofs.Common.{◌≡◌, ◌<◌, ℕ, true, cond, List, length, Option, Some, None, refl, ap, sym, ◌∙◌}
+use Rattle.std.proofs.Common.{◌≡◌, ◌<◌, ℕ, true, cond, List, length, Option, None, refl, ap, sym, ◌∙◌}
 use Rattle.std.specs.Ordering.{is_eq}
 use Rattle.std.specs.declared.ops.Bound.TheVariants.{Included}
 use Rattle.ng_base.specs.Order.{path_cmp}
@@ -34,6 +34,3 @@ die-done t find u i k n = kill-done u t (λ r h b. not-live t r i h (sym (k (pat
 
 pub die-index : (t : List Scope) (s : ℕ) (find new : List ℕ → Option ℕ) → IsLed t → s < length t → ((p : List ℕ) → find p ≡ live_scope t p) → ((p : List ℕ) → new p ≡ cond (is_eq (path_cmp (path_at t s) p)) None (find p)) → (p : List ℕ) → new p ≡ live_scope (change_at t s dead) p
 die-index t s find new i h k u p = u p ∙ (ap (λ o. cond (is_eq (path_cmp (path_at t s) p)) None o) (k p) ∙ sym (kill-index t s p i h))
-
-pub die-found : (t : List Scope) (s : ℕ) (find : List ℕ → Option ℕ) → IsLed t → s < length t → ((p : List ℕ) → find p ≡ live_scope t p) → live_at t s ≡ true → find (path_at t s) ≡ Some s
-die-found t s find i h k l = k (path_at t s) ∙ rw (i.leads s h, l) refl

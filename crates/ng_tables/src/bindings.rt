@@ -1,5 +1,6 @@
 //! Which way a two-way binding goes, and which texts are bindings.
 
+use crate::rows::column;
 use crate::values::{Of, view};
 use ng_bind::flow::{Flow, sync};
 use ng_bind::spec::{BindFault, BindMode, Spec, binding_spec};
@@ -81,48 +82,58 @@ fn read(alloc: Global, text: &str) -> Result<String, AllocError> {
 }
 
 /// A text, and the binding that it is, without white space.
-const TEXTS: [(&str, &str); 34] = [
-    ("@", "@"),
-    ("=", "="),
-    ("<", "<"),
-    ("&", "&"),
-    ("@?", "@?"),
-    ("=?", "=?"),
-    ("<?", "<?"),
-    ("&?", "&?"),
-    ("@name", "@name"),
-    ("=name", "=name"),
-    ("<?name", "<?name"),
-    ("&onClose", "&onClose"),
-    ("=my_$name2", "=my_$name2"),
-    ("<2nd", "<2nd"),
-    ("=$", "=$"),
-    ("  =  ", "="),
+const TEXTS: &str = "@→@
+=→=
+<→<
+&→&
+@?→@?
+=?→=?
+<?→<?
+&?→&?
+@name→@name
+=name→=name
+<?name→<?name
+&onClose→&onClose
+=my_$name2→=my_$name2
+<2nd→<2nd
+=$→=$
+  =  →=
+= ?name→=?name
+=? name→=?name
+@ ?→@?
+→BadBinding
+   →BadBinding
+name→BadBinding
+~→BadBinding
+=*→BadBinding
+=*name→BadBinding
+==→BadBinding
+=??→BadBinding
+=name?→BadBinding
+=my name→BadBinding
+=my-name→BadBinding
+?=→BadBinding
+=näme→BadBinding";
+
+/// The same of texts with white space that no line can hold.
+const SPACED: [(&str, &str); 2] = [
     ("\t=\n?\r name ", "=?name"),
-    ("= ?name", "=?name"),
-    ("=? name", "=?name"),
     ("\u{b}<\u{a0}name\u{a0}", "<name"),
-    ("@ ?", "@?"),
-    ("", "BadBinding"),
-    ("   ", "BadBinding"),
-    ("name", "BadBinding"),
-    ("~", "BadBinding"),
-    ("=*", "BadBinding"),
-    ("=*name", "BadBinding"),
-    ("==", "BadBinding"),
-    ("=??", "BadBinding"),
-    ("=name?", "BadBinding"),
-    ("=my name", "BadBinding"),
-    ("=my-name", "BadBinding"),
-    ("?=", "BadBinding"),
-    ("=n\u{e4}me", "BadBinding"),
 ];
 
 #[test]
 fn a_binding_is_a_mode_a_question_mark_and_a_name(rt: HostRuntime) {
-    let alloc = rt.alloc();
-    for (text, want) in TEXTS {
-        let got = read(alloc, text).expect(&rt, "memory");
+    for row in TEXTS.split('\n') {
+        let (text, want) = column(row);
+        let got = read(rt.alloc(), text).expect(&rt, "memory");
+        assert_eq!(rt; got.as_str(), want, "{text:?}");
+    }
+}
+
+#[test]
+fn white_space_of_the_language_stands_around_a_name(rt: HostRuntime) {
+    for (text, want) in SPACED {
+        let got = read(rt.alloc(), text).expect(&rt, "memory");
         assert_eq!(rt; got.as_str(), want, "{text:?}");
     }
 }

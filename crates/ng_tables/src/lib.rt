@@ -1,5 +1,5 @@
-//! Tables of cases for the public calls of single crates: values at their limits, snapshots, locals and numbers; the bindings,
-//! directives and controls of an element; the parts of a text; the plans of a repeat; scripts, and the nodes of a document.
+//! Tables of cases for the public calls of single crates, of what no run of the program shows: locals and numbers; the bindings,
+//! directives and controls of an element; places in a text; the plans of a repeat; commands of scripts, and the nodes of a document.
 //!
 //! The expected values were written by hand, from AngularJS's guide and API reference and from the rules of JavaScript, where
 //! docs/DIFFERENCES.md doesn't say otherwise. What a run of the program shows is a row of data in `rows/`, which is run without
@@ -15,8 +15,6 @@ mod collecting;
 #[cfg(test)]
 mod controls;
 #[cfg(test)]
-mod limits;
-#[cfg(test)]
 mod locals;
 #[cfg(test)]
 mod nodes;
@@ -27,10 +25,8 @@ mod parts;
 #[cfg(test)]
 mod plans;
 #[cfg(test)]
-mod repeats;
+mod rows;
 #[cfg(test)]
 mod scripts;
-#[cfg(test)]
-mod snapshots;
 #[cfg(test)]
 mod values;

@@ -4,6 +4,7 @@ ghost use Rattle.ng_base.specs.ViewOf.{view_of};
 ghost use Rattle.ng_language.specs.Views.{ViewStands};
 ghost use Rattle.ng_members.specs.Leaves.{LocalsStand};
 
+use crate::rows::column;
 use crate::values::{Of, put};
 use ng_base::heap::ObjKind;
 use ng_base::locals::Locals;
@@ -68,19 +69,17 @@ fn shown(alloc: Global, store: &Store, locals: &Locals, text: &str) -> Option<Tx
     told(alloc, store, &value)
 }
 
-const NAMES: [(&str, &str); 11] = [
-    ("l", "true"),
-    ("z", "1"),
-    ("u", "undefined"),
-    ("w", "\"own\""),
-    ("this.w", "\"own\""),
-    ("this.l", "undefined"),
-    ("this.u", "3"),
-    ("this.z", "0"),
-    ("[z, this.z]", "[1,0]"),
-    ("{n, z}", "{\"n\":7,\"z\":1}"),
-    ("[this]", "[\"$SCOPE\"]"),
-];
+const NAMES: &str = r#"l→true
+z→1
+u→undefined
+w→"own"
+this.w→"own"
+this.l→undefined
+this.u→3
+this.z→0
+[z, this.z]→[1,0]
+{n, z}→{"n":7,"z":1}
+[this]→["$SCOPE"]"#;
 
 #[test]
 fn locals_come_before_the_names_of_a_scope(rt: HostRuntime) {
@@ -91,7 +90,8 @@ fn locals_come_before_the_names_of_a_scope(rt: HostRuntime) {
     let Ok(locals) = hiding(alloc, &store) else {
         panic!(rt; "no locals");
     };
-    for (text, want) in NAMES {
+    for row in NAMES.split('\n') {
+        let (text, want) = column(row);
         let Some(got) = shown(alloc, &store, &locals, text) else {
             panic!(rt; "no value of {text}");
         };

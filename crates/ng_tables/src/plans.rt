@@ -2,6 +2,7 @@
 ghost use Rattle.std.specs.Prelude.{◌≡◌, ◌<◌, ◌^◌, length, false, IfSome};
 ghost use Rattle.ng_blocks.specs.Plans.{has_double};
 
+use crate::rows::column;
 use ng_base::lists::{Numbers, Sources};
 use ng_base::name::{FunId, Oid};
 use ng_base::txt::Txt;
@@ -96,34 +97,34 @@ fn planned(alloc: Global, old: &str, new: &str) -> Option<Txt> {
     Some(out)
 }
 
-const PLANS: [(&str, &str, &str); 22] = [
-    ("", "", ";"),
-    ("", "abc", "; - - -"),
-    ("abc", "", "0 1 2 ;"),
-    ("abc", "abc", "; 0 1 2"),
-    ("abc", "cba", "; 2 1 0"),
-    ("abc", "bca", "; 1 2 0"),
-    ("abcd", "bd", "0 2 ; 1 3"),
-    ("abc", "axc", "1 ; 0 - 2"),
-    ("ab", "xaby", "; - 0 1 -"),
-    ("abc", "xyz", "0 1 2 ; - - -"),
-    ("abcd", "dxa", "1 2 ; 3 - 0"),
-    ("a", "aa", "Dupes"),
-    ("", "aba", "Dupes"),
-    ("abc", "abca", "Dupes"),
-    ("abc", "xbyb", "Dupes"),
-    ("N", "NN", "Dupes"),
-    ("1'~#!@%", "%@!#~'1", "; 6 5 4 3 2 1 0"),
-    ("0?un", "nu?0", "; 3 2 1 0"),
-    ("12", "21", "; 1 0"),
-    ("1", "'", "0 ; -"),
-    ("'", "~", "0 ; -"),
-    ("#", "1", "0 ; -"),
-];
+const PLANS: &str = "→→;
+→abc→; - - -
+abc→→0 1 2 ;
+abc→abc→; 0 1 2
+abc→cba→; 2 1 0
+abc→bca→; 1 2 0
+abcd→bd→0 2 ; 1 3
+abc→axc→1 ; 0 - 2
+ab→xaby→; - 0 1 -
+abc→xyz→0 1 2 ; - - -
+abcd→dxa→1 2 ; 3 - 0
+a→aa→Dupes
+→aba→Dupes
+abc→abca→Dupes
+abc→xbyb→Dupes
+N→NN→Dupes
+1'~#!@%→%@!#~'1→; 6 5 4 3 2 1 0
+0?un→nu?0→; 3 2 1 0
+12→21→; 1 0
+1→'→0 ; -
+'→~→0 ; -
+#→1→0 ; -";
 
 #[test]
 fn rows_are_kept_by_their_keys(rt: HostRuntime) {
-    for (old, new, want) in PLANS {
+    for row in PLANS.split('\n') {
+        let (old, rest) = column(row);
+        let (new, want) = column(rest);
         let Some(got) = planned(rt.alloc(), old, new) else {
             panic!(rt; "memory");
         };

@@ -9,7 +9,6 @@ use ng_base::txt::Txt;
 use ng_base::value::Value;
 use ng_base::view::View;
 use ng_store::store::Store;
-use serde_json::Value as Json;
 use std::alloc::Global;
 
 /// A value. An object is named by its place in the store.
@@ -59,15 +58,6 @@ pub(crate) fn view(alloc: Global, store: &Store, of: Of) -> Option<View>
     Some(View::of_value(value))
 }
 
-/// The value of a JSON text.
-pub(crate) fn of_json(alloc: Global, store: &mut Store, text: &str) -> Option<View>
-    ensures { IfSome result (λ v. ViewStands (length store.new) (view_of v)) }
-{
-    let json = Json::from_str(alloc, text).ok()?;
-    let value = store.of_json(&json).ok()?;
-    Some(View::of_value(value))
-}
-
 /// Sets a name of an object, where both stand.
 pub(crate) fn put(alloc: Global, store: &mut Store, o: u32, name: &str, of: Of) -> bool {
     let Some(value) = value(alloc, store, of) else {
@@ -78,18 +68,6 @@ pub(crate) fn put(alloc: Global, store: &mut Store, o: u32, name: &str, of: Of) 
     };
     if (o as usize) < store.count() {
         store.set(Oid(o), &name, value).is_ok()
-    } else {
-        false
-    }
-}
-
-/// Adds an item to an array, where both stand.
-pub(crate) fn push(alloc: Global, store: &mut Store, o: u32, of: Of) -> bool {
-    let Some(value) = value(alloc, store, of) else {
-        return false;
-    };
-    if (o as usize) < store.count() {
-        store.push(Oid(o), value).is_ok()
     } else {
         false
     }

@@ -10,7 +10,7 @@ use Rattle.ng_tags.specs.Letters.{is_space, is_in_attribute, is_bare, lower}
 use Rattle.ng_tags.specs.Skips.{past_spaces}
 use Rattle.ng_tags.specs.Texts.{ends, no_text, text_run}
 use Rattle.ng_tags.specs.Attributes.{ValueRead, AttributeRead, attribute_run, quoted, unquoted, value_at, value_behind, named, attribute_at, inside, broken, slash, with_attribute, attributes_within, attributes}
-use Rattle.ng_tags.specs.Spelling.{chars_of, BeginsNot, is_equals_or_space, is_bare_or_backquote, AreSpaces, EqualsSign, IsQuote, Reads, no_more, itself, by_reference, ampersand, Ended, Valued, IsAttribute, AreAttributes, ends_open, ends_closed, space_then, attribute_then}
+use Rattle.ng_tags.specs.Spelling.{chars_of, BeginsNot, is_equals_or_space, is_bare_or_backquote, AreSpaces, EqualsSign, IsQuote, Reads, Ended, Valued, IsAttribute, AreAttributes, ends_open, ends_closed, space_then, attribute_then}
 use Rattle.ng_tags.specs.Spelling as spelling
 use Rattle.ng_tags.specs.declared.attributes.Inside.{Inside}
 use Rattle.ng_tags.specs.declared.fault.HtmlFault.{HtmlFault}
@@ -191,9 +191,6 @@ pub record Attributed (done : Attributes) (f : Option HtmlFault) (i : Inside) (c
   pub whole : cs ≡ us ++ rest
   pub are : AreAttributes rest done us i.attrs i.closed
   pub no_fault : f ≡ None
-
-abbrev some_fault : Option HtmlFault → HtmlFault → Option HtmlFault
-some_fault f g = Some (met_or f g)
 
 was_broken : {T : Type 0} (done : Attributes) (f : Option HtmlFault) (g : HtmlFault) (cs : List Cell) (i : Inside) (rest : List Cell) → broken done f g cs ≡ (i, rest) → i.fault ≡ None → T
 was_broken done f g cs i rest h n =

@@ -43,14 +43,6 @@ pub not_false : (b : Bool) → not b ≡ true → b ≡ false
 not_false true h = absurd (cc)
 not_false false h = refl
 
-pub was_true : (b : Bool) → not b ≡ false → b ≡ true
-was_true true h = refl
-was_true false h = absurd (cc)
-
-pub no_other : (b : Bool) → (b ≡ true → ⊥) → b ≡ false
-no_other true f = absurd (f refl)
-no_other false f = refl
-
 -- a front of characters of one kind, as far as they go
 pub record Run (is : ℕ → Bool) (f : ℕ → ℕ) (before after : List ℕ) (cs rest : List Cell) : Type 0 where
   pub w : List Cell

@@ -1,6 +1,6 @@
 //! The few tests that only public calls can show: calls of a shelf or a sink that fail, real files, the places of a document's
-//! nodes and of tokens, why and where a text is no program, digests over sheets of numbers, walks over chains, listeners and
-//! scopes that change on the way, and what programs, events and the death of a scope leave in a core. Tables of cases for the calls of single crates stand in ng_tables.
+//! nodes and of tokens, why and where a text is no program, digests over sheets of numbers, and walks over chains, listeners and
+//! scopes that change on the way. Tables of cases for the calls of single crates stand in ng_tables.
 //!
 //! What a run of the program shows is a row of data in `rows/`, which is run without a proof. The expected values were written by
 //! hand, from the rules of AngularJS and JavaScript where docs/DIFFERENCES.md doesn't say otherwise.
@@ -8,8 +8,6 @@
 //! No crate stands on this one.
 #![tactic(auto)]
 
-#[cfg(test)]
-mod actions;
 #[cfg(test)]
 mod chains;
 #[cfg(test)]
@@ -24,6 +22,8 @@ mod listeners;
 mod outside;
 #[cfg(test)]
 mod refused;
+#[cfg(test)]
+mod rows;
 #[cfg(test)]
 mod scopes;
 #[cfg(test)]

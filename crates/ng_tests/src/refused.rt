@@ -1,4 +1,5 @@
 //! Where and why a text is no program, and what is left of a text that begins with two colons.
+use crate::rows::column;
 use ng_lex::lex;
 use ng_parse::{ParseFault, ParseKind, one_time, parse};
 use std::alloc::{AllocError, Global};
@@ -13,41 +14,50 @@ fn refusal(alloc: Global, text: &str) -> Result<Option<ParseFault>, Fail> {
     }
 }
 
+/// A text that is no program, and the place of its refusal and why.
+const REFUSED: &str = ")→0 Unexpected
+a b→2 Unexpected
+a. 1→3 Unexpected
+[,]→1 Unexpected
+[a,,]→3 Unexpected
+f(a,)→4 Unexpected
+{a.b}→2 Unexpected
+{'a'}→4 Unexpected
+{a:1 b}→5 Unexpected
+{a:b|f}→4 Unexpected
+$locals→0 Unexpected
+a + $locals.b→4 Unexpected
+a = = b→4 Unexpected
+a|1→2 Unexpected
+a : b→2 Unexpected
+::a→0 Unexpected
+a+→2 Ended
+(a →3 Ended
+a|→2 Ended
+a?b→3 Ended
+{a:→3 Ended
+a;[→3 Ended
+(a) = 1→4 NotAssignable
+a+b=c→3 NotAssignable
+1 = a→2 NotAssignable
+f() = 1→4 NotAssignable
+this = 1→5 NotAssignable
+a; -b = )→6 NotAssignable";
+
+/// Where and why a text is refused, in one text.
+fn told(alloc: Global, text: &str) -> Result<String, Fail> {
+    match refusal(alloc, text)? {
+        None => Ok(String::from_str(alloc, "read")?),
+        Some(fault) => Ok(format!(in alloc; "{} {:?}", fault.place, fault.kind)?),
+    }
+}
+
 #[test]
 fn a_refusal_has_its_place(rt: HostRuntime) -> Result<(), Fail> {
-    let rows = [
-        (")", 0, ParseKind::Unexpected),
-        ("a b", 2, ParseKind::Unexpected),
-        ("a. 1", 3, ParseKind::Unexpected),
-        ("[,]", 1, ParseKind::Unexpected),
-        ("[a,,]", 3, ParseKind::Unexpected),
-        ("f(a,)", 4, ParseKind::Unexpected),
-        ("{a.b}", 2, ParseKind::Unexpected),
-        ("{'a'}", 4, ParseKind::Unexpected),
-        ("{a:1 b}", 5, ParseKind::Unexpected),
-        ("{a:b|f}", 4, ParseKind::Unexpected),
-        ("$locals", 0, ParseKind::Unexpected),
-        ("a + $locals.b", 4, ParseKind::Unexpected),
-        ("a = = b", 4, ParseKind::Unexpected),
-        ("a|1", 2, ParseKind::Unexpected),
-        ("a : b", 2, ParseKind::Unexpected),
-        ("::a", 0, ParseKind::Unexpected),
-        ("a+", 2, ParseKind::Ended),
-        ("(a ", 3, ParseKind::Ended),
-        ("a|", 2, ParseKind::Ended),
-        ("a?b", 3, ParseKind::Ended),
-        ("{a:", 3, ParseKind::Ended),
-        ("a;[", 3, ParseKind::Ended),
-        ("(a) = 1", 4, ParseKind::NotAssignable),
-        ("a+b=c", 3, ParseKind::NotAssignable),
-        ("1 = a", 2, ParseKind::NotAssignable),
-        ("f() = 1", 4, ParseKind::NotAssignable),
-        ("this = 1", 5, ParseKind::NotAssignable),
-        ("a; -b = )", 6, ParseKind::NotAssignable),
-    ];
-    for (text, place, kind) in rows {
-        let got = refusal(rt.alloc(), text)?;
-        assert_eq!(rt; got, Some(ParseFault { place, kind }), "at {text}");
+    for row in REFUSED.split('\n') {
+        let (text, want) = column(row);
+        let got = told(rt.alloc(), text)?;
+        assert_eq!(rt; got.as_str(), want, "at {text}");
     }
     Ok(())
 }

@@ -87,10 +87,6 @@ mutual
       let d : bytes_eq n n ≡ true = (bytes_eq-Decides n n).1 refl in
       let a = same_view_self t in let b = same_fields_self fs in rw (d, a, b) refl
 
--- two views are the same exactly where they are equal
-pub same_as_equal : (t u : ViewTree) (r : Bool) → r ≡ same_view t u → IsTrue r ↔ (t ≡ u)
-same_as_equal t u r e = (λ h. same_view_is t u (sym e ∙ h), λ h. e ∙ (ap (same_view t) (sym h) ∙ same_view_self t))
-
 pub same_value_as_equal : (v w : Value) (r : Bool) → r ≡ same v w → IsTrue r ↔ (v ≡ w)
 same_value_as_equal v w r e = (λ h. same_is v w (sym e ∙ h), λ h. e ∙ (ap (same v) (sym h) ∙ same_self v))
 

@@ -39,12 +39,6 @@ get_there [] j l = absurd (omega arith)
 get_there (x ∷ xs) zero l = (x, refl)
 get_there (x ∷ xs) (suc j) l = get_there xs j (omega arith)
 
-pub get_past : (xs : Rows) (j : ℕ) → slice_get xs j ≡ None → drop j xs ≡ []
-get_past [] zero h = refl
-get_past [] (suc j) h = refl
-get_past (x ∷ xs) zero h = absurd (cc)
-get_past (x ∷ xs) (suc j) h = get_past xs j h
-
 all_get : (P : Row → Type 0) (xs : Rows) (j : ℕ) (e : Row) → AllByRecursion P xs → slice_get xs j ≡ Some e → P e
 all_get P [] j e a h = absurd (cc)
 all_get P (x ∷ xs) zero e a h = let same : x ≡ e = cc in subst P same a.0
@@ -245,16 +239,6 @@ taken_with_chunk cs i j r n h is m set =
     let same : r ≡ chunk_at cs i = read_at cs i r l is in
     let one = only_row (chunk_at cs i) j (subst (λ (c : Rows). j < length c) same (row_within cs i j r h is)) (subst (λ (c : Rows). length c ≤ 1) same m) in
     ap joined set ∙ cut cs i l ∙ rw (one.0, one.1, append-nil (front cs i)) refl
-
--- that row is the row of the place
-pub only_there : (cs : List Rows) (i j : ℕ) (r : Rows) (e : Row) → IsSome (row_at cs i j) → r ≡ get_or cs i r → r ≡ e ∷ [] → row_at cs i j ≡ Some e
-only_there cs i j r e h is one =
-    let same : chunk_at cs i ≡ e ∷ [] = sym (read_at cs i r (there_within cs i j h) is) ∙ one in
-    ap (λ (c : Rows). slice_get c j) same ∙ first j (subst (λ (c : Rows). j < length c) one (row_within cs i j r h is))
-  where
-    first : (j : ℕ) → j < length (e ∷ []) → slice_get (e ∷ []) j ≡ Some e
-    first zero l = refl
-    first (suc j) l = absurd (omega arith)
 
 -- a chunk is parted
 pub parted_chunk : (cs n : List Rows) (i : ℕ) (r a b : Rows) → i < length cs → r ≡ get_or cs i r → r ≡ a ++ b → n ≡ insert (slice_set cs i a) (i + 1) b → joined n ≡ joined cs

@@ -23,10 +23,6 @@ use Rattle.ng_watch.specs.declared.watch.Watch.{Watch}
 abbrev Rows : Type 0
 Rows = List (Key × Watched)
 
--- the order of the code's keys is theirs
-pub key_order : (a b : Key) → (ordered.cmp-value).it a b ≡ key_cmp a b
-key_order a b = refl
-
 pub lookup-seen : (test : Key → Bool) (es : Rows) → lookup test (map entry_of es) ≡ option_map watcher_of (lookup test es)
 lookup-seen test [] = refl
 lookup-seen test (e ∷ es) = by_test (test e.0) (lookup-seen test es)
@@ -142,9 +138,6 @@ seen-some (Some w) = refl
 
 pub kept_apart : (p : List ℕ) (es new : Rows) (t : Table) → new ≡ filter (λ e. not (begins p e.0.path)) es → map entry_of es ≡ t → map entry_of new ≡ without_under p t
 kept_apart p es new t n s = ap (map entry_of) n ∙ filter-seen (λ k. not (begins p k.path)) es ∙ ap (without_under p) s
-
-pub unset_apart : (k : Key) (s : Option ViewTree) (es new : Rows) (t : Table) (o : Option Watched) → new ≡ es → o ≡ lookup (is_key k) es → o ≡ None → map entry_of es ≡ t → map entry_of new ≡ with_kept k s t
-unset_apart k s es new t o n l e h = ap (map entry_of) n ∙ sym (unset-none k s es (sym l ∙ e)) ∙ ap (with_kept k s) h
 
 -- what is kept, behind a reference
 pub kept-seen : (r : Option (Bor Snap)) (o : Option Snap) → option_copied r ≡ o → option_map snap_of o ≡ option_map (λ s. snap_of s.now) r

@@ -1,14 +1,11 @@
 //! Assignment to names, members and items.
 ghost use Rattle.std.specs.Prelude.{◌≡◌, ◌<◌, ◌≤◌, ℕ, length, Ok, None, Some, if◌then◌else◌};
 ghost use Rattle.std.specs.List.{list_all};
-ghost use Rattle.ng_base.specs.Faults.{is_memory};
-ghost use Rattle.ng_base.specs.Meets.{Meets};
 ghost use Rattle.std.specs.Char.{is_ascii_digit};
 ghost use Rattle.ng_base.specs.Objects.{StandsAmong};
 ghost use Rattle.ng_language.specs.Objects.{set_name};
 ghost use Rattle.ng_members.specs.Leaves.{LocalsStand};
 ghost use Rattle.ng_write.specs.Assigning.{is_kept_name, scope_assigned, length_assigned, item_assigned, is_whole_name, beyond, indexed, array_assigned, object_assigned, member_assigned, is_local, place_among, locals_after, name_assigned};
-ghost use Rattle.ng_write.specs.Making.{index_name, item_set};
 ghost use Rattle.ng_write.specs.Written.{Writes};
 
 use ng_base::fault::Fault;
@@ -19,10 +16,7 @@ use ng_base::name::Oid;
 use ng_base::reader::Plain;
 use ng_base::txt::Txt;
 use ng_base::value::Value;
-use ng_base::view::View;
 use ng_store::Store;
-use ng_value::texts::to_text;
-use std::alloc::Global;
 
 /// A scope's number, its parent and the root.
 pub(crate) fn is_kept_name(name: &Txt) -> bool
@@ -175,35 +169,6 @@ pub fn assign_member(store: &mut Store, target: &Value, name: &Txt, v: Value) ->
         Value::Obj(o) => assign_object(store, *o, name, v),
         _ => Err(Fault::NotAssignable),
     }
-}
-
-/// The name that an index stands for: its text, where the target has members.
-pub fn index_name(alloc: Global, store: &Store, target: &Value, index: &Value) -> Result<Txt, Fault>
-    requires { StandsAmong (length store.now) index.now }
-    ensures { Meets is_memory (index_name store.now target.now index.now) result }
-{
-    match target {
-        Value::Obj(_) | Value::Text(_) => to_text(alloc, store, &View::of_value(index.copied()?)),
-        _ => Ok(Txt::new(alloc)),
-    }
-}
-
-/// `a[i] = v`.
-pub fn assign_item(
-    alloc: Global,
-    store: &mut Store,
-    target: &Value,
-    index: &Value,
-    v: Value,
-) -> Result<(), Fault>
-    requires target { StandsAmong (length store.old) target.now }
-    requires index { StandsAmong (length store.old) index.now }
-    requires value { StandsAmong (length store.old) v }
-    ensures assigned { Writes (item_set store.old target.now index.now v) store.new result }
-    ensures len { length store.new ≡ length store.old }
-{
-    let name = index_name(alloc, store, target, index)?;
-    assign_member(store, target, &name, v)
 }
 
 /// The place of the local of a name.

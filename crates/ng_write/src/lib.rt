@@ -8,7 +8,7 @@
 //! store.new result`, where the definition gives the list of objects after the call and the value or the fault. A fault
 //! leaves the objects as they were, but for those that the definition made before it.
 //!
-//! `storing` is `stored`, the value of a view; `assigning` are the three assignments, `making` what is made along the
+//! `storing` is `stored`, the value of a view; `assigning` are the assignments, `making` what is made along the
 //! left of them; `changing` are the methods of arrays; `events` are those of event objects; `facts` reads the members of an
 //! application's data as names of the root scope's own object; `laws` says what a reader may take from the definitions: a
 //! bare name changes the locals or the scope's own object and no other, an assignment changes one object and is read back
