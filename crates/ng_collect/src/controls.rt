@@ -8,7 +8,7 @@ use ng_html::attrs::Attrs;
 use std::alloc::{AllocError, Global};
 
 /// The value of the attribute `type`.
-fn type_of(attrs: &Attrs) -> Option<&Txt>
+pub fn type_of(attrs: &Attrs) -> Option<&Txt>
     ensures { option_copied result ≡ type_in attrs.now }
 {
     for attr in attrs.as_slice() {

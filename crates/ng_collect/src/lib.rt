@@ -36,6 +36,7 @@ pub mod table;
 
 pub use cloak::{kept_attrs, kept_value};
 pub use collecting::{collect, collect_below};
+pub use controls::type_of;
 pub use definition::{DirectiveDef, ScopeAsk, Specs};
 pub use fault::{CollectFault, DefFault};
 pub use pick::{Directive, Pick, Picked};

@@ -8,10 +8,11 @@ ghost use Rattle.ng_base.specs.declared.value.Value.TheVariants.{Bool};
 ghost use Rattle.ng_language.specs.Views.{ViewStands};
 ghost use Rattle.ng_control.specs.State.{fresh, typed_in, checked_in, after_touch, with_model, standing};
 ghost use Rattle.ng_control.specs.Shown.{shown as shown_of, is_typed_empty as is_typed_empty_of, is_text_empty as is_text_empty_of, is_empty as is_empty_of, is_invalid as is_invalid_of, classes as classes_of};
+ghost use Rattle.ng_control.specs.Kept.{shown_with as shown_with_of, is_text_empty_with as is_text_empty_with_of, is_empty_with as is_empty_with_of, classes_with as classes_with_of};
 ghost use Rattle.ng_control.specs.Typed.{parsed as parsed_of, TakesText, IsCheckbox};
 
 use crate::kind::{ControlKind, Typed};
-use crate::model::{is_checked, is_undefined, model_text, while_model};
+use crate::model::{copied_typed, is_checked, is_undefined, model_text, while_model};
 use crate::reading::{nil, parsed};
 use crate::words::state_classes;
 use ng_base::fault::{Fault, Memory};
@@ -21,7 +22,7 @@ use ng_base::trimming::{AsciiSpace, trim};
 use ng_base::txt::Txt;
 use ng_base::value::Value;
 use ng_base::view::View;
-use std::alloc::Global;
+use std::alloc::{AllocError, Global};
 use std::marker::Model;
 
 /// A control: what was typed into it, and whether it is dirty and was touched.
@@ -99,6 +100,27 @@ fn is_empty<H: Heap>(
         ControlKind::Checkbox => Ok(!is_checked(v)),
         ControlKind::Text { .. } => is_text_empty(alloc, h, kind, v, typed),
         ControlKind::Number => is_text_empty(alloc, h, kind, v, typed),
+    }
+}
+
+/// Whether a control that takes texts is empty, where its model has this text.
+fn is_text_empty_with(kind: ControlKind, text: &Txt, typed: Option<&Typed>) -> bool
+    ensures { result ≡ is_text_empty_with_of kind text.now (option_copied typed.entry) }
+{
+    match typed {
+        Some(typed) => is_typed_empty(kind, &typed.text),
+        None => nil(text.as_str()),
+    }
+}
+
+/// Whether a control is empty, where its model has this text.
+fn is_empty_with(kind: ControlKind, v: &View, text: &Txt, typed: Option<&Typed>) -> bool
+    ensures { result ≡ is_empty_with_of kind (view_of v.now) text.now (option_copied typed.entry) }
+{
+    match kind {
+        ControlKind::Checkbox => !is_checked(v),
+        ControlKind::Text { .. } => is_text_empty_with(kind, text, typed),
+        ControlKind::Number => is_text_empty_with(kind, text, typed),
     }
 }
 
@@ -190,5 +212,37 @@ impl Control {
         let empty = is_empty(self.alloc, h, self.kind, v, self.standing(v))?;
         let invalid = is_invalid(self.kind, self.standing(v));
         Ok(state_classes(self.alloc, self.dirty, self.touched, invalid, empty)?)
+    }
+
+    /// What stands in the element, where the model was kept and has this text.
+    pub fn shown_with(&self, v: &View, text: Txt) -> Result<Txt, AllocError>
+        ensures { IfOk result (λ t. t ≡ shown_with_of self.now (view_of v.now) text) }
+    {
+        match self.standing(v) {
+            Some(typed) => typed.text.copied(),
+            None => Ok(text),
+        }
+    }
+
+    /// The state classes, where the model was kept and has this text.
+    pub fn classes_with(&self, v: &View, text: &Txt) -> Result<Words, AllocError>
+        ensures { IfOk result (λ w. w ≡ classes_with_of self.now (view_of v.now) text.now) }
+    {
+        let empty = is_empty_with(self.kind, v, text, self.standing(v));
+        let invalid = is_invalid(self.kind, self.standing(v));
+        state_classes(self.alloc, self.dirty, self.touched, invalid, empty)
+    }
+
+    /// The same control again.
+    pub fn copied(&self) -> Result<Control, AllocError>
+        ensures { IfOk result (λ c. c ≡ self.now) }
+    {
+        Ok(Control {
+            alloc: self.alloc,
+            kind: self.kind,
+            typed: copied_typed(&self.typed)?,
+            dirty: self.dirty,
+            touched: self.touched,
+        })
     }
 }

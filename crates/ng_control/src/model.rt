@@ -1,5 +1,5 @@
 //! What a model is beside what was typed, and its text.
-ghost use Rattle.std.specs.Prelude.{◌≡◌, length, option_copied};
+ghost use Rattle.std.specs.Prelude.{◌≡◌, length, option_copied, IfOk};
 ghost use Rattle.ng_base.specs.Faults.{is_memory};
 ghost use Rattle.ng_base.specs.Meets.{Meets};
 ghost use Rattle.ng_base.specs.ViewOf.{view_of};
@@ -15,7 +15,7 @@ use ng_base::value::Value;
 use ng_base::view::View;
 use ng_value::operators::same;
 use ng_value::texts::to_text;
-use std::alloc::Global;
+use std::alloc::{AllocError, Global};
 
 /// Whether the model is this value.
 fn is_model(v: &View, value: &Value) -> bool
@@ -44,6 +44,19 @@ pub(crate) fn while_model<'a>(v: &View, typed: &'a Option<Typed>) -> Option<&'a 
     }
 }
 
+/// What was typed, again.
+pub(crate) fn copied_typed(typed: &Option<Typed>) -> Result<Option<Typed>, AllocError>
+    ensures { IfOk result (λ t. t ≡ typed.now) }
+{
+    match typed {
+        None => Ok(None),
+        Some(typed) => Ok(Some(Typed {
+            text: typed.text.copied()?,
+            parsed: typed.parsed.copied()?,
+        })),
+    }
+}
+
 /// The text of a model: none for undefined, null and NaN.
 pub(crate) fn model_text<H: Heap>(alloc: Global, h: &H, v: &View) -> Result<Txt, Fault>
     requires { ViewStands (length (H.objects h.now)) (view_of v.now) }
@@ -58,7 +71,7 @@ pub(crate) fn model_text<H: Heap>(alloc: Global, h: &H, v: &View) -> Result<Txt,
 }
 
 /// Whether a checkbox is checked.
-pub(crate) fn is_checked(v: &View) -> bool
+pub fn is_checked(v: &View) -> bool
     ensures { result ≡ is_checked_of (view_of v.now) }
 {
     match v {

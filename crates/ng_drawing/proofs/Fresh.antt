@@ -3,7 +3,6 @@ use Rattle.std.proofs.Common.{◌≡◌, ℕ, List, [], ◌∷◌, refl, ap, ◌
 use Rattle.std.specs.List.{flat_map, list_any}
 use Rattle.ng_markup.specs.Attributes.{with_value}
 use Rattle.ng_markup.specs.Forest.{Attributes}
-use Rattle.ng_drawing.specs.Looks.{kept_words}
 use Rattle.ng_drawing.specs.Template.{Piece, word, hole, Hiding, while_true, while_false, PartClass, PartValue, always, unless_empty, flag, classes, PartAttributes, Part, Contents, Parts, text_part, comment_part, element_part, anchor_part, children, bound, no_parts, part_then}
 use Rattle.ng_drawing.specs.Drawing.{Look, Groups, draw_piece, draw_pieces, is_hiding, draw_class, draw_value, draw_attributes, draw_part, draw_contents, draw, Now, GroupsNow, Rendered, ◌>>-◌, shown_as, render_piece, render_pieces, render_words, render_hiding, render_hidings, render_class, render_value, render_attributes, needed, render_part, render_contents, render}
 
@@ -20,7 +19,7 @@ module _ (look : Look) (now : Now) (fresh : (n : ℕ) → now n ≡ shown_as (lo
   fresh_pieces [] = refl
   fresh_pieces (p ∷ ps) = on _ (fresh_piece p) (on _ (fresh_pieces ps) refl)
 
-  fresh_words : (ns : List ℕ) → render_words now ns ≡ shown_as (flat_map (λ n. kept_words (look n)) ns)
+  fresh_words : (ns : List ℕ) → render_words now ns ≡ shown_as (flat_map (λ n. (look n).words) ns)
   fresh_words [] = refl
   fresh_words (n ∷ ns) = on _ (fresh n) (on _ (fresh_words ns) refl)
 

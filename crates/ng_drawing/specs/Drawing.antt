@@ -1,41 +1,40 @@
--- The document that parts show: one drawing, over what each site has kept and what fills each outlet. Beside it the rendering, by the
+-- The document that parts show: one drawing, over what is seen of each site and what fills each outlet. Beside it the rendering, by the
 -- same recursion.
 use Rattle.std.specs.Prelude.{ℕ, Bool, false, ◌||◌, List, [], ◌∷◌, ◌++◌, Option, Some, None, Result, Ok, Err, codes, if◌then◌else◌}
 use Rattle.std.specs.List.{flat_map, list_any}
-use Rattle.ng_base.specs.Views.{ViewTree}
 use Rattle.ng_base.specs.declared.fault.Fault.{Fault}
 use Rattle.ng_language.specs.Texts.{words_in}
 use Rattle.ng_markup.specs.Attributes.{if_any, word_if, with_value, class_value}
 use Rattle.ng_markup.specs.Forest.{Attributes, Forest, element, text, comment, no_nodes, node}
-use Rattle.ng_drawing.specs.Looks.{kept_text, kept_words, is_kept_true, is_kept_false}
+use Rattle.ng_drawing.specs.Looks.{Seen, is_seen_true, is_seen_false}
 use Rattle.ng_drawing.specs.Template.{Piece, word, hole, Hiding, while_true, while_false, PartClass, PartValue, always, unless_empty, flag, classes, PartAttributes, Part, Contents, Parts, text_part, comment_part, element_part, anchor_part, children, bound, no_parts, part_then}
 
--- what each site has kept, or nothing yet
+-- what is seen of each site
 abbrev pub Look : Type 0
-Look = ℕ → Option ViewTree
+Look = ℕ → Seen
 
 abbrev pub draw_piece : Look → Piece → List ℕ
 draw_piece look (word w) = w
-draw_piece look (hole n) = kept_text (look n)
+draw_piece look (hole n) = (look n).text
 
 abbrev pub draw_pieces : Look → List Piece → List ℕ
 draw_pieces look ps = flat_map (draw_piece look) ps
 
 abbrev pub is_hiding : Look → Hiding → Bool
-is_hiding look (while_true n) = is_kept_true (look n)
-is_hiding look (while_false n) = is_kept_false (look n)
+is_hiding look (while_true n) = is_seen_true (look n)
+is_hiding look (while_false n) = is_seen_false (look n)
 
 -- the words of a class: those of the written text, those of its sites, and `ng-hide` where the element is hidden
 abbrev pub class_words : List ℕ → List (List ℕ) → Bool → List (List ℕ)
 class_words t ws hidden = words_in [] t ++ ws ++ (if hidden then codes "ng-hide" ∷ [] else [])
 
 abbrev pub draw_class : Look → PartClass → Option (List ℕ)
-draw_class look c = class_value c.written (class_words (draw_pieces look c.pieces) (flat_map (λ n. kept_words (look n)) c.words) (list_any (is_hiding look) c.hidings))
+draw_class look c = class_value c.written (class_words (draw_pieces look c.pieces) (flat_map (λ n. (look n).words) c.words) (list_any (is_hiding look) c.hidings))
 
 abbrev pub draw_value : Look → PartValue → Option (List ℕ)
 draw_value look (always ps) = Some (draw_pieces look ps)
 draw_value look (unless_empty ps) = if_any (draw_pieces look ps)
-draw_value look (flag w n) = word_if (is_kept_true (look n)) w
+draw_value look (flag w n) = word_if (is_seen_true (look n)) w
 draw_value look (classes c) = draw_class look c
 
 -- attributes are set one after another, each at its place in the order of the names
@@ -62,7 +61,7 @@ abbrev mutual
 
   pub draw_contents : Look → Groups → Contents → Forest
   draw_contents look groups (children ps) = draw look groups ps
-  draw_contents look groups (bound n) = node (text (kept_text (look n))) no_nodes
+  draw_contents look groups (bound n) = node (text (look n).text) no_nodes
 
   pub draw : Look → Groups → Parts → Forest
   draw look groups no_parts = no_nodes
@@ -82,14 +81,14 @@ abbrev pub ◌>>-◌ : {A B : Type 0} → Rendered A → (A → Rendered B) → 
 abbrev pub shown_as : {A : Type 0} → A → Rendered A
 shown_as v = Ok (Some v)
 
--- what each site shows now, or nothing where it rests unset
+-- what is seen of each site now
 abbrev pub Now : Type 0
-Now = ℕ → Rendered (Option ViewTree)
+Now = ℕ → Rendered Seen
 
 -- The rendering: the document computed afresh, each expression evaluated now, in document order.
 abbrev pub render_piece : Now → Piece → Rendered (List ℕ)
 render_piece now (word w) = shown_as w
-render_piece now (hole n) = now n >>- λ s. shown_as (kept_text s)
+render_piece now (hole n) = now n >>- λ e. shown_as e.text
 
 abbrev pub render_pieces : Now → List Piece → Rendered (List ℕ)
 render_pieces now [] = shown_as []
@@ -97,11 +96,11 @@ render_pieces now (p ∷ ps) = render_piece now p >>- λ t. render_pieces now ps
 
 abbrev pub render_words : Now → List ℕ → Rendered (List (List ℕ))
 render_words now [] = shown_as []
-render_words now (n ∷ ns) = now n >>- λ s. render_words now ns >>- λ ws. shown_as (kept_words s ++ ws)
+render_words now (n ∷ ns) = now n >>- λ e. render_words now ns >>- λ ws. shown_as (e.words ++ ws)
 
 abbrev pub render_hiding : Now → Hiding → Rendered Bool
-render_hiding now (while_true n) = now n >>- λ s. shown_as (is_kept_true s)
-render_hiding now (while_false n) = now n >>- λ s. shown_as (is_kept_false s)
+render_hiding now (while_true n) = now n >>- λ e. shown_as (is_seen_true e)
+render_hiding now (while_false n) = now n >>- λ e. shown_as (is_seen_false e)
 
 abbrev pub render_hidings : Now → List Hiding → Rendered Bool
 render_hidings now [] = shown_as false
@@ -114,7 +113,7 @@ render_class now c =
 abbrev pub render_value : Now → PartValue → Rendered (Option (List ℕ))
 render_value now (always ps) = render_pieces now ps >>- λ t. shown_as (Some t)
 render_value now (unless_empty ps) = render_pieces now ps >>- λ t. shown_as (if_any t)
-render_value now (flag w n) = now n >>- λ s. shown_as (word_if (is_kept_true s) w)
+render_value now (flag w n) = now n >>- λ e. shown_as (word_if (is_seen_true e) w)
 render_value now (classes c) = render_class now c
 
 abbrev pub render_attributes : Now → PartAttributes → Attributes → Rendered Attributes
@@ -142,7 +141,7 @@ abbrev mutual
 
   pub render_contents : Now → GroupsNow → Contents → Rendered Forest
   render_contents now groups (children ps) = render now groups ps
-  render_contents now groups (bound n) = now n >>- λ s. shown_as (node (text (kept_text s)) no_nodes)
+  render_contents now groups (bound n) = now n >>- λ e. shown_as (node (text e.text) no_nodes)
 
   pub render : Now → GroupsNow → Parts → Rendered Forest
   render now groups no_parts = shown_as no_nodes

@@ -1,7 +1,7 @@
 -- An element with a template in it (API: ngInclude): the parts of the template become the children of the element. Its sites follow those of
 -- the element, which has no outlets.
-use Rattle.std.specs.Prelude.{ℕ, ◌+◌, Bool, true, false, List, map, length, ◌++◌, Option, None, Some, if◌then◌else◌}
-use Rattle.ng_drawing.specs.Template.{Piece, word, hole, Hiding, while_true, while_false, PartClass, PartValue, always, unless_empty, flag, classes, PartAttributes, Acts, Part, text_part, comment_part, element_part, anchor_part, Contents, children, bound, Parts, no_parts, part_then, Outlet, Fragment}
+use Rattle.std.specs.Prelude.{ℕ, ◌+◌, Bool, true, false, List, map, length, ◌++◌, Option, None, Some, option_map, if◌then◌else◌}
+use Rattle.ng_drawing.specs.Template.{Piece, word, hole, Hiding, while_true, while_false, PartClass, PartValue, always, unless_empty, flag, classes, PartAttributes, Control, Acts, Part, text_part, comment_part, element_part, anchor_part, Contents, children, bound, Parts, no_parts, part_then, Outlet, Fragment}
 
 -- parts after so many sites
 module _ (sites : ℕ) where
@@ -31,11 +31,17 @@ module _ (sites : ℕ) where
   abbrev pub later_attributes : PartAttributes → PartAttributes
   later_attributes ats = map (λ a. (a.0, later_value a.1)) ats
 
+  abbrev pub later_control : Control → Control
+  later_control c = record { kind = c.kind; site = sites + c.site; writes = c.writes; changes = c.changes }
+
+  abbrev pub later_acts : Acts → Acts
+  later_acts a = record { starts = a.starts; handlers = a.handlers; control = option_map later_control a.control }
+
   abbrev mutual
     pub later_part : Part → Part
     later_part (text_part ps) = text_part (later_pieces ps)
     later_part (comment_part t) = comment_part t
-    later_part (element_part e own acts ats p) = element_part e (later own) acts (later_attributes ats) (later_contents p)
+    later_part (element_part e own acts ats p) = element_part e (later own) (later_acts acts) (later_attributes ats) (later_contents p)
     later_part (anchor_part outlet own starts) = anchor_part outlet (later own) starts
 
     pub later_contents : Contents → Contents

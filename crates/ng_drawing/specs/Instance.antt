@@ -1,7 +1,9 @@
--- An instance of a fragment: what a run adds to it. For each site its key, its scope, what it has kept, and whether it rests, which is
--- to say that its scope is destroyed or its one-time binding has ended; and for each outlet the bodies that fill it.
+-- An instance of a fragment: what a run adds to it. For each site its key, its scope, what it has kept, whether it rests, which is
+-- to say that its scope is destroyed or its one-time binding has ended, and the state of the control whose model it is; and for each outlet the
+-- bodies that fill it.
 use Rattle.std.specs.Prelude.{ℕ, ◌≡◌, Bool, true, false, List, [], ◌∷◌, map, Option, Some, None, Result, Ok, slice_get, slice_index_or, if◌then◌else◌}
 use Rattle.std.specs.Option.{option_map_or}
+use Rattle.ng_control.specs.State.{ControlState}
 use Rattle.ng_base.specs.Meets.{◌>>=◌}
 use Rattle.ng_base.specs.Objects.{Object}
 use Rattle.ng_base.specs.Views.{ViewTree, prim, list, views_from}
@@ -20,6 +22,7 @@ use Rattle.ng_drawing.specs.Roles.{Role}
 use Rattle.ng_drawing.specs.Rows.{is_filled}
 use Rattle.ng_drawing.specs.Template.{Site, Outlet, Fragment}
 use Rattle.ng_drawing.specs.Drawing.{Look, followed_by, draw, Now, Rendered, ◌>>-◌, shown_as, render}
+use Rattle.ng_drawing.specs.Looks.{Seen, seen_by}
 use Rattle.ng_drawing.specs.declared.kind.SiteKind.{SiteKind}
 use Rattle.ng_drawing.specs.declared.kind.SiteKind.TheVariants as kinds
 
@@ -28,6 +31,7 @@ pub record SiteState : Type 0 where
   pub scope : ℕ
   pub kept : Option ViewTree
   pub rests : Bool
+  pub control : Option ControlState
 
 mutual
   pub data Instance : Type 0 where
@@ -60,13 +64,25 @@ abbrev pub state_kept : Option SiteState → Option ViewTree
 state_kept None = None
 state_kept (Some s) = s.kept
 
-abbrev pub kept_by : List SiteState → Look
+abbrev pub kept_by : List SiteState → ℕ → Option ViewTree
 kept_by states n = state_kept (slice_get states n)
+
+-- the state of the control whose model the site of a number is
+abbrev pub state_control : Option SiteState → Option ControlState
+state_control None = None
+state_control (Some s) = s.control
+
+-- what is seen of the site of a number where it has this
+abbrev pub seen_at : List SiteState → ℕ → Option ViewTree → Seen
+seen_at states n v = seen_by (state_control (slice_get states n)) v
+
+abbrev pub seen_in : List SiteState → Look
+seen_in states n = seen_at states n (kept_by states n)
 
 -- what is shown: the drawing with what is kept, and with the bodies that stand
 abbrev mutual
   pub shown : Instance → Forest
-  shown (instance_with f scope states outlets) = draw (kept_by states) (λ o. slice_index_or (shown_in outlets) o no_nodes) f.parts
+  shown (instance_with f scope states outlets) = draw (seen_in states) (λ o. slice_index_or (shown_in outlets) o no_nodes) f.parts
 
   pub shown_all : Instances → Forest
   shown_all no_instances = no_nodes
@@ -101,15 +117,22 @@ snapshot_now objects o x = evaluated_program objects o [] x.program >>= snapshot
 abbrev pub rendered_now : Result ViewTree Fault → Rendered (Option ViewTree)
 rendered_now r = r >>= λ v. shown_as (Some v)
 
--- a site shows its value now, and one that rests what it has kept
+-- a site has its value now, and one that rests what it has kept
 abbrev pub site_now : List Object → List Scope → Option Site → Option SiteState → Rendered (Option ViewTree)
 site_now objects scopes None s = shown_as None
 site_now objects scopes (Some x) None = shown_as None
 site_now objects scopes (Some x) (Some s) = if s.rests then shown_as s.kept else rendered_now (snapshot_now objects (object_at scopes s.scope) x)
 
--- what each site shows now
-abbrev pub instance_now : List Object → List Scope → List Site → List SiteState → Now
+-- what each site has now, or nothing where it rests unset
+abbrev pub KeptNow : Type 0
+KeptNow = ℕ → Rendered (Option ViewTree)
+
+abbrev pub instance_now : List Object → List Scope → List Site → List SiteState → KeptNow
 instance_now objects scopes sites states n = site_now objects scopes (slice_get sites n) (slice_get states n)
+
+-- what is seen of each site then
+abbrev pub seen_now : KeptNow → List SiteState → Now
+seen_now now states n = now n >>- λ v. shown_as (seen_at states n v)
 
 -- the cases of the switch of each site
 abbrev pub CasesAt : Type 0
@@ -120,11 +143,11 @@ rests_in states n = option_map_or (λ (s : SiteState). s.rests) (slice_get state
 
 -- What fills an outlet now: the bodies that stand, which must be those that the value of its site calls for now. A site that rests calls
 -- for nothing.
-abbrev pub outlet_now : Now → List SiteState → CasesAt → Outlet → List Role → Rendered Forest → Rendered Forest
+abbrev pub outlet_now : KeptNow → List SiteState → CasesAt → Outlet → List Role → Rendered Forest → Rendered Forest
 outlet_now now states cases o rs bodies = if rests_in states o.site then bodies else now o.site >>- λ v. if is_filled (cases o.site) o.filling v rs then bodies else Ok None
 
 -- an outlet that the fragment doesn't have is filled anyhow
-abbrev pub outlet_at : Now → List SiteState → CasesAt → Option Outlet → List Role → Rendered Forest → Rendered Forest
+abbrev pub outlet_at : KeptNow → List SiteState → CasesAt → Option Outlet → List Role → Rendered Forest → Rendered Forest
 outlet_at now states cases None rs bodies = bodies
 outlet_at now states cases (Some o) rs bodies = outlet_now now states cases o rs bodies
 
@@ -132,14 +155,14 @@ outlet_at now states cases (Some o) rs bodies = outlet_now now states cases o rs
 abbrev mutual
   pub rendering : List Object → List Scope → Instance → Rendered Forest
   rendering objects scopes (instance_with f scope states outlets) =
-      render (instance_now objects scopes f.sites states)
+      render (seen_now (instance_now objects scopes f.sites states) states)
       (λ o. slice_index_or (rendering_in objects scopes (instance_now objects scopes f.sites states) states (cases_of f.outlets) f.outlets outlets) o (shown_as no_nodes)) f.parts
 
   pub rendering_all : List Object → List Scope → Instances → Rendered Forest
   rendering_all objects scopes no_instances = shown_as no_nodes
   rendering_all objects scopes (instance_then i is) = rendering objects scopes i >>- λ f. rendering_all objects scopes is >>- λ g. shown_as (followed_by f g)
 
-  pub rendering_in : List Object → List Scope → Now → List SiteState → CasesAt → List Outlet → Outlets → List (Rendered Forest)
+  pub rendering_in : List Object → List Scope → KeptNow → List SiteState → CasesAt → List Outlet → Outlets → List (Rendered Forest)
   rendering_in objects scopes now states cases os no_outlets = []
   rendering_in objects scopes now states cases [] (outlet_then rs is rest) = rendering_all objects scopes is ∷ rendering_in objects scopes now states cases [] rest
   rendering_in objects scopes now states cases (o ∷ os) (outlet_then rs is rest) =
@@ -149,7 +172,7 @@ abbrev mutual
 abbrev pub IsFilled : List SiteState → CasesAt → Outlet → List Role → Type 0
 IsFilled states cases o rs = rests_in states o.site ≡ false → is_filled (cases o.site) o.filling (kept_by states o.site) rs ≡ true
 
--- each site of an instance and of the bodies in it shows now what it has kept, and each outlet has the bodies that this calls for
+-- each site of an instance and of the bodies in it has now what it has kept, and each outlet has the bodies that this calls for
 abbrev mutual
   pub IsFresh : List Object → List Scope → Instance → Type 0
   IsFresh objects scopes (instance_with f scope states outlets) =

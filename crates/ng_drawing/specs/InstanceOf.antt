@@ -14,7 +14,7 @@ use Rattle.ng_drawing.specs.declared.instance.Instance.TheOpen.{Instance-F, Inst
 use Rattle.ng_drawing.specs.declared.origin.Origin.{Origin}
 
 abbrev pub state_of : code_state.SiteState → SiteState
-state_of s = record { key = s.key; scope = s.scope.0; kept = option_map snap_of s.kept; rests = s.rests }
+state_of s = record { key = s.key; scope = s.scope.0; kept = option_map snap_of s.kept; rests = s.rests; control = s.control }
 
 -- the fragment that an instance is one of
 abbrev pub Fragments : Type 0

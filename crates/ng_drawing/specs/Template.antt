@@ -1,6 +1,7 @@
 -- A compiled template: a tree of parts whose texts and attributes are cut at their holes, and its sites, the expressions
 -- that are watched, numbered in document order (guide: HTML Compiler).
-use Rattle.std.specs.Prelude.{ℕ, Bool, List, [], ◌∷◌, Option, slice_get}
+use Rattle.std.specs.Prelude.{ℕ, Bool, List, [], ◌∷◌, Option, None, slice_get}
+use Rattle.ng_control.specs.declared.kind.ControlKind.{ControlKind}
 use Rattle.ng_language.specs.Trees.{Trees}
 use Rattle.ng_drawing.specs.declared.kind.SiteKind.{SiteKind}
 
@@ -35,11 +36,24 @@ pub data PartValue : Type 0 where
 abbrev pub PartAttributes : Type 0
 PartAttributes = List (List ℕ × PartValue)
 
--- What an element does: programs that run when it is linked, and programs that handle events of the document, each with the name
--- of its event (API: ngInit, ngClick).
+-- A control: its kind, the number of the site that watches its model, the program that writes what was put in to the model, and those that
+-- run after that (API: ngModel, ngChange).
+pub record Control : Type 0 where
+  pub kind : ControlKind
+  pub site : ℕ
+  pub writes : Trees
+  pub changes : List Trees
+
+-- What an element does: programs that run when it is linked; programs that handle events of the document, each with the name
+-- of its event (API: ngInit, ngClick); and the control that it is.
 pub record Acts : Type 0 where
   pub starts : List Trees
   pub handlers : List (List ℕ × Trees)
+  pub control : Option Control
+
+-- an element that does nothing
+abbrev pub no_acts : Acts
+no_acts = record { starts = []; handlers = []; control = None }
 
 -- An element has its name, the numbers of its own sites in the order of its directives, what it does, its attributes and its
 -- contents: its children, or the text that one of its sites shows (API: ngBind). An anchor stands where a block was: it has the number

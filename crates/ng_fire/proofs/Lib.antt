@@ -27,3 +27,4 @@ pub mod MadeItems
 pub mod KeysFound
 pub mod NewRows
 pub mod RowsStay
+pub mod Written

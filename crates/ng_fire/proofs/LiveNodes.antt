@@ -2,11 +2,12 @@
 use Rattle.std.proofs.Common.{◌≡◌, ◌∙◌, ◌+◌, ℕ, zero, suc, Bool, true, false, cond, List, [], ◌∷◌, map, refl, ap, sym, arith}
 use Rattle.std.specs.Prelude.{slice_index_or}
 use Rattle.ng_drawing.specs.Drawing.{followed_by}
-use Rattle.ng_drawing.specs.Instance.{Instance, instances_from, outlets_from, kept_by, shown, shown_all, shown_in}
+use Rattle.ng_drawing.specs.Instance.{Instance, instances_from, outlets_from, seen_in, shown, shown_all, shown_in}
 use Rattle.ng_drawing.proofs.Counted.{drawn_nodes}
 use Rattle.ng_drawing.specs.Nodes.{forest_count, nodes, part_filled, content_filled, filled}
 use Rattle.ng_drawing.specs.Template.{Part, Contents, Parts, text_part, comment_part, element_part, anchor_part, children, bound, no_parts, part_then}
 use Rattle.ng_markup.specs.Forest.{Forest, no_nodes, node}
+use Rattle.ng_link.specs.Controls.{Controls}
 use Rattle.ng_link.specs.Instances.{Body, OutletState, Linked, Instances, is_path, read_bodies}
 use Rattle.ng_link.specs.State.{State, Resting, groups_in, instance_at, instance_join, site_states, live_nodes}
 use Rattle.ng_watch.specs.Table.{Table}
@@ -50,27 +51,27 @@ module _ (go to : List ℕ → Instance) (same : (q : List ℕ) → forest_count
   groups_alike (x ∷ os) zero = bodies_alike x.bodies
   groups_alike (x ∷ os) (suc o) = groups_alike os o
 
-  join_alike : (t t' : Table) (r r' : Resting) (l : Linked) → forest_count (shown (instance_join t r l (read_bodies go l.page.outlets))) ≡ forest_count (shown (instance_join t' r' l (read_bodies to l.page.outlets)))
-  join_alike t t' r r' l =
-      drawn_nodes (kept_by (site_states t r l.page)) (group go l.page.outlets) l.fragment.parts
+  join_alike : (t t' : Table) (r r' : Resting) (c c' : Controls) (l : Linked) → forest_count (shown (instance_join t r c l (read_bodies go l.page.outlets))) ≡ forest_count (shown (instance_join t' r' c' l (read_bodies to l.page.outlets)))
+  join_alike t t' r r' c c' l =
+      drawn_nodes (seen_in (site_states t r c l.page)) (group go l.page.outlets) l.fragment.parts
       ∙ (ap (λ (n : ℕ). nodes l.fragment.parts + n) (alike_filled (λ o. forest_count (group go l.page.outlets o)) (λ o. forest_count (group to l.page.outlets o)) (groups_alike l.page.outlets) l.fragment.parts)
-      ∙ sym (drawn_nodes (kept_by (site_states t' r' l.page)) (group to l.page.outlets) l.fragment.parts))
+      ∙ sym (drawn_nodes (seen_in (site_states t' r' c' l.page)) (group to l.page.outlets) l.fragment.parts))
 
-pub instances_alike : (t t' : Table) (r r' : Resting) (is : Instances) (p : List ℕ) → forest_count (shown (instance_at t r is p)) ≡ forest_count (shown (instance_at t' r' is p))
-instances_alike t t' r r' [] p = refl
-instances_alike t t' r r' (e ∷ es) p = by_test (is_path p e.0) (instances_alike t t' r r' es)
+pub instances_alike : (t t' : Table) (r r' : Resting) (c c' : Controls) (is : Instances) (p : List ℕ) → forest_count (shown (instance_at t r c is p)) ≡ forest_count (shown (instance_at t' r' c' is p))
+instances_alike t t' r r' c c' [] p = refl
+instances_alike t t' r r' c c' (e ∷ es) p = by_test (is_path p e.0) (instances_alike t t' r r' c c' es)
   where
     go : List ℕ → Instance
-    go = instance_at t r es
+    go = instance_at t r c es
 
     to : List ℕ → Instance
-    to = instance_at t' r' es
+    to = instance_at t' r' c' es
 
-    by_test : (b : Bool) → ((q : List ℕ) → forest_count (shown (go q)) ≡ forest_count (shown (to q))) → forest_count (shown (cond b (instance_join t r e.1 (read_bodies go e.1.page.outlets)) (go p))) ≡ forest_count (shown (cond b (instance_join t' r' e.1 (read_bodies to e.1.page.outlets)) (to p)))
-    by_test true more = join_alike go to more t t' r r' e.1
+    by_test : (b : Bool) → ((q : List ℕ) → forest_count (shown (go q)) ≡ forest_count (shown (to q))) → forest_count (shown (cond b (instance_join t r c e.1 (read_bodies go e.1.page.outlets)) (go p))) ≡ forest_count (shown (cond b (instance_join t' r' c' e.1 (read_bodies to e.1.page.outlets)) (to p)))
+    by_test true more = join_alike go to more t t' r r' c c' e.1
     by_test false more = more p
 
 pub live_nodes_same : (s t : State) → s.instances ≡ t.instances → live_nodes s ≡ live_nodes t
 live_nodes_same s t e =
-    instances_alike s.watchers t.watchers s.resting t.resting s.instances []
-    ∙ ap (λ (is : Instances). forest_count (shown (instance_at t.watchers t.resting is []))) e
+    instances_alike s.watchers t.watchers s.resting t.resting s.controls t.controls s.instances []
+    ∙ ap (λ (is : Instances). forest_count (shown (instance_at t.watchers t.resting t.controls is []))) e

@@ -1,5 +1,6 @@
 pub mod Changes
 pub mod Runs
+pub mod Inputs
 pub mod Links
 pub mod Blocks
 pub mod Tracking

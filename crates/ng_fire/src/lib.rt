@@ -12,15 +12,16 @@
 //! - `run_task`: the first task that waits runs;
 //! - `settle`: once the rounds are over, watchers whose fire faulted keep nothing, one-time bindings whose value is there end,
 //!   and probes are evaluated, in this order; `give_up` does the first alone;
+//! - `write_model`: what was put in to a control is written to its model, and the programs of its `ng-change` run;
 //! - `follow`: after a program that a command ran, the same is done as after one that a fire ran.
 //!
 //! The contract that the crate above uses: each call leaves the state that its definition in `specs/` says, want of memory
 //! alone apart, and `IsWhole` of `specs/Whole.antt` holds of the works after it as before.
 //!
 //! In reading order: `changing` does what programs leave for the watchers, `following` hands a fault over before that, `programs` runs a
-//! program on a scope, `linking` links a fragment, `listening` runs the program of a declared watch; `tracking`, `rows` and `repeats` have
-//! the fire of a repeat's site, `choosing` says what a value calls for, `blocks` has the fire of every block's site, and `firing` every
-//! fire; `tasks` has the tasks, `settling` what comes last.
+//! program on a scope, `inputs` has what is put in to a control, `linking` links a fragment, `listening` runs the program of a declared
+//! watch; `tracking`, `rows` and `repeats` have the fire of a repeat's site, `choosing` says what a value calls for, `blocks` has the fire
+//! of every block's site, and `firing` every fire; `tasks` has the tasks, `settling` what comes last.
 //!
 //! Not here: which watcher is tested when (`ng_digest`, `ng_page`), what a program does (`ng_act`), and how nodes and watchers
 //! hang together (`ng_link`).
@@ -31,6 +32,7 @@ pub mod changing;
 mod choosing;
 pub mod firing;
 pub mod following;
+pub mod inputs;
 pub mod linking;
 mod listening;
 pub mod programs;

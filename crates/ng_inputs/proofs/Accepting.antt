@@ -9,10 +9,11 @@ use Rattle.ng_markup.specs.Forest.{Forest}
 use Rattle.ng_template.specs.Compiles.{compiled}
 use Rattle.ng_inputs.specs.Acts.{AreSound}
 use Rattle.ng_inputs.specs.Files.{Inputs}
-use Rattle.ng_inputs.specs.Refusals.{Accepted, refused_as, commands_of, accepted}
+use Rattle.ng_inputs.specs.Refusals.{Accepted, refused_as, accepted}
 use Rattle.ng_inputs.specs.declared.refusal.Refusal.{Refusal}
 use Rattle.ng_inputs.specs.declared.refusal.Refusal.TheVariants.{Document, Application, Template as OfTemplate, Script as OfScript}
 use Rattle.ng_inputs.proofs.Holding.{after, any}
+use Rattle.ng_script.specs.Scripts.{script_of}
 use Rattle.ng_inputs.proofs.Sound.{commands_sound}
 
 refused : {A E : Type 0} (kind : E → Refusal) (r : Result A E) (P : A → Type 0) → IfOk r P → IfOk (refused_as kind r) P
@@ -20,7 +21,7 @@ refused kind (Ok x) P h = h
 refused kind (Err e) P h = tt
 
 abbrev of_script : List ℕ → Facts → Template → Result Accepted Refusal
-of_script script facts template = refused_as OfScript (commands_of script) >>= λ commands. Ok (record { facts = facts; template = template; commands = commands })
+of_script script facts template = refused_as OfScript (script_of script) >>= λ commands. Ok (record { facts = facts; template = template; commands = commands })
 
 abbrev of_template : List ℕ → Facts → Forest × List ℕ → Result Accepted Refusal
 of_template script facts source = refused_as OfTemplate (compiled source [] false) >>= λ template. of_script script facts template
@@ -36,7 +37,7 @@ sound i =
     any (refused_as Document (read_bytes i.template)) (λ source. of_application i.application i.script source) HasSound (λ source.
     any (refused_as Application (facts_of i.application)) (λ facts. of_template i.script facts source) HasSound (λ facts.
     any (refused_as OfTemplate (compiled source [] false)) (λ template. of_script i.script facts template) HasSound (λ template.
-    after (refused_as OfScript (commands_of i.script)) (λ commands. Ok (record { facts = facts; template = template; commands = commands })) AreSound HasSound (refused OfScript (commands_of i.script) AreSound (commands_sound i.script)) (λ commands h. h))))
+    after (refused_as OfScript (script_of i.script)) (λ commands. Ok (record { facts = facts; template = template; commands = commands })) AreSound HasSound (refused OfScript (script_of i.script) AreSound (commands_sound i.script)) (λ commands h. h))))
 
 -- the commands are sound
 pub accepted_sound : (i : Inputs) (a : Accepted) → accepted i ≡ Ok a → AreSound a.commands

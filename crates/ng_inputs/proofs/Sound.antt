@@ -4,13 +4,14 @@ use Rattle.std.specs.Prelude.{Result, Ok, Err, IfOk, if◌then◌else◌, is_som
 use Rattle.std.specs.Str.{chars, is_utf8}
 use Rattle.serde_json.specs.Data.{Data}
 use Rattle.serde_json.specs.Find.{as_array}
-use Rattle.ng_base.specs.Meets.{◌>>=◌}
+use Rattle.ng_base.specs.Meets.{◌>>=◌, Gives}
 use Rattle.ng_language.specs.Trees.{Trees}
 use Rattle.ng_store.proofs.Sound.{all_append}
 use Rattle.ng_view.specs.Purity.{are_pure, all_filters_known}
-use Rattle.ng_script.specs.Acts.{Act, Entry, click_on, fire_at, type_into, check_at, eval_root, eval_at, emit_from, broadcast_from, queue_task, probe_root, destroy_scope, make_digest}
+use Rattle.ng_script.specs.Acts.{Act, Entry, entries_of, click_on, fire_at, type_into, check_at, eval_root, eval_at, emit_from, broadcast_from, queue_task, probe_root, destroy_scope, make_digest}
 use Rattle.ng_script.specs.Commanding.{click_of, fire_of, typed_of, check_of, eval_of, at_of, event_of, emit_of, broadcast_of, async_of, probe_of, destroy_of, act_named, command_of}
 use Rattle.ng_script.specs.Expressions.{spelled_in, with_known, program_of, pure_program_of}
+use Rattle.ng_script.specs.Free.{is_free}
 use Rattle.ng_script.specs.Json.{json_of, text_of, object_of, list_of}
 use Rattle.ng_script.specs.Lines.{trimmed, lines}
 use Rattle.ng_script.specs.Parts.{is_over, ended, next_target, next_scope, next_name, next_event, next_flag}
@@ -18,13 +19,13 @@ use Rattle.ng_script.specs.Scripts.{most, fault, is_skipped, entry, in_line, wit
 use Rattle.ng_script.specs.Verbs.{verb_named}
 use Rattle.ng_script.specs.Words.{word, next_part}
 use Rattle.ng_script.specs.declared.commands.ScopeOf.{ScopeOf}
+use Rattle.ng_script.specs.declared.commands.Commands.{Commands}
 use Rattle.ng_script.specs.declared.fault.ScriptFault.{ScriptFault}
 use Rattle.ng_script.specs.declared.fault.ScriptKind.{ScriptKind}
 use Rattle.ng_script.specs.declared.fault.ScriptKind.TheVariants as kinds
 use Rattle.ng_script.specs.declared.verbs.Verb.{Verb}
 use Rattle.ng_script.specs.declared.verbs.Verb.TheVariants as verb
 use Rattle.ng_inputs.specs.Acts.{IsSound, AreSound}
-use Rattle.ng_inputs.specs.Refusals.{first_later, unless_later, commands_of}
 use Rattle.ng_inputs.proofs.Holding.{after, any, tested, either}
 
 -- ---- the parts of commands
@@ -154,9 +155,10 @@ script bytes = either (is_utf8 bytes) (commands_from 0 [] (lines (chars bytes)))
 pub read_sound : (bytes : List ℕ) (es : List Entry) → script_of bytes ≡ Ok es → AreSound es
 read_sound bytes es e = subst (λ (r : Result (List Entry) ScriptFault). IfOk r AreSound) e (script bytes)
 
-unless : (es : List Entry) (o : Option ScriptFault) → AreSound es → IfOk (unless_later es o) AreSound
-unless es None h = h
-unless es (Some f) h = tt
+pub commands_sound : (bytes : List ℕ) → IfOk (script_of bytes) AreSound
+commands_sound bytes = script bytes
 
-pub commands_sound : (bytes : List ℕ) → IfOk (commands_of bytes) AreSound
-commands_sound bytes = after (script_of bytes) (λ es. unless_later es (first_later es)) AreSound AreSound (script bytes) (λ es h. unless es (first_later es) h)
+-- what the code has read
+pub given_sound : (bytes : List ℕ) (r : Result Commands ScriptFault) → Gives is_free entries_of (script_of bytes) r → IfOk r (λ (cs : Commands). AreSound (entries_of cs))
+given_sound bytes (Ok cs) e = read_sound bytes (entries_of cs) e
+given_sound bytes (Err f) e = tt

@@ -1,14 +1,12 @@
 -- What opens, or the first refusal in the order of work. The session and the causes of the statuses both go by it.
-use Rattle.std.specs.Prelude.{ℕ, Bool, true, false, List, [], ◌∷◌, ◌++◌, codes, Option, None, Some, Result, Ok, Err, if◌then◌else◌}
+use Rattle.std.specs.Prelude.{ℕ, false, List, [], ◌++◌, codes, Result, Ok, Err}
 use Rattle.std.specs.Fmt.{decimal}
 use Rattle.ng_base.specs.Meets.{◌>>=◌}
 use Rattle.ng_html.specs.Reading.{read_bytes}
 use Rattle.ng_app.specs.App.{Facts, facts_of}
 use Rattle.ng_drawing.specs.Template.{Template}
-use Rattle.ng_script.specs.Acts.{Act, Entry, type_into, check_at}
-use Rattle.ng_script.specs.Scripts.{fault, script_of}
-use Rattle.ng_script.specs.declared.fault.ScriptFault.{ScriptFault}
-use Rattle.ng_script.specs.declared.fault.ScriptKind.TheVariants.{Later}
+use Rattle.ng_script.specs.Acts.{Entry}
+use Rattle.ng_script.specs.Scripts.{script_of}
 use Rattle.ng_template.specs.Compiles.{compiled}
 use Rattle.ng_inputs.specs.Files.{Inputs}
 use Rattle.ng_inputs.specs.Names.{html_name, tpl_name, member_name, app_name, script_name}
@@ -21,25 +19,6 @@ pub record Accepted : Type 0 where
   pub template : Template
   pub commands : List Entry
 
--- a command that is not built yet
-abbrev pub is_later : Act → Bool
-is_later (type_into t x) = true
-is_later (check_at t b) = true
-is_later a = false
-
--- the first command that is not built yet is refused in its line
-abbrev pub first_later : List Entry → Option ScriptFault
-first_later [] = None
-first_later (e ∷ es) = if is_later e.act then Some (fault e.line Later) else first_later es
-
-abbrev pub unless_later : List Entry → Option ScriptFault → Result (List Entry) ScriptFault
-unless_later es None = Ok es
-unless_later es (Some f) = Err f
-
--- The script is read to its end, and then the commands that are not built yet are refused.
-abbrev pub commands_of : List ℕ → Result (List Entry) ScriptFault
-commands_of bytes = script_of bytes >>= λ es. unless_later es (first_later es)
-
 abbrev pub refused_as : {A E : Type 0} → (E → Refusal) → Result A E → Result A Refusal
 refused_as kind (Ok x) = Ok x
 refused_as kind (Err e) = Err (kind e)
@@ -51,7 +30,7 @@ accepted i =
     refused_as Document (read_bytes i.template)
     >>= λ source. refused_as Application (facts_of i.application)
     >>= λ facts. refused_as OfTemplate (compiled source [] false)
-    >>= λ template. refused_as OfScript (commands_of i.script)
+    >>= λ template. refused_as OfScript (script_of i.script)
     >>= λ commands. Ok (record { facts = facts; template = template; commands = commands })
 
 abbrev pub refusal_status : Refusal → ℕ

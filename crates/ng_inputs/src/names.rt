@@ -103,7 +103,6 @@ fn script_word(kind: &ScriptKind) -> &'static str
         ScriptKind::BadExpression => "BadExpression",
         ScriptKind::TooMany => "TooMany",
         ScriptKind::BadArgument => "BadArgument",
-        ScriptKind::Later => "Later",
         ScriptKind::Memory(_) => "Memory",
     }
 }

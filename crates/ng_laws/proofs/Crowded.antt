@@ -132,7 +132,7 @@ runs_crowded trace a r more (xs, end, (x, left, rest, opens, then_on, is), done_
     let status : steps_status xs ≡ 1 = ap steps_status is ∙ ap (λ b. if b && all_well rest then 0 else 1) (first_faulted trace a more x left opens) in
     let gone : end.state.instances ≡ [] = continues_unlinked trace 1 a.commands left rest end then_on (first_unlinked trace a more x left opens) in (
       ap (λ (q : Reply). q.status) done_so ∙ status,
-      subst (λ o. IfSome o (λ l. shown l.state ≡ no_nodes)) (sym (ap (λ (q : Reply). q.page) done_so)) (ap (λ is. drawn (instance_at end.state.watchers end.state.resting is [])) gone),
+      subst (λ o. IfSome o (λ l. shown l.state ≡ no_nodes)) (sym (ap (λ (q : Reply). q.page) done_so)) (ap (λ is. drawn (instance_at end.state.watchers end.state.resting end.state.controls is [])) gone),
     )
 
 pub crowded : CrowdedPageIsEmpty

@@ -1,12 +1,13 @@
 -- A dispatch of an event comes to an end: each handler's digest does, and no handler adds to the way.
-use Rattle.std.proofs.Common.{◌≡◌, ℕ, Bool, true, false, List, [], ◌∷◌, ◌++◌, refl}
+use Rattle.std.proofs.Common.{◌≡◌, ℕ, Bool, true, false, List, [], ◌∷◌, ◌++◌, Option, Some, None, refl}
 use Rattle.ng_behaviour.specs.Scopes.{live_at}
 use Rattle.ng_fire.specs.Runs.{followed}
 use Rattle.ng_language.specs.Trees.{Trees}
 use Rattle.ng_link.specs.Calls.{left_at}
-use Rattle.ng_link.specs.Events.{handlers_at, scope_of}
+use Rattle.ng_link.specs.Controls.{ControlHere}
+use Rattle.ng_link.specs.Events.{handlers_at, control_at, scope_of}
 use Rattle.ng_link.specs.State.{State}
-use Rattle.ng_page.specs.Dispatch.{Happening, Event, unmade, made, refused, Going, Told, way, has_turn, ready, handling_run, rested, handled, event_then, MayTakeTurn, Handles, is_stopped, Unless, Bubbles, before, Dispatches}
+use Rattle.ng_page.specs.Dispatch.{Happening, Event, unmade, awaited, made, refused, Going, Told, way, has_turn, ready, handling_run, rested, handled, event_then, MayTakeTurn, Handles, has_touch, touch_run, touched, touched_then, MayTouch, HandlesAt, is_stopped, Unless, Bubbles, before, Dispatches}
 use Rattle.ng_fire.proofs.Ordered.{IsOrdered, either, left_ordered, followed_ordered}
 use Rattle.ng_laws.proofs.StepEnds.{StepEnds, step_ends}
 
@@ -14,6 +15,7 @@ use Rattle.ng_laws.proofs.StepEnds.{StepEnds, step_ends}
 
 ready_ordered : (e : Event) (s : State) → IsOrdered s → IsOrdered (ready e s)
 ready_ordered unmade s h = h
+ready_ordered awaited s h = h
 ready_ordered (made o) s h = h
 ready_ordered refused s h = h
 
@@ -25,6 +27,14 @@ handled_ordered x n p g h =
     let s = ready g.event g.state in
     let r = handling_run x g.event (scope_of s n) p s.core in
     rested_ordered (followed r s) (followed_ordered r s (ready_ordered g.event g.state h))
+
+-- that of a control
+touched_ordered : (n : ℕ) (g : Going) → IsOrdered g.state → IsOrdered (touched n g)
+touched_ordered n g h = rested_ordered (touch_run (control_at g.state n) (ready g.event g.state)) (by_control (control_at g.state n) (ready g.event g.state) (ready_ordered g.event g.state h))
+  where
+    by_control : (c : Option ControlHere) (s : State) → IsOrdered s → IsOrdered (touch_run c s)
+    by_control None s h = h
+    by_control (Some c) s h = h
 
 -- what goes on from a place comes to an end
 abbrev IsGone : (List Told → Going → Type 0) → Type 0
@@ -51,6 +61,23 @@ module _ (x : Happening) where
       let more = handles_some n ps one.1 one.3 in
       (one.0 ++ more.0, more.1, (one.1, one.0, more.0, one.2, more.2, refl), more.3)
 
+  touched_on : (n : ℕ) (g : Going) → StepEnds (touched n g) → IsGone (MayTouch true n g)
+  touched_on n g e =
+      let s = touched n g in
+      let o : Told = record { count = s.core.handed.count; first = s.core.handed.first; digest = e.answer; probed = e.probed } in
+      let h : Going = record { state = e.state; event = touched_then g.event } in
+      (o ∷ [], h, (o, record { ends = e.ends; short = e.short; event = refl }, refl), e.ordered)
+
+  may_touch_some : (b : Bool) (n : ℕ) (g : Going) → IsOrdered g.state → IsGone (MayTouch b n g)
+  may_touch_some true n g h = touched_on n g (step_ends (touched n g) (touched_ordered n g h))
+  may_touch_some false n g h = ([], g, (refl, refl), h)
+
+  node_some : (n : ℕ) (g : Going) → IsOrdered g.state → IsGone (HandlesAt x n g)
+  node_some n g h =
+      let one = may_touch_some (has_touch x n g) n g h in
+      let more = handles_some n (handlers_at g.state n x.type) one.1 one.3 in
+      (one.0 ++ more.0, more.1, (one.1, one.0, more.0, one.2, more.2, refl), more.3)
+
   unless_some : (b : Bool) (Goes : Going → List Told → Going → Type 0) (g : Going) → IsOrdered g.state → IsGone (Goes g) → IsGone (Unless b Goes g)
   unless_some true Goes g h gone = ([], g, (refl, refl), h)
   unless_some false Goes g h gone = gone
@@ -58,10 +85,10 @@ module _ (x : Happening) where
   bubbles_some : (ns : List ℕ) (g : Going) → IsOrdered g.state → IsGone (Bubbles x ns g)
   bubbles_some [] g h = ([], g, (refl, refl), h)
   bubbles_some (n ∷ ns) g h =
-      let one = handles_some n (handlers_at g.state n x.type) g h in
+      let one = node_some n g h in
       let more = bubbles_some ns one.1 one.3 in
       unless_some (is_stopped g)
-      (λ (g : Going) (os : List Told) (h : Going). (mid : Going) × (first : List Told) × (rest : List Told) × Handles x n (handlers_at g.state n x.type) g first mid × Bubbles x ns mid rest h × (os ≡ first ++ rest)) g h
+      (λ (g : Going) (os : List Told) (h : Going). (mid : Going) × (first : List Told) × (rest : List Told) × HandlesAt x n g first mid × Bubbles x ns mid rest h × (os ≡ first ++ rest)) g h
       (one.0 ++ more.0, more.1, (one.1, one.0, more.0, one.2, more.2, refl), more.3)
 
 pub dispatch_some : (x : Happening) (n : ℕ) (s : State) → IsOrdered s → (os : List Told) × (t : State) × Dispatches x n s os t × IsOrdered t

@@ -1,6 +1,6 @@
 -- Whatever is done to a page, its watchers stand in key order; so each digest over them comes to an end.
-use Rattle.std.proofs.Common.{◌≡◌, Bool, true, false, List, [], ◌∷◌, cond, refl, sym, ap, subst, not, Option, None, Some}
-use Rattle.std.specs.Prelude.{Result, Ok, Err}
+use Rattle.std.proofs.Common.{◌≡◌, ℕ, Bool, true, false, List, [], ◌∷◌, cond, refl, sym, ap, subst, not, Option, None, Some}
+use Rattle.std.specs.Prelude.{is_err, Result, Ok, Err}
 use Rattle.std.specs.List.Sorted.{IsStrictlySortedBy}
 use Rattle.std.specs.Map.{keys_of}
 use Rattle.ng_core.specs.State.{Run, Task}
@@ -8,21 +8,28 @@ use Rattle.ng_app.specs.App.{Facts}
 use Rattle.ng_base.specs.Views.{ViewTree}
 use Rattle.ng_base.specs.declared.fault.Fault.{Fault}
 use Rattle.ng_base.specs.declared.path.Key.{Key}
+use Rattle.ng_base.specs.declared.value.Value.{Value}
+use Rattle.ng_base.specs.declared.value.Value.TheVariants as value
+use Rattle.ng_control.specs.State.{typed_in, checked_in}
 use Rattle.ng_drawing.specs.Template.{Template}
 use Rattle.ng_fire.proofs.Ordered.{InKeys, IsOrdered, either, changed_ordered, followed_ordered, link_ordered, site_ordered}
 use Rattle.ng_fire.specs.Fires.{fired as fires, fire_of_site, fire_run, fired_by}
+use Rattle.ng_fire.specs.Inputs.{write_run, all_run, written}
 use Rattle.ng_fire.specs.Links.{link_at}
-use Rattle.ng_fire.specs.Runs.{task_run, without_task, ran_of, program_run, destroyed}
+use Rattle.ng_fire.specs.Runs.{task_run, without_task, ran_of, program_run, followed, destroyed}
 use Rattle.ng_fire.specs.Settling as settling
 use Rattle.ng_fire.specs.SiteFires.{site_fired}
-use Rattle.ng_link.specs.Calls.{blank, with_core, keeping_at, unset_at, ended_at, is_drawn, at_top}
+use Rattle.ng_language.specs.Trees.{Trees}
+use Rattle.ng_link.specs.Calls.{blank, with_core, with_control_at, keeping_at, unset_at, ended_at, is_drawn, at_top}
+use Rattle.ng_link.specs.Controls.{ControlHere, state_under, read_as}
+use Rattle.ng_link.specs.Events.{control_at, scope_of}
 use Rattle.ng_link.specs.Instances.{is_site}
 use Rattle.ng_link.proofs.Sorted.{none_in_order, filter_sorted}
 use Rattle.ng_link.specs.Shape.{linked}
 use Rattle.ng_link.specs.State.{State, live_nodes}
 use Rattle.ng_app.specs.Installing.{installed}
 use Rattle.ng_page.specs.Answered.{ready_place}
-use Rattle.ng_page.specs.Commands.{Asked, applies, queues, probes, digests, destroys_scope, emits, broadcasts, begun, emit_run, broadcast_run, asked_run}
+use Rattle.ng_page.specs.Commands.{Asked, applies, queues, probes, digests, destroys_scope, emits, broadcasts, types, checks, begun, emit_run, broadcast_run, typed_run, checked_run, asked_run}
 use Rattle.ng_page.specs.Opening.{prepared, linked_by, opening, page_origin, templates_for}
 use Rattle.ng_page.specs.PageLaws.{by_test, page_laws}
 use Rattle.ng_page.specs.PageMachine as page
@@ -125,6 +132,29 @@ opening_ordered f t =
 
 -- ---- the commands
 
+-- what is put in to a control
+all_ordered : (scope : ℕ) (ps : List Trees) (s : State) → IsOrdered s → IsOrdered (all_run scope ps s)
+all_ordered scope [] s h = h
+all_ordered scope (p ∷ ps) s h = all_ordered scope ps (followed (program_run scope p s.core) s) (followed_ordered (program_run scope p s.core) s h)
+
+written_ordered : (scope : ℕ) (p : Trees) (v : Value) (ps : List Trees) (s : State) → IsOrdered s → IsOrdered (written scope p v ps s)
+written_ordered scope p v ps s h = by_end (is_err (write_run scope p v s.core).1)
+  where
+    t : State
+    t = followed (write_run scope p v s.core) s
+
+    by_end : (b : Bool) → IsOrdered (cond b t (all_run scope ps t))
+    by_end true = followed_ordered (write_run scope p v s.core) s h
+    by_end false = all_ordered scope ps t (followed_ordered (write_run scope p v s.core) s h)
+
+typed_ordered : (t : List ℕ) (scope : ℕ) (c : Option ControlHere) (s : State) → IsOrdered s → IsOrdered (typed_run t scope c s)
+typed_ordered t scope None s h = h
+typed_ordered t scope (Some c) s h = written_ordered scope c.writes (read_as t (state_under c.key s.controls)) c.changes (with_control_at (λ x. typed_in x t) c.key s) h
+
+checked_ordered : (b : Bool) (scope : ℕ) (c : Option ControlHere) (s : State) → IsOrdered s → IsOrdered (checked_run b scope c s)
+checked_ordered b scope None s h = h
+checked_ordered b scope (Some c) s h = written_ordered scope c.writes (value.Bool b) c.changes (with_control_at checked_in c.key s) h
+
 program_ordered : (a : Asked) (s : State) → IsOrdered s → IsOrdered (asked_run a s)
 program_ordered (applies scope p) s h = followed_ordered (program_run scope p s.core) s h
 program_ordered (queues p) s h = h
@@ -133,6 +163,8 @@ program_ordered digests s h = h
 program_ordered (destroys_scope scope) s h = changed_ordered (with_core (destroyed scope s.core) s) h
 program_ordered (emits scope name d) s h = followed_ordered (emit_run scope name d s.core) s h
 program_ordered (broadcasts scope name d) s h = followed_ordered (broadcast_run scope name d s.core) s h
+program_ordered (types n t) s h = typed_ordered t (scope_of s n) (control_at s n) s h
+program_ordered (checks n b) s h = checked_ordered b (scope_of s n) (control_at s n) s h
 
 pub asked_ordered : (a : Asked) (s : State) → IsOrdered s → IsOrdered (asked_run a (begun s))
 asked_ordered a s h = program_ordered a (begun s) h

@@ -3,7 +3,6 @@ use Rattle.std.proofs.Common.{◌≡◌, ◌<◌, ℕ, zero, suc, Bool, List, []
 use Rattle.std.specs.Prelude.{◌||◌, option_map}
 use Rattle.std.proofs.lemmas.Option.{slice_get-map, slice_get-get_or}
 use Rattle.std.specs.List.{flat_map, list_any}
-use Rattle.ng_base.specs.Views.{ViewTree}
 use Rattle.ng_base.specs.declared.path.Key.{Key}
 use Rattle.ng_markup.specs.Attributes.{if_any, word_if, with_value, class_value}
 use Rattle.ng_markup.specs.Forest.{Attributes, Forest, element, text, comment, no_nodes, node}
@@ -16,17 +15,18 @@ use Rattle.ng_dom.specs.Nodes.{all_names, plain, plain_groups}
 use Rattle.ng_dom.proofs.Counting.{names_are_counted}
 use Rattle.ng_drawing.specs.Drawing.{Look, Groups, draw_pieces, is_hiding, class_words, draw_class, draw_value, draw_attributes, followed_by, draw_part, draw_contents, draw}
 use Rattle.ng_drawing.specs.Instance as instances
-use Rattle.ng_drawing.specs.Instance.{Instance, instances_from, outlets_from, state_kept, kept_by}
-use Rattle.ng_drawing.specs.Looks.{kept_text, kept_words, is_kept_true, is_kept_false}
+use Rattle.ng_drawing.specs.Instance.{SiteState, Instance, instances_from, outlets_from, state_kept, state_control, seen_in}
+use Rattle.ng_drawing.specs.Looks.{Seen, seen_by, is_seen_true, is_seen_false}
 use Rattle.ng_drawing.specs.Nodes.{forest_count}
 use Rattle.ng_drawing.specs.Template.{Piece, word, hole, Hiding, while_true, while_false, PartClass, PartValue, always, unless_empty, flag, classes, PartAttributes, Part, Contents, Parts, text_part, comment_part, element_part, anchor_part, children, bound, no_parts, part_then}
 use Rattle.ng_watch.specs.Table.{Table}
+use Rattle.ng_link.specs.Controls.{Controls}
 use Rattle.ng_link.specs.Holes.{PiecesBelow, SitesBelow, HidingsBelow, ClassBelow, ValueBelow, ValuesBelow, PartBelow, ContentsBelow, HolesBelow}
 use Rattle.ng_link.specs.Instances.{OutletState, Page, Linked, Instances, keys_of, bodies_from, groups_from, stands_join, stands_at}
 use Rattle.ng_link.specs.Laws.{PageDisplaysInstance, PageHasItsNames}
 use Rattle.ng_link.specs.Shape.{key_on}
 use Rattle.ng_link.specs.Standing.{IsPlaced, ArePlaced, Standing}
-use Rattle.ng_link.specs.State.{State, Resting, look_of, kept_in, looks_in, site_state, site_states, nothing_linked, groups_in, instance_join, instance_at, shown, live_nodes, places_of, state_of}
+use Rattle.ng_link.specs.State.{State, Resting, looks_of, seen_under, looks_in, site_state, site_states, nothing_linked, groups_in, instance_join, instance_at, shown, live_nodes, places_of, state_of}
 use Rattle.ng_link.specs.declared.works.Works.{Works}
 use Rattle.ng_link.proofs.Below.{all_below}
 use Rattle.ng_link.proofs.ReadAlike.{Alike, read_alike}
@@ -38,33 +38,33 @@ module _ (look same : Look) (groups others : Groups) (count : ℕ) (agree : (n :
   same_pieces [] h = refl
   same_pieces (word w ∷ ps) h = ap (λ (t : List ℕ). w ++ t) (same_pieces ps h.1)
   same_pieces (hole n ∷ ps) h =
-      ap (λ (s : Option ViewTree). kept_text s ++ draw_pieces look ps) (agree n h.0) ∙ ap (λ (t : List ℕ). kept_text (same n) ++ t) (same_pieces ps h.1)
+      ap (λ (s : Seen). s.text ++ draw_pieces look ps) (agree n h.0) ∙ ap (λ (t : List ℕ). (same n).text ++ t) (same_pieces ps h.1)
 
-  same_words : (ns : List ℕ) → SitesBelow count ns → flat_map (λ n. kept_words (look n)) ns ≡ flat_map (λ n. kept_words (same n)) ns
+  same_words : (ns : List ℕ) → SitesBelow count ns → flat_map (λ n. (look n).words) ns ≡ flat_map (λ n. (same n).words) ns
   same_words [] h = refl
   same_words (n ∷ ns) h =
-      ap (λ (s : Option ViewTree). kept_words s ++ flat_map (λ m. kept_words (look m)) ns) (agree n h.0)
-      ∙ ap (λ (ws : List (List ℕ)). kept_words (same n) ++ ws) (same_words ns h.1)
+      ap (λ (s : Seen). s.words ++ flat_map (λ m. (look m).words) ns) (agree n h.0)
+      ∙ ap (λ (ws : List (List ℕ)). (same n).words ++ ws) (same_words ns h.1)
 
   same_hidings : (hs : List Hiding) → HidingsBelow count hs → list_any (is_hiding look) hs ≡ list_any (is_hiding same) hs
   same_hidings [] h = refl
   same_hidings (while_true n ∷ hs) h =
-      ap (λ (s : Option ViewTree). is_kept_true s || list_any (is_hiding look) hs) (agree n h.0) ∙ ap (λ (b : Bool). is_kept_true (same n) || b) (same_hidings hs h.1)
+      ap (λ (s : Seen). is_seen_true s || list_any (is_hiding look) hs) (agree n h.0) ∙ ap (λ (b : Bool). is_seen_true (same n) || b) (same_hidings hs h.1)
   same_hidings (while_false n ∷ hs) h =
-      ap (λ (s : Option ViewTree). is_kept_false s || list_any (is_hiding look) hs) (agree n h.0) ∙ ap (λ (b : Bool). is_kept_false (same n) || b) (same_hidings hs h.1)
+      ap (λ (s : Seen). is_seen_false s || list_any (is_hiding look) hs) (agree n h.0) ∙ ap (λ (b : Bool). is_seen_false (same n) || b) (same_hidings hs h.1)
 
   same_class : (c : PartClass) → ClassBelow count c → draw_class look c ≡ draw_class same c
   same_class c h =
-      let ws = flat_map (λ n. kept_words (look n)) c.words in
+      let ws = flat_map (λ n. (look n).words) c.words in
       let hidden = list_any (is_hiding look) c.hidings in
       ap (λ (t : List ℕ). class_value c.written (class_words t ws hidden)) (same_pieces c.pieces h.0)
       ∙ (ap (λ (us : List (List ℕ)). class_value c.written (class_words (draw_pieces same c.pieces) us hidden)) (same_words c.words h.1)
-      ∙ ap (λ (b : Bool). class_value c.written (class_words (draw_pieces same c.pieces) (flat_map (λ n. kept_words (same n)) c.words) b)) (same_hidings c.hidings h.2))
+      ∙ ap (λ (b : Bool). class_value c.written (class_words (draw_pieces same c.pieces) (flat_map (λ n. (same n).words) c.words) b)) (same_hidings c.hidings h.2))
 
   same_value : (v : PartValue) → ValueBelow count v → draw_value look v ≡ draw_value same v
   same_value (always ps) h = ap Some (same_pieces ps h)
   same_value (unless_empty ps) h = ap if_any (same_pieces ps h)
-  same_value (flag w n) h = ap (λ (s : Option ViewTree). word_if (is_kept_true s) w) (agree n h)
+  same_value (flag w n) h = ap (λ (s : Seen). word_if (is_seen_true s) w) (agree n h)
   same_value (classes c) h = same_class c h
 
   same_values : (ats : PartAttributes) (done : Attributes) → ValuesBelow count ats → draw_attributes look ats done ≡ draw_attributes same ats done
@@ -84,7 +84,7 @@ module _ (look same : Look) (groups others : Groups) (count : ℕ) (agree : (n :
 
     same_contents : (c : Contents) → ContentsBelow count c → draw_contents look groups c ≡ draw_contents same others c
     same_contents (children ps) h = same_parts ps h
-    same_contents (bound n) h = ap (λ (s : Option ViewTree). node (text (kept_text s)) no_nodes) (agree n h)
+    same_contents (bound n) h = ap (λ (s : Seen). node (text s.text) no_nodes) (agree n h)
 
     pub same_parts : (ps : Parts) → HolesBelow count ps → draw look groups ps ≡ draw same others ps
     same_parts no_parts h = refl
@@ -92,16 +92,20 @@ module _ (look same : Look) (groups others : Groups) (count : ℕ) (agree : (n :
         ap (λ (f : Forest). followed_by f (draw look groups ps)) (same_part p h.0)
         ∙ ap (λ (f : Forest). followed_by (draw_part same others p) f) (same_parts ps h.1)
 
+-- what is seen of a site by what is noted of it
+abbrev seen_of_site : Option SiteState → Seen
+seen_of_site s = seen_by (state_control s) (state_kept s)
+
 -- the state of a site by its number
-state_at : (t : Table) (r : Resting) (p : Page) (j : ℕ) → j < length p.serials → slice_get (site_states t r p) j ≡ Some (site_state t r p.scope (keys_of p j))
-state_at t r p j lt =
-    let state = λ (n : ℕ). site_state t r p.scope (key_on p.path n) in
+state_at : (t : Table) (r : Resting) (cs : Controls) (p : Page) (j : ℕ) → j < length p.serials → slice_get (site_states t r cs p) j ≡ Some (site_state t r cs p.scope (keys_of p j))
+state_at t r cs p j lt =
+    let state = λ (n : ℕ). site_state t r cs p.scope (key_on p.path n) in
     slice_get-map state p.serials j ∙ ap (option_map state) (slice_get-get_or p.serials j 0 lt)
 
 -- what stands is drawn as the instance that is read off, with what its sites have kept
-module _ (t : Table) (r : Resting) (places : Key → Option ℕ) (next : ℕ) where
+module _ (t : Table) (r : Resting) (cs : Controls) (places : Key → Option ℕ) (next : ℕ) where
   abbrev seen : Key → standing.Look
-  seen k = look_of (kept_in t r k)
+  seen k = looks_of t r cs k
 
   abbrev IsDrawn : Stands → Instance → Type 0
   IsDrawn ts i = plain (shows seen ts) ≡ instances.shown i
@@ -124,22 +128,22 @@ module _ (t : Table) (r : Resting) (places : Key → Option ℕ) (next : ℕ) wh
   groups_drawn (x ∷ os) (tss ∷ tsss) (is ∷ iss) h zero = bodies_drawn tss is h.0
   groups_drawn (x ∷ os) (tss ∷ tsss) (is ∷ iss) h (suc o) = groups_drawn os tsss iss h.1 o
 
-  joins_drawn : (p : List ℕ) (l : Linked) (tsss : List (List Stands)) (iss : List (List Instance)) → IsPlaced places next p l → Alike (Alike IsDrawn) tsss iss → IsDrawn (stands_join l tsss) (instance_join t r l iss)
+  joins_drawn : (p : List ℕ) (l : Linked) (tsss : List (List Stands)) (iss : List (List Instance)) → IsPlaced places next p l → Alike (Alike IsDrawn) tsss iss → IsDrawn (stands_join l tsss) (instance_join t r cs l iss)
   joins_drawn p l tsss iss placed h =
       let parts = l.fragment.parts in
-      shape_draws (keys_of l.page) (kept_in t r) (groups_from tsss) l.page.node parts
-      ∙ same_parts (λ n. kept_in t r (keys_of l.page n)) (kept_by (site_states t r l.page)) (λ o. plain_groups (show_bodies seen (groups_from tsss o)))
+      shape_draws (keys_of l.page) (seen_under t r cs) (groups_from tsss) l.page.node parts
+      ∙ same_parts (λ n. seen_under t r cs (keys_of l.page n)) (seen_in (site_states t r cs l.page)) (λ o. plain_groups (show_bodies seen (groups_from tsss o)))
       (λ o. slice_index_or (instances.shown_in (outlets_from (groups_in l.page.outlets (map instances_from iss)))) o no_nodes) (length l.fragment.sites)
-      (λ n lt. sym (ap state_kept (state_at t r l.page n (let count = placed.count in omega (arith, lt, count))))) (groups_drawn l.page.outlets tsss iss h) parts
+      (λ n lt. sym (ap seen_of_site (state_at t r cs l.page n (let count = placed.count in omega (arith, lt, count))))) (groups_drawn l.page.outlets tsss iss h) parts
       (all_below (length l.fragment.sites) parts placed.numbered)
 
-  read_drawn : (is : Instances) → ArePlaced places next is → (p : List ℕ) → plain (shows seen (stands_at is p)) ≡ instances.shown (instance_at t r is p)
-  read_drawn is placed p = read_alike IsDrawn none_stand nothing_linked stands_join (instance_join t r) (IsPlaced places next) refl joins_drawn is placed p
+  read_drawn : (is : Instances) → ArePlaced places next is → (p : List ℕ) → plain (shows seen (stands_at is p)) ≡ instances.shown (instance_at t r cs is p)
+  read_drawn is placed p = read_alike IsDrawn none_stand nothing_linked stands_join (instance_join t r cs) (IsPlaced places next) refl joins_drawn is placed p
 
 drawn_plain : (w : Works) (ts : Stands) → Standing w ts → plain (shows (looks_in (state_of w)) ts) ≡ shown (state_of w)
 drawn_plain w ts g =
     let s : State = state_of w in
-    ap (λ (x : Stands). plain (shows (looks_in s) x)) g.built.stands ∙ read_drawn s.watchers s.resting (places_of w) s.next_node s.instances g.built.each []
+    ap (λ (x : Stands). plain (shows (looks_in s) x)) g.built.stands ∙ read_drawn s.watchers s.resting s.controls (places_of w) s.next_node s.instances g.built.each []
 
 pub page_displays : PageDisplaysInstance
 page_displays w ts g = record { forest = shows (looks_in (state_of w)) ts; shown = g.built.holds.shows; plain = drawn_plain w ts g }

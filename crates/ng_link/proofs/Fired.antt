@@ -1,9 +1,11 @@
 -- The node of a site shows what is kept now.
 use Rattle.std.proofs.Common.{◌≡◌, ℕ, List, ◌∷◌, Option, Some, None, refl, ap, ◌∙◌, sym, subst, inl, length}
+use Rattle.std.specs.BTreeMap.{BTreeMap}
 use Rattle.std.specs.Map.{lookup}
 use Rattle.std.specs.Prelude.{option_map}
 use Rattle.ng_base.specs.Views.{ViewTree}
 use Rattle.ng_base.specs.declared.path.Key.{Key}
+use Rattle.ng_control.specs.State.{ControlState}
 use Rattle.ng_dom.specs.Document.{rooms, next_name, Shows, Becomes, Stays, Fewer}
 use Rattle.ng_dom.specs.Drawing.{Look, Stand, Stands, text_stands, comment_stands, element_stands, block_stands, none_stand, stand_then, Source, of_text, of_comment, of_element, show, shows, HeldAll, DifferAt, joined, drawn_attributes}
 use Rattle.ng_dom.specs.Editing.{changed_in, with_text, with_attributes}
@@ -11,24 +13,27 @@ use Rattle.ng_dom.specs.Nodes.{NamedForest, name_of, names_of}
 use Rattle.ng_dom.specs.Rooms.{ReadsIn}
 use Rattle.ng_dom.specs.declared.dom.Dom.{Dom}
 use Rattle.ng_dom.proofs.Focus.{text_written, attributes_written}
+use Rattle.ng_drawing.specs.Looks.{seen_by}
 use Rattle.ng_watch.specs.Keys.{is_key}
 use Rattle.ng_watch.specs.Seen.{Watcher}
 use Rattle.ng_watch.specs.Table.{Table, watchers_of, with_kept}
 use Rattle.ng_watch.specs.declared.watched.Watched.{Watched}
+use Rattle.ng_link.specs.Controls.{Controls, state_under, control_changed}
 use Rattle.ng_link.specs.Firing.{Redraw, nothing_new, a_text, on_element, drawn_anew, Tells, WritesAt}
 use Rattle.ng_link.specs.Sources.{sources, source_of}
-use Rattle.ng_link.specs.Standing.{Standing}
+use Rattle.ng_link.specs.Standing.{WatchersStand, Standing}
 use Rattle.ng_link.specs.State.{Resting, kept_or, state_of, look_of, looks_of, looks_in, spot_in, places_of}
 use Rattle.ng_link.specs.declared.works.Works.{Works}
 use Rattle.ng_link.proofs.Agree.{IsDrawn, Agree, all_agree}
 use Rattle.ng_link.proofs.BuiltSame.{built_told}
+use Rattle.ng_link.proofs.ControlStates.{control_differs, keeping_differs}
 use Rattle.ng_link.proofs.Held.{built_held}
 use Rattle.ng_link.proofs.Tables.{kept-other}
 use Rattle.ng_link.proofs.Watched.{stand_kept}
 
 -- what is shown differs at the key at most
-pub kept_differs : (k : Key) (s : Option ViewTree) (t : Table) (r : Resting) → DifferAt k (looks_of t r) (looks_of (with_kept k s t) r)
-kept_differs k s t r q ne = ap (λ (o : Option Watcher). look_of (kept_or o (lookup (is_key q) r))) (sym (kept-other k q s t ne))
+pub kept_differs : (k : Key) (s : Option ViewTree) (t : Table) (r : Resting) (cs : Controls) → DifferAt k (looks_of t r cs) (looks_of (with_kept k s t) r cs)
+kept_differs k s t r cs q ne = ap (λ (o : Option Watcher). look_of (seen_by (state_under q cs) (kept_or o (lookup (is_key q) r)))) (sym (kept-other k q s t ne))
 
 -- what stands has the same names whatever it shows
 same_name : (v w : Key → Look) (m : Stand) → name_of (show v m) ≡ name_of (show w m)
@@ -104,19 +109,37 @@ written_fewer : (v : Key → Look) (o : Option ℕ) (d e : Dom) → WritesAt v o
 written_fewer v None d e told = unchanged_fewer d e told
 written_fewer v (Some n) d e told = tells_fewer (drawn_anew v (sources d n)) n d e told
 
--- what stood stands, where the watcher of a key keeps something and the node of its site shows it
-pub kept_stands : (w : Works) (ws : List (Key × Watched)) (d : Dom) (k : Key) (s : Option ViewTree) → watchers_of ws ≡ with_kept k s (state_of w).watchers
-    → WritesAt (looks_of (with_kept k s (state_of w).watchers) (state_of w).resting) (spot_in w.instances.entries k) w.dom d
-    → (ts : Stands) → Standing w ts → Standing (record w { watchers = ws; dom = d }) ts
-kept_stands w ws d k s is writes ts g =
-    let t = with_kept k s (state_of w).watchers in
-    let r = (state_of w).resting in
+-- what stood stands, where what is shown differs at a key at most, and the node of its site shows that
+pub told_stands : (w : Works) (ws : List (Key × Watched)) (cs : BTreeMap Key ControlState) (d : Dom) (k : Key)
+    → DifferAt k (looks_in (state_of w)) (looks_of (watchers_of ws) (state_of w).resting cs.entries)
+    → WritesAt (looks_of (watchers_of ws) (state_of w).resting cs.entries) (spot_in w.instances.entries k) w.dom d
+    → WatchersStand (length (state_of w).core.objects) (watchers_of ws)
+    → (ts : Stands) → Standing w ts → Standing (record w { watchers = ws; controls = cs; dom = d }) ts
+told_stands w ws cs d k off writes watched ts g =
     let v = looks_in (state_of w) in
+    let now = looks_of (watchers_of ws) (state_of w).resting cs.entries in
     let o = spot_in w.instances.entries k in
     let is_held = built_held (places_of w) v w.dom (state_of w).instances ts g.built in
-    let shown = written_shows (places_of w) w.dom d k v (looks_of t r) ts is_held (kept_differs k s (state_of w).watchers r) g.built.holds.shows o refl writes in
+    let shown = written_shows (places_of w) w.dom d k v now ts is_held off g.built.holds.shows o refl writes in
     record {
-      built = rw is (built_told (places_of w) v (looks_of t r) w.dom d (state_of w).instances ts (written_fewer (looks_of t r) o w.dom d writes) shown.0 shown.1 g.built);
+      built = built_told (places_of w) v now w.dom d (state_of w).instances ts (written_fewer now o w.dom d writes) shown.0 shown.1 g.built;
       below = g.below;
-      watched = rw is (stand_kept (length (state_of w).core.objects) k s (state_of w).watchers g.watched);
+      watched = watched;
     }
+
+-- where the watcher of a key keeps something, and a control drops what was typed
+pub kept_stands : (w : Works) (ws : List (Key × Watched)) (cs : BTreeMap Key ControlState) (d : Dom) (k : Key) (s : Option ViewTree) (f : ControlState → ControlState)
+    → watchers_of ws ≡ with_kept k s (state_of w).watchers → cs.entries ≡ control_changed f k (state_of w).controls
+    → WritesAt (looks_of (watchers_of ws) (state_of w).resting cs.entries) (spot_in w.instances.entries k) w.dom d
+    → (ts : Stands) → Standing w ts → Standing (record w { watchers = ws; controls = cs; dom = d }) ts
+kept_stands w ws cs d k s f is dropped writes ts g =
+    told_stands w ws cs d k
+    (λ q ne. rw (is, dropped) (keeping_differs f k s (state_of w).watchers (state_of w).resting (state_of w).controls q ne)) writes
+    (rw is (stand_kept (length (state_of w).core.objects) k s (state_of w).watchers g.watched)) ts g
+
+-- where a control takes something
+pub control_stands : (w : Works) (cs : BTreeMap Key ControlState) (d : Dom) (k : Key) (f : ControlState → ControlState) → cs.entries ≡ control_changed f k (state_of w).controls
+    → WritesAt (looks_of (state_of w).watchers (state_of w).resting cs.entries) (spot_in w.instances.entries k) w.dom d
+    → (ts : Stands) → Standing w ts → Standing (record w { controls = cs; dom = d }) ts
+control_stands w cs d k f is writes ts g =
+    told_stands w w.watchers cs d k (λ q ne. rw is (control_differs f k (state_of w).watchers (state_of w).resting (state_of w).controls q ne)) writes g.watched ts g

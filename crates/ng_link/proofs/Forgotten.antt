@@ -38,20 +38,20 @@ module _ (w : Works) (ws : List (Key × Watched)) (k : Key) (is_table : watchers
   same = with_kept k None (state_of w).watchers
 
   abbrev Forgets : Type 0
-  Forgets = IsBuilt (places_of w) (looks_of same (state_of w).resting) w.dom (state_of w).instances ts
+  Forgets = IsBuilt (places_of w) (looks_of same (state_of w).resting (state_of w).controls) w.dom (state_of w).instances ts
 
   -- a key that is no site's
   no_site : is_site (state_of w).instances k ≡ false → Forgets
   no_site none =
-      built_same (places_of w) (looks_in (state_of w)) (looks_of same (state_of w).resting) w.dom (state_of w).instances ts
-      (λ q n at. kept_differs k None (state_of w).watchers (state_of w).resting q
+      built_same (places_of w) (looks_in (state_of w)) (looks_of same (state_of w).resting (state_of w).controls) w.dom (state_of w).instances ts
+      (λ q n at. kept_differs k None (state_of w).watchers (state_of w).resting (state_of w).controls q
       (λ is_k. let site : is_site (state_of w).instances q ≡ true = placed_site w q (is_some_of (places_of w q) n at) in
       let two : true ≡ false = sym site ∙ (ap (is_site (state_of w).instances) is_k ∙ none) in cc)) g.built
 
   by_filling : (l : Linked) → linked_at k.path (state_of w).instances ≡ Some l → (b : Bool) → fills_any k.serial.0 l.page.outlets ≡ b → (is_site_of l.page k.serial.0 && not b) ≡ false → Forgets
   by_filling l found true fills e =
-      filling_forgotten (places_of w) (looks_in (state_of w)) (looks_of same (state_of w).resting) w.dom (state_of w).instances ts g.built k l found fills
-      (kept_differs k None (state_of w).watchers (state_of w).resting)
+      filling_forgotten (places_of w) (looks_in (state_of w)) (looks_of same (state_of w).resting (state_of w).controls) w.dom (state_of w).instances ts g.built k l found fills
+      (kept_differs k None (state_of w).watchers (state_of w).resting (state_of w).controls)
   by_filling l found false fills e = no_site (ap (λ (o : Option Linked). is_site_in o k) found ∙ alone (is_site_of l.page k.serial.0) e)
     where
       alone : (c : Bool) → (c && not false) ≡ false → c ≡ false

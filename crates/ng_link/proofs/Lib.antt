@@ -11,6 +11,7 @@ pub mod Below
 pub mod Holding
 pub mod Keys
 pub mod Tables
+pub mod ControlStates
 pub mod Watched
 pub mod Agree
 pub mod Names

@@ -10,10 +10,12 @@ use Rattle.std.proofs.lemmas.Map.Made.{is_some-lookup}
 use Rattle.std.proofs.lemmas.Option.{slice_get-get_or, slice_get_within}
 use Rattle.ng_base.specs.Order.{path_cmp}
 use Rattle.ng_base.specs.declared.path.Key.{Key}
+use Rattle.ng_control.specs.State.{ControlState}
 use Rattle.ng_dom.specs.Document.{homes, next_name, Shows, Becomes, Stays}
 use Rattle.ng_dom.specs.Drawing.{Stands, HomedAll, shows, at_block_all}
 use Rattle.ng_dom.specs.Editing.{changed_in, with_groups, group_inserted}
 use Rattle.ng_dom.specs.declared.dom.Dom.{Dom}
+use Rattle.ng_drawing.specs.Looks.{seen_by}
 use Rattle.ng_drawing.specs.Nodes.{nodes}
 use Rattle.ng_drawing.specs.Origins.{inner_home}
 use Rattle.ng_drawing.specs.Roles.{Role}
@@ -30,6 +32,7 @@ use Rattle.ng_watch.specs.Table.{Table, watchers_of, found}
 use Rattle.ng_watch.specs.declared.watched.Watched.{Watched}
 use Rattle.ng_link.specs.Building.{unset, AllAt, Builds, IsStood}
 use Rattle.ng_link.specs.Calls.{Place, at_top, in_outlet, outlets_on, linked_on, taken_in, placed_under}
+use Rattle.ng_link.specs.Controls.{Controlled, controlled, Controls, state_under, controls_begun}
 use Rattle.ng_link.specs.Instances.{OutletState, Linked, Instances, Owners, is_path, linked_at, outlets_changed, body_added, with_instance}
 use Rattle.ng_link.specs.PlaceOf.{outlet_of_linked, IsFree, spot_from, spot_for}
 use Rattle.ng_link.specs.Handlers.{Handled, handled}
@@ -37,7 +40,7 @@ use Rattle.ng_link.specs.Rows.{with_sites}
 use Rattle.ng_link.specs.Shape.{key_on, keys_in, holes, anchors}
 use Rattle.ng_link.specs.Sources.{sources}
 use Rattle.ng_link.specs.Standing.{AreIn, AreUndrawn, IsPlaced, IsBuilt, WatchersStand, IsStanding, Standing}
-use Rattle.ng_link.specs.State.{State, kept_or, look_of, handled_of, outlet_of, linked_of, instances_of, templates_of, spot_at, spot_in, places_of, state_of, looks_in}
+use Rattle.ng_link.specs.State.{State, kept_or, look_of, handled_of, controlled_of, outlet_of, linked_of, instances_of, templates_of, spot_at, spot_in, places_of, state_of, looks_in}
 use Rattle.ng_link.specs.declared.works.Linked as code
 use Rattle.ng_link.specs.declared.works.Works.{Works}
 use Rattle.ng_link.proofs.Added.{new_stands}
@@ -45,6 +48,7 @@ use Rattle.ng_link.proofs.AtBlocks.{counted_anchors}
 use Rattle.ng_link.proofs.BodiesAt.{bodies_put}
 use Rattle.ng_link.proofs.BuiltMore.{AreBare, bare_count, built_more}
 use Rattle.ng_link.proofs.BuiltTop.{built_top}
+use Rattle.ng_link.proofs.ControlStates.{all_on, begun-other}
 use Rattle.ng_link.proofs.Homed.{homed_more, all_stay}
 use Rattle.ng_link.proofs.Listed.{noted-seen, noted_found}
 use Rattle.ng_link.proofs.Numbers.{counted}
@@ -57,9 +61,9 @@ use Rattle.ng_link.proofs.Watched.{stand_sites}
 no_site : Site
 no_site = record { kind = Text; one_time = false; program = no_trees }
 
--- What is left: the works with other watchers, another document, and one instance more.
-abbrev pub after : Works → List (Key × Watched) → Dom → BTreeMap (List ℕ) code.Linked → BTreeMap ℕ (List ℕ) → Works
-after w ws d is os = record w { watchers = ws; dom = d; instances = is; owners = os }
+-- What is left: the works with other watchers, more controls, another document, and one instance more.
+abbrev pub after : Works → List (Key × Watched) → BTreeMap Key ControlState → Dom → BTreeMap (List ℕ) code.Linked → BTreeMap ℕ (List ℕ) → Works
+after w ws cs d is os = record w { watchers = ws; controls = cs; dom = d; instances = is; owners = os }
 
 -- a site for each hole
 pub many_holes : (f : Fragment) (m : ℕ) → after_parts 0 f.parts ≡ Some (length f.sites) → length (holes m f.parts) ≡ length f.sites
@@ -84,6 +88,11 @@ module _ (home : Home) (serials : List ℕ) where
   outlets_in p [] names = tt
   outlets_in p (o ∷ os) [] = tt
   outlets_in p (o ∷ os) (a ∷ names) = (tt, outlets_in p os names)
+
+-- of what has kept nothing nothing is seen, whether it is a control or not
+nothing_seen : (c : Option ControlState) → look_of (seen_by c None) ≡ record { text = []; words = []; truth = None }
+nothing_seen None = refl
+nothing_seen (Some c) = refl
 
 -- a number whose site is drawn is one of the numbers of registration
 numbered_in : (ss ns : List ℕ) (k : Key) → length ss ≡ length ns → IsSome (lookup (is_at (nat_cmp k.serial.0)) (paired ss ns)) → list_any (is_at (nat_cmp k.serial.0)) ss ≡ true
@@ -114,17 +123,21 @@ free_path (in_outlet holder o i role) p s is_free = is_free.2
 
 -- an instance, as its parts in the code are seen
 pub linked_made : (all : List Named) (path serials : List ℕ) (f : Fragment) (one : code.Linked) → fragments_in all one.origin ≡ f → map_keys one.spots.entries ≡ serials
-    → handled_of one.handlers.entries ≡ handled one.node f.parts [] → map outlet_of one.outlets.items ≡ outlets_on (inner_home one.origin) serials f.outlets (anchors one.node f.parts)
+    → handled_of one.handlers.entries ≡ handled one.node f.parts [] → controlled_of one.controls.entries ≡ controlled (keys_in path serials) one.node f.parts [] → map outlet_of one.outlets.items ≡ outlets_on (inner_home one.origin) serials f.outlets (anchors one.node f.parts)
     → linked_of all path one ≡ linked_on one.origin one.scope.0 path f serials one.node
-linked_made all path serials f one fragment numbers entered outlets =
-    let L : Fragment → List ℕ → Handled → List OutletState → Linked = λ g ss hs os. record {
+linked_made all path serials f one fragment numbers entered controls outlets =
+    let L : Fragment → List ℕ → Handled → Controlled → List OutletState → Linked = λ g ss hs cs os. record {
       fragment = g;
-      page = record { origin = one.origin; scope = one.scope.0; path = path; serials = ss; node = one.node; handlers = hs; outlets = os };
+      page = record { origin = one.origin; scope = one.scope.0; path = path; serials = ss; node = one.node; handlers = hs; controls = cs; outlets = os };
     } in
     let hs : Handled = handled_of one.handlers.entries in
+    let cs : Controlled = controlled_of one.controls.entries in
     let os : List OutletState = map outlet_of one.outlets.items in
-    ap (λ (g : Fragment). L g (map_keys one.spots.entries) hs os) fragment
-    ∙ (ap (λ (ss : List ℕ). L f ss hs os) numbers ∙ (ap (λ (h : Handled). L f serials h os) entered ∙ ap (λ (x : List OutletState). L f serials (handled one.node f.parts []) x) outlets))
+    ap (λ (g : Fragment). L g (map_keys one.spots.entries) hs cs os) fragment
+    ∙ (ap (λ (ss : List ℕ). L f ss hs cs os) numbers
+    ∙ (ap (λ (h : Handled). L f serials h cs os) entered
+    ∙ (ap (λ (x : Controlled). L f serials (handled one.node f.parts []) x os) controls
+    ∙ ap (λ (x : List OutletState). L f serials (handled one.node f.parts []) (controlled (keys_in path serials) one.node f.parts []) x) outlets)))
 
 -- the instances, once one was noted and stands in its outlet
 pub taken_up : (all : List Named) (place : Place) (path : List ℕ) (one : code.Linked) (l : Linked) (old new : List (List ℕ × code.Linked))
@@ -138,22 +151,25 @@ stood_next None i ts count d e s = s.put.1.next ∙ s.builds.next
 stood_next (Some a) i ts count d e s = s.put.1.next ∙ s.builds.next
 
 -- the state that is left
-pub placed_state : (w : Works) (ws : List (Key × Watched)) (d : Dom) (is : BTreeMap (List ℕ) code.Linked) (os : BTreeMap ℕ (List ℕ)) (one : code.Linked) (place : Place)
+pub placed_state : (w : Works) (ws : List (Key × Watched)) (cs : BTreeMap Key ControlState) (d : Dom) (is : BTreeMap (List ℕ) code.Linked) (os : BTreeMap ℕ (List ℕ)) (one : code.Linked) (place : Place)
     (which : Origin) (scope object : ℕ) (path : List ℕ) (f : Fragment) (serials : List ℕ) → watchers_of ws ≡ with_sites path object serials f.sites (state_of w).watchers
+    → cs.entries ≡ controls_begun (controlled (keys_in path serials) (state_of w).next_node f.parts []) (state_of w).controls
     → instances_of (templates_of w) is.entries ≡ taken_in place path (instances_of (templates_of w) (insert_entry path_cmp w.instances.entries path one))
     → linked_of (templates_of w) path one ≡ linked_on which scope path f serials (state_of w).next_node → os.entries ≡ insert_entry nat_cmp w.owners.entries (state_of w).next_node path
-    → next_name d ≡ (state_of w).next_node + nodes f.parts → state_of (after w ws d is os) ≡ placed_under place path object which scope f serials (state_of w)
-placed_state w ws d is os one place which scope object path f serials rows noted made owned next =
+    → next_name d ≡ (state_of w).next_node + nodes f.parts → state_of (after w ws cs d is os) ≡ placed_under place path object which scope f serials (state_of w)
+placed_state w ws cs d is os one place which scope object path f serials rows begun noted made owned next =
     let s : State = state_of w in
     let all = templates_of w in
     let l : Linked = linked_on which scope path f serials s.next_node in
-    let left = λ (t : Table) (x : Instances) (o : Owners) (n : ℕ). record s { watchers = t; instances = x; owners = o; next_node = n } in
+    let left = λ (t : Table) (c : Controls) (x : Instances) (o : Owners) (n : ℕ). record s { watchers = t; controls = c; instances = x; owners = o; next_node = n } in
     let table : Table = with_sites path object serials f.sites s.watchers in
     let more : Instances = taken_in place path (with_instance path l s.instances) in
     let instances : instances_of all is.entries ≡ more = taken_up all place path one l w.instances.entries is.entries noted made in
-    ap (λ (t : Table). left t (instances_of all is.entries) os.entries (next_name d)) rows
-    ∙ (ap (λ (x : Instances). left table x os.entries (next_name d)) instances
-    ∙ (ap (λ (o : Owners). left table more o (next_name d)) owned ∙ ap (λ (n : ℕ). left table more (insert_entry nat_cmp s.owners s.next_node path) n) next))
+    let begin : Controls = controls_begun (controlled (keys_in path serials) s.next_node f.parts []) s.controls in
+    ap (λ (t : Table). left t cs.entries (instances_of all is.entries) os.entries (next_name d)) rows
+    ∙ (ap (λ (c : Controls). left table c (instances_of all is.entries) os.entries (next_name d)) begun
+    ∙ (ap (λ (x : Instances). left table begin x os.entries (next_name d)) instances
+    ∙ (ap (λ (o : Owners). left table begin more o (next_name d)) owned ∙ ap (λ (n : ℕ). left table begin more (insert_entry nat_cmp s.owners s.next_node path) n) next)))
 
 -- where each site is drawn once an instance was noted
 pub spots_noted : (es : List (List ℕ × code.Linked)) (p : List ℕ) (one : code.Linked) (k : Key) → spot_in (insert_entry path_cmp es p one) k ≡ cond (is_path p k.path) (spot_at one k) (spot_in es k)
@@ -165,7 +181,7 @@ spots_noted es p one k =
     by_path false = refl
 
 -- What stands then, where nothing was linked on the path.
-module _ (w : Works) (ws : List (Key × Watched)) (d : Dom) (is : BTreeMap (List ℕ) code.Linked) (os : BTreeMap ℕ (List ℕ)) (one : code.Linked)
+module _ (w : Works) (ws : List (Key × Watched)) (cs : BTreeMap Key ControlState) (d : Dom) (is : BTreeMap (List ℕ) code.Linked) (os : BTreeMap ℕ (List ℕ)) (one : code.Linked)
     (which : Origin) (scope object m : ℕ) (path : List ℕ) (f : Fragment) (serials : List ℕ)
     (spotted : (k : Key) → spot_in is.entries k ≡ cond (is_path path k.path) (spot_at one k) (spot_in w.instances.entries k))
     (free : linked_at path (state_of w).instances ≡ None)
@@ -174,9 +190,10 @@ module _ (w : Works) (ws : List (Key × Watched)) (d : Dom) (is : BTreeMap (List
     (all_below : AllByRecursion (λ n. n < (state_of w).core.serial) serials) (count : length serials ≡ length f.sites)
     (spots : one.spots.entries ≡ paired serials (holes m f.parts))
     (undrawn : AreUndrawn serials f.parts (linked_on which scope path f serials m).page.outlets)
-    (watchers : watchers_of ws ≡ with_sites path object serials f.sites (state_of w).watchers) where
+    (watchers : watchers_of ws ≡ with_sites path object serials f.sites (state_of w).watchers)
+    (controls : cs.entries ≡ controls_begun (controlled (keys_in path serials) m f.parts []) (state_of w).controls) where
   abbrev new : Works
-  new = after w ws d is os
+  new = after w ws cs d is os
 
   abbrev l : Linked
   l = linked_on which scope path f serials m
@@ -209,7 +226,7 @@ module _ (w : Works) (ws : List (Key × Watched)) (d : Dom) (is : BTreeMap (List
       let table : Table = with_sites path object serials f.sites (state_of w).watchers in
       let found_here : found k (watchers_of ws) ≡ Some (fresh_watcher object x) =
       ap (found k) watchers ∙ (ap (λ (q : Key). found q table) (key_here k e) ∙ sites_found path object serials f.sites (state_of w).watchers which_one.0 k.serial.0 x rising which_one.1 site) in
-      sym (ap (λ (o : Option Watcher). look_of (kept_or o (lookup (is_key k) (state_of w).resting))) found_here)
+      sym (ap (λ (o : Option Watcher). look_of (seen_by (state_under k cs.entries) (kept_or o (lookup (is_key k) (state_of w).resting)))) found_here ∙ nothing_seen (state_under k cs.entries))
 
   -- a site of another instance shows what it showed
   alike : (k : Key) (q : ℕ) → places_of w k ≡ Some q → looks_in (state_of w) k ≡ looks_in (state_of new) k
@@ -219,7 +236,11 @@ module _ (w : Works) (ws : List (Key × Watched)) (d : Dom) (is : BTreeMap (List
       λ same. some_seen _ (lookup (is_path k.path) w.instances.entries) there (sym (linked_seen (templates_of w) k.path w.instances.entries) ∙ (ap (λ (p : List ℕ). linked_at p (state_of w).instances) same ∙ free)) in
       let found_still : found k (watchers_of ws) ≡ found k (state_of w).watchers =
       ap (found k) watchers ∙ sites_other path object serials f.sites (state_of w).watchers k (λ j s at_j e. other (ap (λ (x : Key). x.path) e)) in
-      sym (ap (λ (o : Option Watcher). look_of (kept_or o (lookup (is_key k) (state_of w).resting))) found_still)
+      let state_still : state_under k cs.entries ≡ state_under k (state_of w).controls =
+      ap (state_under k) controls ∙ begun-other path (controlled (keys_in path serials) m f.parts []) (state_of w).controls k (all_on path serials m f.parts [] tt) other in
+      sym
+      (ap (λ (o : Option Watcher). look_of (seen_by (state_under k cs.entries) (kept_or o (lookup (is_key k) (state_of w).resting)))) found_still
+      ∙ ap (λ (c : Option ControlState). look_of (seen_by c (kept_or (found k (state_of w).watchers) (lookup (is_key k) (state_of w).resting)))) state_still)
 
   spot_here : (s x : ℕ) → lookup (is_at (nat_cmp s)) one.spots.entries ≡ Some x → places_of new (key_on path s) ≡ Some x
   spot_here s x e = here (key_on path s) (same_path path) ∙ e

@@ -8,10 +8,11 @@ use Rattle.std.specs.Prelude.{nat_le, option_map, option_and_then}
 use Rattle.std.specs.declared.ops.Bound.TheVariants.{Included, Unbounded}
 use Rattle.std.proofs.lemmas.Bool.Decides.{nat_tests}
 use Rattle.ng_template.specs.Kept.{Named}
-use Rattle.ng_link.specs.Events.{handled_in, scope_in}
+use Rattle.ng_link.specs.Controls.{Controlled}
+use Rattle.ng_link.specs.Events.{handled_in, controlled_in, scope_in}
 use Rattle.ng_link.specs.Handlers.{Handled}
 use Rattle.ng_link.specs.Instances.{Linked, Owners, owner_or, is_path, linked_at}
-use Rattle.ng_link.specs.State.{handled_of, linked_of, instances_of}
+use Rattle.ng_link.specs.State.{handled_of, controlled_of, linked_of, instances_of}
 use Rattle.ng_link.specs.declared.works.Linked as code
 use Rattle.ng_link.proofs.Places.{linked_seen}
 
@@ -43,6 +44,10 @@ abbrev pub handled_or : Option code.Linked → Handled
 handled_or None = []
 handled_or (Some i) = handled_of i.handlers.entries
 
+abbrev pub controlled_or : Option code.Linked → Controlled
+controlled_or None = []
+controlled_or (Some i) = controlled_of i.controls.entries
+
 abbrev pub scope_or : Option code.Linked → ℕ
 scope_or None = 0
 scope_or (Some i) = i.scope.0
@@ -65,6 +70,14 @@ module _ (all : List Named) (is : List (List ℕ × code.Linked)) where
   pub node_handled : (o : Option (List ℕ)) → handled_in (in_state o) ≡ handled_or (in_table o)
   node_handled None = refl
   node_handled (Some p) = ap handled_in (linked_seen all p is) ∙ seen_handled p (lookup (is_path p) is)
+
+  seen_controlled : (p : List ℕ) (o : Option code.Linked) → controlled_in (option_map (linked_of all p) o) ≡ controlled_or o
+  seen_controlled p None = refl
+  seen_controlled p (Some i) = refl
+
+  pub node_controlled : (o : Option (List ℕ)) → controlled_in (in_state o) ≡ controlled_or (in_table o)
+  node_controlled None = refl
+  node_controlled (Some p) = ap controlled_in (linked_seen all p is) ∙ seen_controlled p (lookup (is_path p) is)
 
   pub node_scope : (o : Option (List ℕ)) → scope_in (in_state o) ≡ scope_or (in_table o)
   node_scope None = refl

@@ -5,14 +5,17 @@ use Rattle.std.specs.List.{filter}
 use Rattle.std.specs.List.Sorted.{IsStrictlySortedBy}
 use Rattle.std.specs.Map.{lookup, keys_of}
 use Rattle.std.specs.Prelude.{IsSome, not}
+use Rattle.ng_base.specs.Views.{ViewTree}
 use Rattle.ng_base.specs.declared.path.Key.{Key}
 use Rattle.ng_dom.specs.Drawing.{Stands}
+use Rattle.ng_drawing.specs.Looks.{seen_by}
 use Rattle.ng_value.specs.declared.snapshot.Snap.{Snap}
 use Rattle.ng_watch.specs.Keys.{key_cmp, is_key}
 use Rattle.ng_watch.specs.Seen.{Watching, Watcher, WatchStands}
 use Rattle.ng_watch.specs.Table.{watchers_of, found, with_watch, without_watch}
 use Rattle.ng_watch.specs.declared.watched.Watched.{Watched}
 use Rattle.ng_link.specs.Calls.{rested}
+use Rattle.ng_link.specs.Controls.{state_under}
 use Rattle.ng_link.specs.Instances.{is_site}
 use Rattle.ng_link.specs.Laws.{StandingWithCore}
 use Rattle.ng_link.specs.Standing.{WatchersStand, Standing}
@@ -31,13 +34,13 @@ some_at (Some y) x e = refl
 
 -- where each site shows what it showed
 pub same_stands : (w : Works) (ws : List (Key × Watched)) (rs : BTreeMap Key (Option Snap)) (ds : BTreeMap Key Listener)
-    → ((k : Key) → is_site (state_of w).instances k ≡ true → looks_of (watchers_of ws) (resting_of rs.entries) k ≡ looks_in (state_of w) k)
+    → ((k : Key) → is_site (state_of w).instances k ≡ true → looks_of (watchers_of ws) (resting_of rs.entries) (state_of w).controls k ≡ looks_in (state_of w) k)
     → WatchersStand (length (state_of w).core.objects) (watchers_of ws)
     → (ts : Stands) → Standing w ts → Standing (record w { watchers = ws; resting = rs; declared = ds }) ts
 same_stands w ws rs ds same watched ts g =
     record {
       built =
-          built_same (places_of w) (looks_in (state_of w)) (looks_of (watchers_of ws) (resting_of rs.entries)) w.dom (state_of w).instances ts
+          built_same (places_of w) (looks_in (state_of w)) (looks_of (watchers_of ws) (resting_of rs.entries) (state_of w).controls) w.dom (state_of w).instances ts
           (λ k n at. sym (same k (placed_site w k (some_at (places_of w k) n at)))) g.built;
       below = g.below;
       watched = watched;
@@ -49,8 +52,8 @@ apart_from w k q off site same = let two : true ≡ false = sym site ∙ (ap (is
 
 -- where the watcher of a declared watch is another, or none
 module _ (w : Works) (ws : List (Key × Watched)) (ds : BTreeMap Key Listener) (k : Key) (off : is_site (state_of w).instances k ≡ false) where
-  found_still : ((q : Key) → (q ≡ k → ⊥) → found q (watchers_of ws) ≡ found q (state_of w).watchers) → (q : Key) → is_site (state_of w).instances q ≡ true → looks_of (watchers_of ws) (state_of w).resting q ≡ looks_in (state_of w) q
-  found_still still q site = ap (λ (o : Option Watcher). look_of (kept_or o (lookup (is_key q) (state_of w).resting))) (still q (apart_from w k q off site))
+  found_still : ((q : Key) → (q ≡ k → ⊥) → found q (watchers_of ws) ≡ found q (state_of w).watchers) → (q : Key) → is_site (state_of w).instances q ≡ true → looks_of (watchers_of ws) (state_of w).resting (state_of w).controls q ≡ looks_in (state_of w) q
+  found_still still q site = ap (λ (o : Option Watcher). look_of (seen_by (state_under q (state_of w).controls) (kept_or o (lookup (is_key q) (state_of w).resting)))) (still q (apart_from w k q off site))
 
   pub declared_stands : (x : Watching) → WatchStands (length (state_of w).core.objects) x → watchers_of ws ≡ with_watch k x (state_of w).watchers → (ts : Stands) → Standing w ts → Standing (record w { watchers = ws; declared = ds }) ts
   declared_stands x stands is ts g =
@@ -71,7 +74,7 @@ pub rested_stands : (w : Works) (ws : List (Key × Watched)) (rs : BTreeMap Key 
     → (ts : Stands) → Standing w ts → Standing (record w { watchers = ws; resting = rs; declared = ds }) ts
 rested_stands w ws rs ds p ordered left rest ts g =
     same_stands w ws rs ds
-    (λ k site. rw (left, rest) (ap look_of (kept_rested (state_of w).instances p (state_of w).watchers (state_of w).resting k ordered site)))
+    (λ k site. rw (left, rest) (ap (λ (v : Option ViewTree). look_of (seen_by (state_under k (state_of w).controls) v)) (kept_rested (state_of w).instances p (state_of w).watchers (state_of w).resting k ordered site)))
     (rw left (stand_filtered (length (state_of w).core.objects) (λ e. not (p e)) (state_of w).watchers g.watched)) ts g
 
 -- where the core is another

@@ -3,7 +3,6 @@ use Rattle.std.proofs.Common.{◌≡◌, ◌≤◌, ◌<◌, ◌+◌, ℕ, Bool,
 use Rattle.std.specs.Prelude.{◌||◌}
 use Rattle.std.specs.List.{flat_map, list_any}
 use Rattle.std.proofs.lemmas.List.Folds.{flat_map-map}
-use Rattle.ng_base.specs.Views.{ViewTree}
 use Rattle.ng_base.specs.declared.path.Key.{Key}
 use Rattle.ng_markup.specs.Attributes.{if_any, with_value, class_value}
 use Rattle.ng_markup.specs.Forest.{Attributes, Forest, element, text, no_nodes, node}
@@ -12,7 +11,7 @@ use Rattle.ng_dom.specs.Drawing as drawn
 use Rattle.ng_dom.specs.Drawing.{Look, Source, Stand, Stands, Bodies, none_stand, stand_then, joined, drawn_words, drawn_value, drawn_on, show, shows, show_bodies}
 use Rattle.ng_drawing.specs.Drawing as drawing
 use Rattle.ng_drawing.specs.Drawing.{draw_pieces, is_hiding, draw_value, draw_attributes, draw_contents, draw_part, draw, class_words}
-use Rattle.ng_drawing.specs.Looks.{kept_text, kept_words}
+use Rattle.ng_drawing.specs.Looks.{Seen}
 use Rattle.ng_drawing.specs.Nodes.{part_nodes, content_nodes, nodes}
 use Rattle.ng_drawing.specs.Template as template
 use Rattle.ng_drawing.specs.Template.{word, hole, while_true, while_false, PartClass, PartValue, always, unless_empty, flag, classes, PartAttributes, Part, Contents, Parts, text_part, comment_part, element_part, anchor_part, children, bound, no_parts, part_then, parts_from}
@@ -26,24 +25,24 @@ same_followed no_nodes g = refl
 same_followed (node x f) g = ap (λ (h : Forest). node x h) (same_followed f g)
 
 -- what has the keys of its holes is drawn as it was
-module _ (keys : ℕ → Key) (v : Key → Option ViewTree) where
+module _ (keys : ℕ → Key) (v : Key → Seen) where
   abbrev looks : Key → Look
   looks k = look_of (v k)
 
-  abbrev kept : ℕ → Option ViewTree
+  abbrev kept : ℕ → Seen
   kept n = v (keys n)
 
   joined_linked : (ps : List template.Piece) → joined looks (linked_pieces keys ps) ≡ draw_pieces kept ps
   joined_linked [] = refl
   joined_linked (word w ∷ ps) = ap (λ (t : List ℕ). w ++ t) (joined_linked ps)
-  joined_linked (hole n ∷ ps) = ap (λ (t : List ℕ). kept_text (kept n) ++ t) (joined_linked ps)
+  joined_linked (hole n ∷ ps) = ap (λ (t : List ℕ). (kept n).text ++ t) (joined_linked ps)
 
   hides_linked : (hs : List template.Hiding) → list_any (drawn.is_hiding looks) (map (linked_hiding keys) hs) ≡ list_any (is_hiding kept) hs
   hides_linked [] = refl
   hides_linked (while_true n ∷ hs) = ap (λ (b : Bool). is_hiding kept (while_true n) || b) (hides_linked hs)
   hides_linked (while_false n ∷ hs) = ap (λ (b : Bool). is_hiding kept (while_false n) || b) (hides_linked hs)
 
-  words_linked : (c : PartClass) → drawn_words looks (linked_class keys c) ≡ class_words (draw_pieces kept c.pieces) (flat_map (λ n. kept_words (kept n)) c.words) (list_any (is_hiding kept) c.hidings)
+  words_linked : (c : PartClass) → drawn_words looks (linked_class keys c) ≡ class_words (draw_pieces kept c.pieces) (flat_map (λ n. (kept n).words) c.words) (list_any (is_hiding kept) c.hidings)
   words_linked c = rw (joined_linked c.pieces, flat_map-map (λ (k : Key). (looks k).words) keys c.words, hides_linked c.hidings) refl
 
   value_linked : (x : PartValue) → drawn_value looks (linked_value keys x) ≡ draw_value kept x
@@ -74,7 +73,7 @@ module _ (keys : ℕ → Key) (v : Key → Option ViewTree) where
 
       content_draws : (n : ℕ) (c : Contents) → plain (shows looks (content_shape keys n groups c)) ≡ draw_contents kept filling c
       content_draws n (children ps) = shape_draws n ps
-      content_draws n (bound k) = ap (λ (t : List ℕ). node (text t) no_nodes) (append-nil (kept_text (kept k)))
+      content_draws n (bound k) = ap (λ (t : List ℕ). node (text t) no_nodes) (append-nil (kept k).text)
 
       -- what stands of parts is drawn as the parts are
       pub shape_draws : (n : ℕ) (ps : Parts) → plain (shows looks (shape keys n groups ps)) ≡ draw kept filling ps

@@ -8,18 +8,21 @@ use Rattle.std.specs.Ordering.{nat_cmp}
 use Rattle.std.proofs.lemmas.Map.Entries.{lookup-filter-keys}
 use Rattle.ng_base.specs.declared.path.Key.{Key}
 use Rattle.ng_base.specs.Views.{ViewTree}
+use Rattle.ng_control.specs.State.{ControlState}
 use Rattle.ng_dom.specs.Document.{next_name}
 use Rattle.ng_dom.specs.Drawing.{at_block_all}
 use Rattle.ng_dom.specs.declared.dom.Dom.{Dom}
+use Rattle.ng_drawing.specs.Looks.{seen_by}
 use Rattle.ng_template.specs.Kept.{Named}
 use Rattle.ng_value.specs.Snaps.{snap_of}
 use Rattle.ng_value.specs.declared.snapshot.Snap.{Snap}
 use Rattle.ng_watch.specs.Keys.{is_key, begins}
 use Rattle.ng_watch.specs.Table.{found}
 use Rattle.ng_link.specs.Calls.{cut_at}
+use Rattle.ng_link.specs.Controls.{Controls, state_under}
 use Rattle.ng_link.specs.Instances.{OutletState, Linked, Instances, Owners, is_path, linked_at, with_outlets, outlets_changed, body_gone, without_below, owners_less, owners_without, unlinked}
 use Rattle.ng_link.specs.Standing.{IsPlaced, IsBuilt, IsHeldIn, IsStanding}
-use Rattle.ng_link.specs.State.{Resting, kept_or, look_of, linked_of, instances_of, resting_of, spot_at, spot_in, places_of, looks_in, state_of, templates_of}
+use Rattle.ng_link.specs.State.{Resting, kept_or, kept_in, look_of, linked_of, instances_of, resting_of, spot_at, spot_in, places_of, looks_in, state_of, templates_of}
 use Rattle.ng_link.specs.Unlinking.{IsHeldAt, body_cut, CutsOut}
 use Rattle.ng_link.specs.declared.works.Linked as code
 use Rattle.ng_link.specs.declared.works.Works.{Works}
@@ -80,14 +83,14 @@ module _ (p : List ℕ) (es : List (List ℕ × code.Linked)) (k : Key) where
   pub spots_kept : spot_in (filter (λ e. not (begins p e.0)) es) k ≡ option_and_then (λ i. spot_at i k) (cond (not (begins p k.path)) (lookup (is_path k.path) es) None)
   spots_kept = ap (option_and_then (λ i. spot_at i k)) (lookup-filter-keys (is_path k.path) (λ q. not (begins p q)) (not (begins p k.path)) same_path_same es)
 
-module _ (w : Works) (cuts : BTreeMap (List ℕ) code.Linked) (is : BTreeMap (List ℕ) code.Linked) (d : Dom) (os : BTreeMap ℕ (List ℕ)) (rs : BTreeMap Key (Option Snap)) (holder p : List ℕ) (o i : ℕ)
+module _ (w : Works) (cuts : BTreeMap (List ℕ) code.Linked) (is : BTreeMap (List ℕ) code.Linked) (d : Dom) (os : BTreeMap ℕ (List ℕ)) (rs : BTreeMap Key (Option Snap)) (cs : BTreeMap Key ControlState) (holder p : List ℕ) (o i : ℕ)
     (stands : IsStanding w) (holds : IsHeldIn holder p (state_of w).instances) (at : IsHeldAt p o i holds.0.page.outlets)
     (cut : instances_of (templates_of w) cuts.entries ≡ outlets_changed holder (body_cut o i) (state_of w).instances) (spots : (k : Key) → spot_in cuts.entries k ≡ places_of w k)
     (nodes : CutsOut at.0.anchor i w.dom d)
     (left : is.entries ≡ filter (λ e. not (begins p e.0)) cuts.entries) (owned : os.entries ≡ owners_less (λ (one : code.Linked). one.node) p cuts.entries w.owners.entries)
-    (rest : rs.entries ≡ filter (λ e. not (begins p e.0.path)) w.resting.entries) where
+    (rest : rs.entries ≡ filter (λ e. not (begins p e.0.path)) w.resting.entries) (fewer : cs.entries ≡ filter (λ e. not (begins p e.0.path)) w.controls.entries) where
   abbrev pub after : Works
-  after = record w { instances = is; dom = d; owners = os; resting = rs }
+  after = record w { instances = is; dom = d; owners = os; resting = rs; controls = cs }
 
   abbrev all : List Named
   all = templates_of w
@@ -120,7 +123,8 @@ module _ (w : Works) (cuts : BTreeMap (List ℕ) code.Linked) (is : BTreeMap (Li
       ap (λ (xs : Instances). record (state_of after) { instances = xs }) gone
       ∙ (ap (λ (ns : Owners). record (state_of after) { instances = unlinked holder p (state_of w).instances; owners = ns }) less
       ∙ (ap (λ (r : Resting). record (state_of after) { instances = unlinked holder p (state_of w).instances; owners = owners_without p (state_of w).instances (state_of w).owners; resting = r }) resting
-      ∙ ap (λ (n : ℕ). record (cut_at holder p (state_of w)) { next_node = n }) next))
+      ∙ (ap (λ (x : Controls). record (cut_at holder p (state_of w)) { controls = x; next_node = next_name d }) fewer
+      ∙ ap (λ (n : ℕ). record (cut_at holder p (state_of w)) { next_node = n }) next)))
 
   -- sites that stay are drawn where they were, and show what they showed
   place : (k : Key) → places_of after k ≡ option_and_then (λ (x : code.Linked). spot_at x k) (cond (not (begins p k.path)) (lookup (is_path k.path) cuts.entries) None)
@@ -141,7 +145,11 @@ module _ (w : Works) (cuts : BTreeMap (List ℕ) code.Linked) (is : BTreeMap (Li
       let same : (q : Key) → is_key k q ≡ true → not (begins p q.path) ≡ not (begins p k.path) = λ q is. ap (λ (r : Key). not (begins p r.path)) (sym (key_is k q is)) in
       let kept : lookup (is_key k) (filter (λ e. not (begins p e.0.path)) (state_of w).resting) ≡ lookup (is_key k) (state_of w).resting =
       lookup-filter-keys (is_key k) (λ (q : Key). not (begins p q.path)) (not (begins p k.path)) same (state_of w).resting ∙ ap (λ (b : Bool). cond (not b) (lookup (is_key k) (state_of w).resting) None) off in
-      ap (λ (s : Option (Option ViewTree)). look_of (kept_or (found k (state_of w).watchers) s)) (sym kept ∙ ap (lookup (is_key k)) (sym resting))
+      let controls : state_under k cs.entries ≡ state_under k (state_of w).controls =
+      ap (state_under k) fewer ∙ (lookup-filter-keys (is_key k) (λ (q : Key). not (begins p q.path)) (not (begins p k.path)) same (state_of w).controls
+      ∙ ap (λ (b : Bool). cond (not b) (state_under k (state_of w).controls) None) off) in
+      ap (λ (s : Option (Option ViewTree)). look_of (seen_by (state_under k (state_of w).controls) (kept_or (found k (state_of w).watchers) s))) (sym kept ∙ ap (lookup (is_key k)) (sym resting))
+      ∙ ap (λ (c : Option ControlState). look_of (seen_by c (kept_in (state_of w).watchers (resting_of rs.entries) k))) (sym controls)
 
   pub unlinked_stands : IsStanding after
   unlinked_stands = (

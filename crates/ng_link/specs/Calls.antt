@@ -8,6 +8,7 @@ use Rattle.ng_core.specs.State as act
 use Rattle.ng_base.specs.Views.{ViewTree}
 use Rattle.ng_base.specs.declared.path.Key.{Key}
 use Rattle.ng_behaviour.specs.Scopes.{path_at, object_at}
+use Rattle.ng_control.specs.State.{ControlState, with_model}
 use Rattle.ng_drawing.specs.Nodes.{nodes}
 use Rattle.ng_drawing.specs.Origins.{inner_home}
 use Rattle.ng_drawing.specs.Roles.{Role}
@@ -19,22 +20,27 @@ use Rattle.ng_watch.specs.Ended.{over, without_over}
 use Rattle.ng_watch.specs.Keys.{key_cmp, is_key, begins}
 use Rattle.ng_watch.specs.Seen.{Watching}
 use Rattle.ng_watch.specs.Table.{Table, with_kept, with_watch, without_watch, under, without_under}
+use Rattle.ng_link.specs.Controls.{controlled, controls_begun, control_changed}
 use Rattle.ng_link.specs.Handlers.{handled}
 use Rattle.ng_link.specs.Rows.{with_sites}
 use Rattle.ng_link.specs.Instances.{Body, OutletState, Page, Linked, Instances, linked_at, is_site_of, is_site, is_filled_by, with_instance, outlets_changed, body_added, bodies_arranged, unlinked, owners_without}
-use Rattle.ng_link.specs.Shape.{anchors}
+use Rattle.ng_link.specs.Shape.{keys_in, anchors}
 use Rattle.ng_link.specs.State.{Listening, Resting, State}
 
 -- nothing is watched and nothing is linked yet
 abbrev pub blank : List Named → act.State → State
-blank all c = record { core = c; templates = all; watchers = []; resting = []; declared = []; instances = []; owners = []; next_node = 0 }
+blank all c = record { core = c; templates = all; watchers = []; resting = []; controls = []; declared = []; instances = []; owners = []; next_node = 0 }
 
 abbrev pub with_core : act.State → State → State
 with_core c s = record s { core = c }
 
--- the watcher of a key keeps a snapshot
+-- the state of the control whose model's site has a key is changed
+abbrev pub with_control_at : (ControlState → ControlState) → Key → State → State
+with_control_at f k s = record s { controls = control_changed f k s.controls }
+
+-- The watcher of a key keeps a snapshot. A control whose model that is drops what was typed, where that was read as another value.
 abbrev pub keeping_at : Key → ViewTree → State → State
-keeping_at k v s = record s { watchers = with_kept k (Some v) s.watchers }
+keeping_at k v s = record s { watchers = with_kept k (Some v) s.watchers; controls = control_changed (λ c. with_model c v) k s.controls }
 
 -- whether the site of a key is drawn: one that fills outlets is not
 abbrev pub fills_any : ℕ → List OutletState → Bool
@@ -89,7 +95,7 @@ outlets_on home serials (o ∷ os) [] = []
 outlets_on home serials (o ∷ os) (a ∷ names) = outlet_on home serials o a ∷ outlets_on home serials os names
 
 -- the instance of a fragment on a scope of a path: its sites have these numbers of registration, its nodes the names
--- from one on, and its handlers and anchors are entered with these
+-- from one on, and its handlers, controls and anchors are entered with these
 abbrev pub page_on : Origin → ℕ → List ℕ → Fragment → List ℕ → ℕ → Page
 page_on which scope path f serials node = record {
   origin = which;
@@ -98,6 +104,7 @@ page_on which scope path f serials node = record {
   serials = serials;
   node = node;
   handlers = handled node f.parts [];
+  controls = controlled (keys_in path serials) node f.parts [];
   outlets = outlets_on (inner_home which) serials f.outlets (anchors node f.parts);
 }
 
@@ -115,10 +122,11 @@ taken_in at_top p is = is
 taken_in (in_outlet holder o i role) p is = outlets_changed holder (body_added o i (record { path = p; role = role })) is
 
 -- A fragment stands at a place on a scope of a path: its sites are watched over the scope's object, each under its
--- number of registration, its nodes stand, and its instance is noted.
+-- number of registration, its nodes stand, its controls have taken nothing yet, and its instance is noted.
 abbrev pub placed_under : Place → List ℕ → ℕ → Origin → ℕ → Fragment → List ℕ → State → State
 placed_under place path object which scope f serials s = record s {
   watchers = with_sites path object serials f.sites s.watchers;
+  controls = controls_begun (controlled (keys_in path serials) s.next_node f.parts []) s.controls;
   instances = taken_in place path (with_instance path (linked_on which scope path f serials s.next_node) s.instances);
   owners = insert_entry nat_cmp s.owners s.next_node path;
   next_node = s.next_node + nodes f.parts;
@@ -131,10 +139,11 @@ placed_on place which scope f serials s = placed_under place (path_at s.core.sco
 abbrev pub arranged_at : List ℕ → ℕ → List Body → State → State
 arranged_at holder o bs s = record s { instances = outlets_changed holder (bodies_arranged o bs) s.instances }
 
--- the instances of a body and of those in it are gone, and nothing of them rests
+-- the instances of a body and of those in it are gone, and nothing of them rests, nor is a control
 abbrev pub cut_at : List ℕ → List ℕ → State → State
 cut_at holder p s = record s {
   resting = filter (λ e. not (begins p e.0.path)) s.resting;
+  controls = filter (λ e. not (begins p e.0.path)) s.controls;
   instances = unlinked holder p s.instances;
   owners = owners_without p s.instances s.owners;
 }

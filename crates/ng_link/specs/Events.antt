@@ -3,6 +3,9 @@ use Rattle.std.specs.Prelude.{ℕ, Bool, List, [], Option, Some, None, option_an
 use Rattle.ng_dom.specs.Drawing.{Stands, shows}
 use Rattle.ng_dom.specs.Nodes.{NamedForest}
 use Rattle.ng_language.specs.Trees.{Trees}
+use Rattle.ng_control.specs.State.{ControlState}
+use Rattle.ng_control.specs.declared.kind.ControlKind.{ControlKind}
+use Rattle.ng_link.specs.Controls.{ControlHere, Controlled, controlled_at, state_under, kind_in}
 use Rattle.ng_link.specs.Handlers.{Handled, programs_at, is_entered}
 use Rattle.ng_link.specs.Instances.{Linked, linked_at, stands_at, owner_of}
 use Rattle.ng_link.specs.State.{State, looks_in}
@@ -34,6 +37,22 @@ handlers_at s n e = programs_at n e (handled_in (instance_of_node s n))
 -- a node that has a handler stands
 abbrev pub is_handling : State → ℕ → Bool
 is_handling s n = is_entered n (handled_in (instance_of_node s n))
+
+-- the control that a node is
+abbrev pub controlled_in : Option Linked → Controlled
+controlled_in None = []
+controlled_in (Some l) = l.page.controls
+
+abbrev pub control_at : State → ℕ → Option ControlHere
+control_at s n = controlled_at n (controlled_in (instance_of_node s n))
+
+-- its state, and its kind
+abbrev pub state_by : Option ControlHere → State → Option ControlState
+state_by None s = None
+state_by (Some c) s = state_under c.key s.controls
+
+abbrev pub kind_at : State → ℕ → Option ControlKind
+kind_at s n = kind_in (state_by (control_at s n) s)
 
 -- The scope of a node: that of the instance to which it belongs.
 abbrev pub scope_of : State → ℕ → ℕ

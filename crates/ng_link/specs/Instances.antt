@@ -15,6 +15,7 @@ use Rattle.ng_drawing.specs.Template.{Fragment, Filling}
 use Rattle.ng_drawing.specs.declared.origin.Home.{Home}
 use Rattle.ng_drawing.specs.declared.origin.Origin.{Origin}
 use Rattle.ng_watch.specs.Keys.{begins}
+use Rattle.ng_link.specs.Controls.{Controlled}
 use Rattle.ng_link.specs.Handlers.{Handled}
 use Rattle.ng_link.specs.Shape.{keys_in, shape}
 
@@ -33,7 +34,8 @@ pub record OutletState : Type 0 where
   pub bodies : List Body
 
 -- an instance that stands: the fragment that it is one of, and the number of its scope; the path of its sites' keys, and
--- their numbers of registration in the order of its sites; the name of its first node; what handles events at its nodes; its outlets
+-- their numbers of registration in the order of its sites; the name of its first node; what handles events at its nodes; its controls, by
+-- their nodes; its outlets
 pub record Page : Type 0 where
   pub origin : Origin
   pub scope : ℕ
@@ -41,6 +43,7 @@ pub record Page : Type 0 where
   pub serials : List ℕ
   pub node : ℕ
   pub handlers : Handled
+  pub controls : Controlled
   pub outlets : List OutletState
 
 -- the keys of its sites by number

@@ -4,12 +4,12 @@ use Rattle.std.specs.List.Sorted.{IsStrictlySortedBy}
 use Rattle.std.specs.Map.{keys_of as map_keys}
 use Rattle.ng_core.specs.declared.core_state.Core.{Core}
 use Rattle.ng_base.specs.Order.{path_cmp}
-use Rattle.ng_base.specs.Views.{ViewTree}
 use Rattle.ng_base.specs.declared.path.Key.{Key}
 use Rattle.ng_dom.specs.Document.{Shows}
 use Rattle.ng_dom.specs.Drawing.{Stands, Bodies, shows, show_bodies, at_block_all}
 use Rattle.ng_dom.specs.Nodes.{plain, plain_groups}
 use Rattle.ng_drawing.specs.Drawing.{draw}
+use Rattle.ng_drawing.specs.Looks.{Seen}
 use Rattle.ng_drawing.specs.Template.{Parts}
 use Rattle.ng_watch.specs.Table.{Table, AllStand}
 use Rattle.ng_link.specs.Events.{named}
@@ -19,10 +19,10 @@ use Rattle.ng_link.specs.State.{look_of, state_of, shown}
 use Rattle.ng_link.specs.Standing.{AreIn, ArePlaced, AreApart, WatchersStand, Standing, Displays}
 use Rattle.ng_link.specs.declared.works.Works.{Works}
 
--- what stands of parts is drawn as the parts are, whatever their sites have kept and whatever fills their outlets
+-- what stands of parts is drawn as the parts are, whatever is seen of their sites and whatever fills their outlets
 abbrev pub ShapeDrawsParts : Type 0
 ShapeDrawsParts =
-    (keys : ℕ → Key) (v : Key → Option ViewTree) (n : ℕ) (groups : ℕ → Bodies) (ps : Parts)
+    (keys : ℕ → Key) (v : Key → Seen) (n : ℕ) (groups : ℕ → Bodies) (ps : Parts)
     → plain (shows (λ k. look_of (v k)) (shape keys n groups ps)) ≡ draw (λ k. v (keys k)) (λ o. plain_groups (show_bodies (λ k. look_of (v k)) (groups o))) ps
 
 -- The bodies of an outlet change, and with them what stands at its anchor: one law for each kind of block.

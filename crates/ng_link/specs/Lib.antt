@@ -5,6 +5,7 @@ pub mod Holes
 pub mod Rows
 pub mod Building
 pub mod Handlers
+pub mod Controls
 pub mod Linking
 pub mod StepOf
 pub mod Instances

@@ -16,7 +16,7 @@ use Rattle.ng_drawing.specs.Instance as drawn
 use Rattle.ng_drawing.specs.Instance.{SiteState, Instance, Group, instance_with, no_outlets, instances_from, outlets_from}
 use Rattle.ng_drawing.specs.Roles.{Role}
 use Rattle.ng_drawing.specs.RolesOf.{role_of}
-use Rattle.ng_drawing.specs.Looks.{kept_text, kept_words, kept_truth}
+use Rattle.ng_drawing.specs.Looks.{Seen, seen_by}
 use Rattle.ng_drawing.specs.Nodes.{forest_count}
 use Rattle.ng_drawing.specs.Template.{Template, no_fragment}
 use Rattle.ng_language.specs.Trees.{Trees}
@@ -32,10 +32,12 @@ use Rattle.ng_value.specs.declared.snapshot.Snap.{Snap}
 use Rattle.ng_watch.specs.Keys.{is_key}
 use Rattle.ng_watch.specs.Seen.{Watcher}
 use Rattle.ng_watch.specs.Table.{Table, watchers_of, found}
+use Rattle.ng_link.specs.Controls.{ControlHere, Controlled, Controls, state_under}
 use Rattle.ng_link.specs.Handlers.{Handled}
 use Rattle.ng_link.specs.Instances.{Body, OutletState, Page, Linked, Instances, Owners, is_path, linked_at, read, read_after}
 use Rattle.ng_link.specs.Shape.{key_on}
 use Rattle.ng_link.specs.declared.works.Body as code_body
+use Rattle.ng_link.specs.declared.works.ControlHere as code_control
 use Rattle.ng_link.specs.declared.works.OutletState as code_outlet
 use Rattle.ng_link.specs.declared.works.Linked as code
 use Rattle.ng_link.specs.declared.works.Listener.{Listener}
@@ -55,13 +57,14 @@ abbrev pub Declared : Type 0
 Declared = List (Key × Listening)
 
 -- The state of a page: the core; the templates, each with the name that it is included by; the live watchers, with what they have
--- kept; the sites that rest, with what they had kept; the programs of declared watches; what is linked; to which instance a node
--- belongs; and the name of the next node. All lists but that of the templates are in key order.
+-- kept; the sites that rest, with what they had kept; the states of controls, by the keys of their models' sites; the programs of declared
+-- watches; what is linked; to which instance a node belongs; and the name of the next node. All lists but that of the templates are in key order.
 pub record State : Type 0 where
   pub core : act.State
   pub templates : List Named
   pub watchers : Table
   pub resting : Resting
+  pub controls : Controls
   pub declared : Declared
   pub instances : Instances
   pub owners : Owners
@@ -77,22 +80,25 @@ kept_or None None = None
 abbrev pub kept_in : Table → Resting → Key → Option ViewTree
 kept_in t r k = kept_or (found k t) (lookup (is_key k) r)
 
--- what is seen of that, or nothing
-abbrev pub look_of : Option ViewTree → Look
-look_of s = record { text = kept_text s; words = kept_words s; truth = kept_truth s }
+-- what is seen of that, or of the control whose model it is, or nothing
+abbrev pub look_of : Seen → Look
+look_of e = record { text = e.text; words = e.words; truth = e.truth }
 
-abbrev pub looks_of : Table → Resting → Key → Look
-looks_of t r k = look_of (kept_in t r k)
+abbrev pub seen_under : Table → Resting → Controls → Key → Seen
+seen_under t r cs k = seen_by (state_under k cs) (kept_in t r k)
+
+abbrev pub looks_of : Table → Resting → Controls → Key → Look
+looks_of t r cs k = look_of (seen_under t r cs k)
 
 abbrev pub looks_in : State → Key → Look
-looks_in s = looks_of s.watchers s.resting
+looks_in s = looks_of s.watchers s.resting s.controls
 
 -- a site with what it shows; it rests where it has no watcher
-abbrev pub site_state : Table → Resting → ℕ → Key → SiteState
-site_state t r scope k = record { key = k; scope = scope; kept = kept_in t r k; rests = not (is_some (found k t)) }
+abbrev pub site_state : Table → Resting → Controls → ℕ → Key → SiteState
+site_state t r cs scope k = record { key = k; scope = scope; kept = kept_in t r k; rests = not (is_some (found k t)); control = state_under k cs }
 
-abbrev pub site_states : Table → Resting → Page → List SiteState
-site_states t r p = map (λ n. site_state t r p.scope (key_on p.path n)) p.serials
+abbrev pub site_states : Table → Resting → Controls → Page → List SiteState
+site_states t r cs p = map (λ n. site_state t r cs p.scope (key_on p.path n)) p.serials
 
 -- what the bodies of an outlet stand for
 abbrev pub roles_in : List Body → List Role
@@ -105,33 +111,33 @@ groups_in [] (is ∷ iss) = ([], is) ∷ groups_in [] iss
 groups_in (o ∷ os) (is ∷ iss) = (roles_in o.bodies, is) ∷ groups_in os iss
 
 -- an instance with the bodies in it
-abbrev pub instance_join : Table → Resting → Linked → List (List Instance) → Instance
-instance_join t r l iss = instance_with l.fragment l.page.scope (site_states t r l.page) (outlets_from (groups_in l.page.outlets (map instances_from iss)))
+abbrev pub instance_join : Table → Resting → Controls → Linked → List (List Instance) → Instance
+instance_join t r cs l iss = instance_with l.fragment l.page.scope (site_states t r cs l.page) (outlets_from (groups_in l.page.outlets (map instances_from iss)))
 
 abbrev pub nothing_linked : Instance
 nothing_linked = instance_with no_fragment 0 [] no_outlets
 
-abbrev pub instance_at : Table → Resting → Instances → List ℕ → Instance
-instance_at t r is p = read nothing_linked (instance_join t r) is p
+abbrev pub instance_at : Table → Resting → Controls → Instances → List ℕ → Instance
+instance_at t r cs is p = read nothing_linked (instance_join t r cs) is p
 
 -- a body in an instance, which comes after it
 abbrev pub body_at : State → List ℕ → List ℕ → Instance
-body_at s holder p = read_after nothing_linked (instance_at s.watchers s.resting s.instances) holder p
+body_at s holder p = read_after nothing_linked (instance_at s.watchers s.resting s.controls s.instances) holder p
 
-abbrev pub instance_in : Table → Resting → Instances → Option Instance
-instance_in t r is = option_map (λ l. instance_at t r is []) (linked_at [] is)
+abbrev pub instance_in : Table → Resting → Controls → Instances → Option Instance
+instance_in t r cs is = option_map (λ l. instance_at t r cs is []) (linked_at [] is)
 
 -- the page's instance; there is none where the opening link met a fault
 abbrev pub instance : State → Option Instance
-instance s = instance_in s.watchers s.resting s.instances
+instance s = instance_in s.watchers s.resting s.controls s.instances
 
 -- the document that a page shows: the drawing with what its sites have kept; without an instance it is empty
 abbrev pub shown : State → Forest
-shown s = drawn.shown (instance_at s.watchers s.resting s.instances [])
+shown s = drawn.shown (instance_at s.watchers s.resting s.controls s.instances [])
 
 -- The rendering: the document computed afresh over data and scopes.
 abbrev pub rendering : State → Rendered Forest
-rendering s = drawn.rendering s.core.objects s.core.scopes (instance_at s.watchers s.resting s.instances [])
+rendering s = drawn.rendering s.core.objects s.core.scopes (instance_at s.watchers s.resting s.controls s.instances [])
 
 -- how many nodes stand
 abbrev pub live_nodes : State → ℕ
@@ -146,6 +152,12 @@ template_at all n = option_map (λ k. k.1) (slice_get all n)
 
 abbrev pub handled_of : List (ℕ × Vec Handler Global) → Handled
 handled_of t = map (λ e. (e.0, map handler_of e.1.items)) t
+
+abbrev pub control_of : code_control.ControlHere → ControlHere
+control_of c = record { key = c.key; kind = c.kind; writes = program c.writes; changes = map program c.changes.items }
+
+abbrev pub controlled_of : List (ℕ × code_control.ControlHere) → Controlled
+controlled_of t = map (λ e. (e.0, control_of e.1)) t
 
 abbrev pub body_of : code_body.Body → Body
 body_of b = record { path = b.path; role = role_of b.role }
@@ -162,6 +174,7 @@ page_of path i = record {
   serials = map_keys i.spots.entries;
   node = i.node;
   handlers = handled_of i.handlers.entries;
+  controls = controlled_of i.controls.entries;
   outlets = map outlet_of i.outlets.items;
 }
 
@@ -186,6 +199,7 @@ state_of w = record {
   templates = templates_of w;
   watchers = watchers_of w.watchers;
   resting = resting_of w.resting.entries;
+  controls = w.controls.entries;
   declared = declared_of w.declared.entries;
   instances = instances_of (templates_of w) w.instances.entries;
   owners = w.owners.entries;

@@ -28,6 +28,13 @@ pub(crate) fn key_on(path: &Path, serial: u64) -> Result<Key, AllocError>
     })
 }
 
+/// A key again.
+pub(crate) fn copied_key(key: &Key) -> Result<Key, AllocError>
+    ensures { IfOk result (λ k. k ≡ key.now) }
+{
+    key_on(&key.path, key.serial.0)
+}
+
 /// The key of a site by its number.
 pub(crate) fn key_at(path: &Path, serials: &[u64], n: u64) -> Result<Key, Memory>
     ensures { IfOk result (λ k. k ≡ keys_in path.now serials.now n) }

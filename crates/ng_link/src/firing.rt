@@ -11,6 +11,7 @@ ghost use Rattle.ng_link.specs.Standing.{Standing};
 ghost use Rattle.ng_link.specs.State.{looks_in, state_of, templates_of};
 
 use crate::attributes::{if_any, set};
+use crate::controls::drop_typed;
 use crate::looks::{is_hidden, is_kept_true, joined_text, shown_words};
 use crate::placing::spot_in;
 use crate::works::Works;
@@ -114,7 +115,7 @@ impl Works {
     }
 
     /// The node of a site shows what is kept now.
-    fn show_kept(&mut self, key: &Key) -> Result<(), Memory>
+    pub(crate) fn show_kept(&mut self, key: &Key) -> Result<(), Memory>
         ensures fires { OnOk result (Fires key.now self.old self.new) }
         ensures rest { self.new ≡ record self.old { dom = self.new.dom } }
         ensures refused { IfErr result (λ e. e ≡ Memory.Refused) }
@@ -126,7 +127,7 @@ impl Works {
     }
 
     /// The watcher of a key keeps a snapshot, and where it is a site's its node shows it: what the digest does where a test was
-    /// dirty. What was kept before is handed back.
+    /// dirty. A control drops what was typed where its model is another value now. What was kept before is handed back.
     pub fn keep(&mut self, key: &Key, s: Snap) -> Result<Option<Snap>, Memory>
         requires there { IsSome (found key.now (state_of self.old).watchers) }
         ensures state { OnOk result (state_of self.new ≡ keeping_at key.now (snap_of s) (state_of self.old)) }
@@ -136,6 +137,7 @@ impl Works {
         ensures templates { templates_of self.new ≡ templates_of self.old }
         ensures stands { OnOk result ((ts : Stands) → Standing self.old ts → Standing self.new ts) }
     {
+        drop_typed(&mut self.controls, key, &s);
         let former = self.watchers.keep(key, s);
         self.show_kept(key)?;
         Ok(former)

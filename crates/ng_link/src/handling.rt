@@ -160,7 +160,7 @@ impl Linked {
 
 impl Works {
     /// The instance to which a node belongs: the last that doesn't begin after it.
-    fn instance_of_node(&self, n: u64) -> Option<&Linked>
+    pub(crate) fn instance_of_node(&self, n: u64) -> Option<&Linked>
         ensures { option_copied result ≡ option_and_then (λ p. lookup (is_path p) self.now.instances.entries) (owner_of n self.now.owners.entries) }
     {
         match self.owners.range(..=n).next_back() {

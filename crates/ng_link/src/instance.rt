@@ -4,6 +4,7 @@ ghost use Rattle.ng_drawing.specs.Instance.{instances_from};
 ghost use Rattle.ng_drawing.specs.InstanceOf.{state_of as seen_state, instance_of as seen_instance, group_of as seen_group};
 ghost use Rattle.ng_template.specs.Kept.{fragments_in};
 ghost use Rattle.ng_value.specs.Snaps.{snap_of};
+ghost use Rattle.ng_link.specs.Controls.{state_under};
 ghost use Rattle.ng_link.specs.Instances.{Body as BodyOf, read_bodies};
 ghost use Rattle.ng_link.specs.State.{body_of, outlet_of, page_of, templates_of, kept_in, site_state, site_states, nothing_linked, roles_in, groups_in, instance_at, body_at, instance, state_of};
 
@@ -13,6 +14,7 @@ use crate::works::{Body, Linked, OutletState, Works};
 use ng_base::fault::Memory;
 use ng_base::name::{ScopeId, TplId};
 use ng_base::path::{Key, Path};
+use ng_control::Control;
 use ng_drawing::instance::{Instance, Instances, SiteState};
 use ng_drawing::origin::{Home, Origin};
 use ng_value::copies::copied;
@@ -28,23 +30,35 @@ fn kept_copy(works: &Works, key: &Key) -> Result<Option<Snap>, Memory>
     }
 }
 
+/// The control whose model the site of a key is, copied.
+fn control_copy(works: &Works, key: &Key) -> Result<Option<Control>, Memory>
+    ensures { IfOk result (λ c. c ≡ state_under key.now (state_of works.now).controls) }
+{
+    match works.controls.get(key) {
+        None => Ok(None),
+        Some(control) => Ok(Some(control.copied()?)),
+    }
+}
+
 /// What was added to a site.
 fn site_state(works: &Works, scope: ScopeId, key: Key) -> Result<SiteState, Memory>
-    ensures { IfOk result (λ s. seen_state s ≡ site_state (state_of works.now).watchers (state_of works.now).resting scope.0 key) }
+    ensures { IfOk result (λ s. seen_state s ≡ site_state (state_of works.now).watchers (state_of works.now).resting (state_of works.now).controls scope.0 key) }
 {
     let kept = kept_copy(works, &key)?;
     let rests = !works.watchers.has(&key);
+    let control = control_copy(works, &key)?;
     Ok(SiteState {
         key,
         scope,
         kept,
         rests,
+        control,
     })
 }
 
 /// The sites of an instance.
 fn site_states(works: &Works, path: &Path, one: &Linked) -> Result<Vec<SiteState>, Memory>
-    ensures { IfOk result (λ v. map seen_state v.items ≡ site_states (state_of works.now).watchers (state_of works.now).resting (page_of path.now one.now)) }
+    ensures { IfOk result (λ v. map seen_state v.items ≡ site_states (state_of works.now).watchers (state_of works.now).resting (state_of works.now).controls (page_of path.now one.now)) }
 {
     let mut sites = Vec::new(works.alloc);
     for serial in one.spots.keys() {
@@ -69,7 +83,7 @@ fn nothing(works: &Works) -> Instance
 /// The instance on a path, with the bodies in it. These come after it in the order of paths, so that there are fewer of them each time.
 #[cycle(instance)]
 fn instance_on(works: &Works, path: &Path) -> Result<Instance, Memory>
-    ensures { IfOk result (λ i. seen_instance (fragments_in (templates_of works.now)) i ≡ instance_at (state_of works.now).watchers (state_of works.now).resting (state_of works.now).instances path.now) }
+    ensures { IfOk result (λ i. seen_instance (fragments_in (templates_of works.now)) i ≡ instance_at (state_of works.now).watchers (state_of works.now).resting (state_of works.now).controls (state_of works.now).instances path.now) }
 {
     let _ = works.instances.len();
     let Some(one) = works.instances.get(path) else {

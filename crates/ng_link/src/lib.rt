@@ -1,7 +1,7 @@
 //! Linking: a template becomes part of a page (guide: HTML Compiler, "How directives are compiled").
 //!
 //! [`works::Works`] holds what a page works with: the core, the templates, the document, the watchers, what sites kept that rest, the
-//! listeners of declared watches, and the instances that stand. These are known by the paths of their scopes: the page's at the top, and
+//! states of controls, the listeners of declared watches, and the instances that stand. These are known by the paths of their scopes: the page's at the top, and
 //! each body of a block in an outlet of another, at whose anchor its nodes stand. Contracts see a state, by the definition in
 //! `specs/State.antt`, and each call is one change of it, in `specs/Calls.antt`. Nodes stand by name and watchers by key, an instance
 //! knows the node of each of its sites, and a fire is one look-up and one edit of one node.
@@ -14,11 +14,14 @@
 //! - `filled_outlets` gives the outlets that a site fills, with the bodies that stand there. Which of them are to stand, the crate above
 //!   says.
 //! - `unlink` takes a body out of its outlet, with those in it: their nodes, their instances, and what their sites had kept at rest.
-//! - `keep` has the watcher of a key keep a snapshot, and the node that its site is drawn in is drawn anew: a text joined from what
+//! - `keep` has the watcher of a key keep a snapshot, a control drops what was typed where that is not its model any more, and the node that the
+//!   key's site is drawn in is drawn anew: a text joined from what
 //!   all its holes show, or the attributes of an element. `unset` has it forget what it kept.
 //! - `handlers` gives the programs that handle an event of the document at a node. They stand in a table by the names of nodes, one for
 //!   each instance; the names of an instance's nodes follow one another, so that the instance of a node is the last that doesn't begin
 //!   after it.
+//! - `control_at` gives the control that a node is; `take_text`, `take_check` and `touch` change its state, which stands under the key of the
+//!   site that watches its model, and its node is drawn anew.
 //! - `declare` and `undeclare` are for the watches that programs declare, which are drawn nowhere.
 //! - A site rests where its scope has died (`leave`) or its one-time binding has ended (`end_over`): it has no watcher any more,
 //!   and goes on showing what it had kept.
@@ -34,7 +37,7 @@
 //! In reading order: `works`; `counting` counts nodes, `copying` copies pieces with the keys of their holes, `attributes` sets those of
 //! an element, `building` makes nodes, `ordering` has the order of linking, `placing` the places and watchers of sites, `handling` the
 //! handlers, `outlets` the outlets of an instance, `linking`; `filling` says which of them a site fills; `forgetting` takes keys out of tables; `unlinking`; `looks` says what is seen of a
-//! site, `firing` draws a node anew, `declaring`, `resting`; `instance`; `laws`.
+//! site, `firing` draws a node anew, `controls`, `declaring`, `resting`; `instance`; `laws`.
 //!
 //! Not here: when a watcher fires, what its snapshot is, and what programs do.
 #![tactic(auto)]
@@ -42,6 +45,7 @@
 pub mod arranging;
 mod attributes;
 mod building;
+pub mod controls;
 mod copying;
 mod counting;
 mod declaring;

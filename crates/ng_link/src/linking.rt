@@ -28,6 +28,7 @@ ghost use Rattle.ng_link.specs.State.{outlet_of, instances_of, spot_in, state_of
 ghost use Rattle.ng_link.specs.StepOf.{step_of};
 
 use crate::building::build_parts;
+use crate::controls::{begin_controls, controls_of};
 use crate::counting::is_too_large;
 use crate::handling::enter_parts;
 use crate::ordering::{LinkStep, add_parts};
@@ -211,6 +212,7 @@ impl Works {
         let path = self.core.scopes.path(scope).copied()?;
         let spot = spot_for(&self.instances, place);
         let one = self.build(&spot, origin, scope, &path, serials)?;
+        begin_controls(&mut self.controls, self.alloc, &one.controls)?;
         self.note(place, path, one)?;
         Ok(())
     }
@@ -241,6 +243,8 @@ impl Works {
         let node = self.dom.next_name();
         let mut handlers = BTreeMap::new(self.alloc);
         enter_parts(self.alloc, &mut handlers, node, fragment.parts().as_slice())?;
+        let parts = fragment.parts().as_slice();
+        let controls = controls_of(self.alloc, path, serials, node, parts)?;
         let outlets = outlets_of(self.alloc, origin.inner(), serials, fragment, node)?;
         let nodes = link_nodes(
             self.alloc,
@@ -266,6 +270,7 @@ impl Works {
             spots,
             node,
             handlers,
+            controls,
             outlets,
         })
     }

@@ -1,8 +1,7 @@
-//! What is seen of a site: the snapshot that it has kept, as a text, as words and as a truth.
-ghost use Rattle.std.specs.Prelude.{◌≡◌, ◌++◌, None, Some, IfOk, OnOk, map, option_map};
+//! What is seen of a site: the snapshot that it has kept, as a text, as words and as a truth, or the control whose model it is.
+ghost use Rattle.std.specs.Prelude.{◌≡◌, ◌++◌, None, IfOk, OnOk, map, option_map};
 ghost use Rattle.std.specs.List.{flat_map, list_any};
 ghost use Rattle.ng_dom.specs.Drawing.{joined, is_shown_true, is_shown_false, is_hiding as is_hiding_of};
-ghost use Rattle.ng_drawing.specs.Looks.{kept_text};
 ghost use Rattle.ng_value.specs.Snaps.{snap_of};
 ghost use Rattle.ng_watch.specs.Table.{kept_at};
 ghost use Rattle.ng_link.specs.Seen.{hiding_of};
@@ -13,11 +12,8 @@ use crate::works::Works;
 use ng_base::lists::Words;
 use ng_base::path::Key;
 use ng_base::txt::Txt;
-use ng_base::value::Value;
-use ng_base::view::View;
 use ng_dom::record::{Hiding, Piece};
-use ng_drawing::classes::push_kept_words;
-use ng_value::operators::truthy;
+use ng_drawing::controls::{is_seen_false, is_seen_true, push_seen_words, seen_text};
 use ng_value::snapshot::Snap;
 use std::alloc::AllocError;
 
@@ -45,24 +41,12 @@ pub(crate) fn kept_in<'a>(works: &'a Works, key: &Key) -> Option<&'a Snap>
     }
 }
 
-/// Adds what a snapshot holds.
-fn add_snap(text: &mut Txt, s: &Snap) -> Result<(), AllocError>
-    ensures { IfOk result (λ _. text.new ≡ text.old ++ kept_text (Some (snap_of s.now))) }
-{
-    match s.view() {
-        View::Prim(Value::Text(words)) => add_words(text, words),
-        _ => Ok(()),
-    }
-}
-
 /// Adds the text that the site of a key shows.
 fn add_kept(works: &Works, text: &mut Txt, key: &Key) -> Result<(), AllocError>
     ensures { IfOk result (λ _. text.new ≡ text.old ++ (looks_in (state_of works.now) key.now).text) }
 {
-    match kept_in(works, key) {
-        None => Ok(()),
-        Some(s) => add_snap(text, s),
-    }
+    let seen = seen_text(works.alloc, works.controls.get(key), kept_in(works, key))?;
+    add_words(text, &seen)
 }
 
 /// The text of pieces.
@@ -83,10 +67,12 @@ pub(crate) fn joined_text(works: &Works, pieces: &[Piece]) -> Result<Txt, AllocE
 fn push_shown_words(works: &Works, words: &mut Words, key: &Key) -> Result<(), AllocError>
     ensures { OnOk result (words.new ≡ words.old ++ (looks_in (state_of works.now) key.now).words) }
 {
-    match kept_in(works, key) {
-        None => Ok(()),
-        Some(s) => push_kept_words(words, s),
-    }
+    push_seen_words(
+        works.alloc,
+        words,
+        works.controls.get(key),
+        kept_in(works, key),
+    )
 }
 
 /// The words that the sites of these keys show.
@@ -100,24 +86,18 @@ pub(crate) fn shown_words(works: &Works, keys: &[Key]) -> Result<Words, AllocErr
     Ok(words)
 }
 
-/// Whether the value that the site of a key has kept counts as true.
+/// Whether the site of a key is seen as true.
 pub(crate) fn is_kept_true(works: &Works, key: &Key) -> bool
     ensures { result ≡ is_shown_true (looks_in (state_of works.now) key.now) }
 {
-    match kept_in(works, key) {
-        None => false,
-        Some(s) => truthy(s.view()),
-    }
+    is_seen_true(works.controls.get(key), kept_in(works, key))
 }
 
-/// Whether the site of a key has kept a value that doesn't count as true.
+/// Whether the site of a key is seen as a value that doesn't count as true.
 fn is_kept_false(works: &Works, key: &Key) -> bool
     ensures { result ≡ is_shown_false (looks_in (state_of works.now) key.now) }
 {
-    match kept_in(works, key) {
-        None => false,
-        Some(s) => !truthy(s.view()),
-    }
+    is_seen_false(works.controls.get(key), kept_in(works, key))
 }
 
 /// Whether a site hides its element.

@@ -176,6 +176,7 @@ impl Works {
         cut_nodes(&mut self.dom, anchor, i)?;
         forget_below(&mut self.instances, &mut self.owners, p)?;
         forget_on(&mut self.resting, p)?;
+        forget_on(&mut self.controls, p)?;
         Ok(())
     }
     /// A body that an instance holds goes, with those in it. It costs what it takes.

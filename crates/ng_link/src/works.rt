@@ -16,6 +16,7 @@ use crate::placing::is_site;
 use ng_base::fault::Fault;
 use ng_base::name::ScopeId;
 use ng_base::path::{Key, Path};
+use ng_control::{Control, ControlKind};
 use ng_core::core_state::{Core, Handed};
 use ng_dom::dom::Dom;
 use ng_drawing::origin::{Home, Origin};
@@ -46,8 +47,18 @@ pub struct OutletState {
     pub(crate) bodies: Vec<Body>,
 }
 
+/// A control at a node: the key of the site that watches its model, its kind, the program that writes what was put in to the model, and
+/// those that run after that.
+#[derive(Drop)]
+pub struct ControlHere {
+    pub key: Key,
+    pub kind: ControlKind,
+    pub writes: Program,
+    pub changes: Vec<Program>,
+}
+
 /// An instance that stands, of a fragment. Under the number of registration of each site there is the name of the node
-/// that it is drawn in. The names of its nodes rise from `node` on, and its handlers stand by these.
+/// that it is drawn in. The names of its nodes rise from `node` on, and its handlers and controls stand by these.
 #[derive(Drop)]
 pub struct Linked {
     pub(crate) origin: Origin,
@@ -55,6 +66,7 @@ pub struct Linked {
     pub(crate) spots: BTreeMap<u64, u64>,
     pub(crate) node: u64,
     pub(crate) handlers: BTreeMap<u64, Vec<Handler>>,
+    pub(crate) controls: BTreeMap<u64, ControlHere>,
     pub(crate) outlets: Vec<OutletState>,
 }
 
@@ -66,8 +78,8 @@ pub struct Listener {
 }
 
 /// The works of a page. Nodes stand by name, watchers by key and instances by the paths of their scopes; under the name of the first node
-/// of each instance stands its path. A site that rests has what it had kept, and a declared watch its listener. The core is all that
-/// programs change.
+/// of each instance stands its path. A site that rests has what it had kept, the site of a model its control, and a declared watch its
+/// listener. The core is all that programs change.
 #[derive(Drop)]
 pub struct Works {
     pub(crate) alloc: Global,
@@ -75,6 +87,7 @@ pub struct Works {
     pub(crate) watchers: Watchers,
     pub(crate) dom: Dom,
     pub(crate) resting: BTreeMap<Key, Option<Snap>>,
+    pub(crate) controls: BTreeMap<Key, Control>,
     pub(crate) declared: BTreeMap<Key, Listener>,
     pub(crate) templates: Templates,
     pub(crate) instances: BTreeMap<Path, Linked>,
@@ -95,6 +108,7 @@ impl Works {
             watchers: Watchers::new(alloc),
             dom: Dom::new(alloc),
             resting: BTreeMap::new(alloc),
+            controls: BTreeMap::new(alloc),
             declared: BTreeMap::new(alloc),
             templates,
             instances: BTreeMap::new(alloc),

@@ -4,10 +4,9 @@ use Rattle.std.specs.Option.{option_or}
 use Rattle.ng_digest.specs.declared.log.Report.{Report}
 use Rattle.ng_digest.specs.declared.rounds.DigestFault.{DigestFault}
 use Rattle.ng_language.specs.Trees.{Trees}
-use Rattle.ng_link.specs.Events.{handlers_at}
 use Rattle.ng_link.specs.State as link
 use Rattle.ng_page.specs.Answered.{WhenOk}
-use Rattle.ng_page.specs.Dispatch.{Happening, Event, Going, Told, way, has_turn, TakesTurn, MayTakeTurn, Handles, is_stopped, Unless, Bubbles, before, Dispatches, last_digest}
+use Rattle.ng_page.specs.Dispatch.{Happening, Event, Going, Told, way, has_turn, TakesTurn, MayTakeTurn, Handles, Touches, MayTouch, HandlesAt, is_stopped, Unless, Bubbles, before, Dispatches, last_digest}
 use Rattle.ng_page.specs.Dispatched.{told_of, told_all, UnlessFailed}
 use Rattle.ng_page.specs.EventSeen.{IsStill, last_of, LastIs, LastSettled}
 use Rattle.ng_page.specs.Settled.{IsSettled}
@@ -67,6 +66,14 @@ no_turn b x n p g e = subst (λ t. MayTakeTurn t x n p g [] g) (sym e) (refl, re
 pub one_turn : (b : Bool) (x : Happening) (n : ℕ) (p : Trees) (g : Going) (o : Told) (h : Going) → b ≡ true → TakesTurn x n p g o h → MayTakeTurn b x n p g (o ∷ []) h
 one_turn b x n p g o h e t = subst (λ u. MayTakeTurn u x n p g (o ∷ []) h) (sym e) (o, t, refl)
 
+-- ---- the control of a node
+
+pub no_touch : (b : Bool) (n : ℕ) (g : Going) → b ≡ false → MayTouch b n g [] g
+no_touch b n g e = subst (λ t. MayTouch t n g [] g) (sym e) (refl, refl)
+
+pub one_touch : (b : Bool) (n : ℕ) (g : Going) (o : Told) (h : Going) → b ≡ true → Touches n g o h → MayTouch b n g (o ∷ []) h
+one_touch b n g o h e t = subst (λ u. MayTouch u n g (o ∷ []) h) (sym e) (o, t, refl)
+
 -- ---- still as before, where no handler ran
 
 pub still_more : (old mid new : Dispatch) (a b c : Engine) → IsStill old mid a b → IsStill mid new b c → IsStill old new a c
@@ -119,14 +126,14 @@ unless_going b Go g h os e t = subst (λ u. Unless u Go g os h) (sym e) t
 -- where bubbling has been stopped, no further node has its turn
 pub bubbles_no_more : (x : Happening) (n : ℕ) (ns : List ℕ) (now : Going) → is_stopped now ≡ true → Bubbles x (n ∷ ns) now [] now
 bubbles_no_more x n ns now e =
-    unless_stopped (is_stopped now) (λ g os h. (mid : Going) × (first : List Told) × (rest : List Told) × Handles x n (handlers_at g.state n x.type) g first mid × Bubbles x ns mid rest h × (os ≡ first ++ rest)) now e
+    unless_stopped (is_stopped now) (λ g os h. (mid : Going) × (first : List Told) × (rest : List Told) × HandlesAt x n g first mid × Bubbles x ns mid rest h × (os ≡ first ++ rest)) now e
 
-bubbles_on : (x : Happening) (n : ℕ) (ns : List ℕ) (now mid h : Going) (first rest : List Told) → is_stopped now ≡ false → Handles x n (handlers_at now.state n x.type) now first mid → Bubbles x ns mid rest h
+bubbles_on : (x : Happening) (n : ℕ) (ns : List ℕ) (now mid h : Going) (first rest : List Told) → is_stopped now ≡ false → HandlesAt x n now first mid → Bubbles x ns mid rest h
     → Bubbles x (n ∷ ns) now (first ++ rest) h
 bubbles_on x n ns now mid h first rest e t more =
-    unless_going (is_stopped now) (λ g os h. (mid : Going) × (first : List Told) × (rest : List Told) × Handles x n (handlers_at g.state n x.type) g first mid × Bubbles x ns mid rest h × (os ≡ first ++ rest)) now h (first ++ rest) e (mid, first, rest, t, more, refl)
+    unless_going (is_stopped now) (λ g os h. (mid : Going) × (first : List Told) × (rest : List Told) × HandlesAt x n g first mid × Bubbles x ns mid rest h × (os ≡ first ++ rest)) now h (first ++ rest) e (mid, first, rest, t, more, refl)
 
-pub one_bubbled : (x : Happening) (all ns : List ℕ) (n : ℕ) (start now mid : Going) (done more first : List Told) → is_stopped now ≡ false → Handles x n (handlers_at now.state n x.type) now first mid → more ≡ done ++ first
+pub one_bubbled : (x : Happening) (all ns : List ℕ) (n : ℕ) (start now mid : Going) (done more first : List Told) → is_stopped now ≡ false → HandlesAt x n now first mid → more ≡ done ++ first
     → BubbledSoFar x all (n ∷ ns) start now done → BubbledSoFar x all ns start mid more
 one_bubbled x all ns n start now mid done more first e t is h os g rest =
     subst (λ l. Bubbles x all start l g) (sym (ap (λ l. l ++ os) is ∙ append_assoc done first os)) (h (first ++ os) g (bubbles_on x n ns now mid g first os e t rest))

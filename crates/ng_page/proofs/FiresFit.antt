@@ -41,7 +41,7 @@ use Rattle.ng_page.proofs.Going.{going, Goes, goes_first, goes_last, spared_firs
 use Rattle.ng_page.proofs.RowsFit.{outlets_in, IsRepeated, repeat_fits}
 use Rattle.ng_page.proofs.StepsStay.{run_sites}
 use Rattle.ng_page.proofs.Under.{IsUnder, IsSince, IsLeft, under_all_gone}
-use Rattle.ng_page.proofs.Watched.{all_map, all_both, watched_stays, kept_watched}
+use Rattle.ng_page.proofs.Watched.{all_map, all_both, watched_stays, keeping_watched}
 use Rattle.ng_page.proofs.Sites.{SitesStay}
 
 all_gone_append : (holder : List ℕ) (bs cs : List Body) (g : Firing) → all_gone holder cs (all_gone holder bs g) ≡ all_gone holder (bs ++ cs) g
@@ -322,7 +322,7 @@ site_fits k v s ks site h f = by_linked (linked_at k.path s.instances) refl site
     t = keeping_at k v s
 
     watched : IsWatched t
-    watched = kept_watched k (Some v) s h
+    watched = keeping_watched k v s h
 
     by_linked : (o : Option Linked) → linked_at k.path s.instances ≡ o → is_site_in o k ≡ true → FireFits k ks (fire_of_site (outlets_fired k.path (scope_in o) v (all_due k.serial.0 o) (begins_firing t)))
     by_linked None at site = absurd (cc)
@@ -362,6 +362,6 @@ fires_fit k v s ks h f =
     (λ none.
     let t : State = keeping_at k v s in
     let r : State × Bool = fired_by (fire_run k s) t in
-    let watched : IsWatched t = kept_watched k (Some v) s h in
+    let watched : IsWatched t = keeping_watched k v s h in
     let stay : SitesStay t r.0 = run_sites k s t refl in
     record { watched = watched_stays t r.0 stay watched; fits = faulted_more k r.1 r.0 ks (fits_stays t r.0 ks stay watched.keys (fits_beside k v s ks none f)) })

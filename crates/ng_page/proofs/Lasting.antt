@@ -26,7 +26,8 @@ use Rattle.ng_fire.specs.Settling.{unset_all}
 use Rattle.ng_language.specs.Trees.{Trees}
 use Rattle.ng_link.specs.Calls.{with_core, keeping_at, is_drawn, unset_at, left_at, Place, placed_on}
 use Rattle.ng_link.specs.Due.{Due, all_due}
-use Rattle.ng_link.specs.Events.{handlers_at, scope_of, scope_in}
+use Rattle.ng_link.specs.Controls.{ControlHere}
+use Rattle.ng_link.specs.Events.{control_at, handlers_at, scope_of, scope_in}
 use Rattle.ng_link.specs.Instances.{Body, Linked, linked_at, is_site}
 use Rattle.ng_link.specs.Linking.{steps, steps_within}
 use Rattle.ng_link.specs.Shape.{linked}
@@ -36,7 +37,7 @@ use Rattle.ng_members.specs.Leaves.{Local}
 use Rattle.ng_watch.specs.Table.{with_kept}
 use Rattle.ng_page.specs.Answered.{DigestsWhere}
 use Rattle.ng_page.specs.Commands.{Asked, begun, asked_run}
-use Rattle.ng_page.specs.Dispatch.{Happening, Event, unmade, made, refused, Going, Told, way, ready, handling_run, rested, handled, has_turn, is_stopped, MayTakeTurn, Handles, Unless, before, Bubbles, Dispatches}
+use Rattle.ng_page.specs.Dispatch.{Happening, Event, unmade, awaited, made, refused, Going, Told, way, ready, handling_run, rested, handled, has_turn, touch_run, touched, has_touch, is_stopped, MayTakeTurn, Handles, MayTouch, HandlesAt, Unless, before, Bubbles, Dispatches}
 use Rattle.ng_page.specs.Laws.{OfEachStep, LinkedSitesGetNewNumbers}
 use Rattle.ng_page.specs.PageLaws.{by_test}
 use Rattle.ng_page.specs.PageMachine as machine
@@ -177,6 +178,7 @@ command_lasts a s o t h =
 
 ready_lasts : (e : Event) (s : State) → Lasts s (ready e s)
 ready_lasts unmade s = record { templates = refl; serial = omega arith }
+ready_lasts awaited s = record { templates = refl; serial = omega arith }
 ready_lasts (made o) s = record { templates = refl; serial = omega arith }
 ready_lasts refused s = lasts_same s
 
@@ -198,6 +200,25 @@ handlers_last x n [] g os h (e, i) = subst (λ (k : Going). Lasts g.state k.stat
 handlers_last x n (p ∷ ps) g os h (mid, first, rest, turn, more, e) =
     lasts_on g.state mid.state h.state (turn_lasts (has_turn n g) x n p g first mid turn) (handlers_last x n ps mid rest h more)
 
+-- a control loses the focus
+touched_lasts : (n : ℕ) (g : Going) → Lasts g.state (touched n g)
+touched_lasts n g =
+    let s : State = ready g.event g.state in
+    let t : State = touch_run (control_at g.state n) s in
+    lasts_on g.state s (rested t) (ready_lasts g.event g.state) (lasts_on s t (rested t) (by_control (control_at g.state n) s) (rested_lasts t))
+  where
+    by_control : (c : Option ControlHere) (s : State) → Lasts s (touch_run c s)
+    by_control None s = lasts_same s
+    by_control (Some c) s = record { templates = refl; serial = omega arith }
+
+touch_lasts : (b : Bool) (n : ℕ) (g : Going) (os : List Told) (h : Going) → MayTouch b n g os h → Lasts g.state h.state
+touch_lasts true n g os h (o, turn, e) = lasts_on g.state (touched n g) h.state (touched_lasts n g) (step_ends (touched n g) _ h.state turn.ends)
+touch_lasts false n g os h (e, i) = subst (λ (k : Going). Lasts g.state k.state) (sym i) (lasts_same g.state)
+
+node_lasts : (x : Happening) (n : ℕ) (g : Going) (os : List Told) (h : Going) → HandlesAt x n g os h → Lasts g.state h.state
+node_lasts x n g os h (mid, first, rest, touch, more, e) =
+    lasts_on g.state mid.state h.state (touch_lasts (has_touch x n g) n g first mid touch) (handlers_last x n (handlers_at g.state n x.type) mid rest h more)
+
 unless_lasts : (b : Bool) (Goes : Going → List Told → Going → Type 0) (g : Going) (os : List Told) (h : Going) → (Goes g os h → Lasts g.state h.state) → Unless b Goes g os h → Lasts g.state h.state
 unless_lasts true Goes g os h f (e, i) = subst (λ (k : Going). Lasts g.state k.state) (sym i) (lasts_same g.state)
 unless_lasts false Goes g os h f goes = f goes
@@ -206,7 +227,7 @@ bubbles_last : (x : Happening) (ns : List ℕ) (g : Going) (os : List Told) (h :
 bubbles_last x [] g os h (e, i) = subst (λ (k : Going). Lasts g.state k.state) (sym i) (lasts_same g.state)
 bubbles_last x (n ∷ ns) g os h goes =
     unless_lasts (is_stopped g) _ g os h
-    (λ (mid, first, rest, one, more, e). lasts_on g.state mid.state h.state (handlers_last x n (handlers_at g.state n x.type) g first mid one) (bubbles_last x ns mid rest h more)) goes
+    (λ (mid, first, rest, one, more, e). lasts_on g.state mid.state h.state (node_lasts x n g first mid one) (bubbles_last x ns mid rest h more)) goes
 
 event_lasts : (x : Happening) (n : ℕ) (s : State) (os : List Told) (t : State) → Dispatches x n s os t → Lasts s t
 event_lasts x n s os t (h, goes, e) = subst (Lasts s) (sym e) (bubbles_last x (way x.type n s) (before s) os h goes)

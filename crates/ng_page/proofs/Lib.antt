@@ -39,6 +39,7 @@ pub mod Ending
 pub mod Commanding
 pub mod Aimed
 pub mod Turns
+pub mod Inputs
 pub mod Bubbling
 pub mod Answering
 pub mod Lasting

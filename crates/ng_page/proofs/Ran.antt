@@ -6,9 +6,15 @@ use Rattle.ng_act.specs.Running.{same}
 use Rattle.ng_core.specs.State.{State, Run}
 use Rattle.ng_core.specs.declared.core_state.Core.{Core}
 use Rattle.ng_base.specs.declared.fault.Fault.{Fault}
+use Rattle.ng_base.specs.declared.path.Key.{Key}
 use Rattle.ng_base.specs.declared.value.Value.{Value}
 use Rattle.ng_fire.specs.Whole.{IsWhole, Unless}
-use Rattle.ng_fire.proofs.Wholes.{whole_after}
+use Rattle.ng_control.specs.State.{ControlState}
+use Rattle.ng_dom.specs.Drawing.{Stands}
+use Rattle.ng_fire.proofs.Wholes as works
+use Rattle.ng_fire.proofs.Wholes.{stays_of, whole_after, whole_with}
+use Rattle.ng_link.specs.Calls.{with_control_at}
+use Rattle.ng_link.specs.Standing.{Standing}
 use Rattle.ng_link.specs.State as link
 use Rattle.ng_link.specs.State.{state_of, templates_of}
 use Rattle.ng_link.specs.declared.works.Works.{Works}
@@ -18,7 +24,7 @@ use Rattle.ng_page.proofs.EventsStay.{part, Stays}
 use Rattle.ng_page.proofs.Fitting.{fits_stays}
 use Rattle.ng_page.proofs.ScopesStay.{same_paths}
 use Rattle.ng_page.proofs.Sites.{SitesStay}
-use Rattle.ng_page.proofs.StepsStay.{asked_sites}
+use Rattle.ng_page.proofs.StepsStay.{control_sites, asked_sites}
 use Rattle.ng_page.proofs.Watched.{watched_stays}
 
 pub whole_stays : (w : Works) (d : Core) (s : State) → s ≡ cores.state_of d → Stays (part (cores.state_of w.core)) (part s) → IsSound d → d.depth ≡ 0 → length d.scopes ≡ length w.core.scopes → length w.core.store ≤ length d.store
@@ -39,6 +45,18 @@ page_left v w s e stay whole ts h = record {
   watched = watched_stays (state_of v) (state_of w) (subst (SitesStay (state_of v)) (sym e) stay) h.watched;
   fits = fits_stays (state_of v) (state_of w) [] (subst (SitesStay (state_of v)) (sym e) stay) h.watched.keys h.fits;
 }
+
+-- a control takes something
+pub control_whole : (f : ControlState → ControlState) (k : Key) (v w : Works) → state_of w ≡ with_control_at f k (state_of v) → w.core ≡ v.core → ((ts : Stands) → Standing v ts → Standing w ts) → IsWhole v → IsWhole w
+control_whole f k v w e core stands h =
+    let g = stays_of v h in
+    whole_with v w h core stands
+    (subst (λ (s : link.State). works.Stays v.core.scopes (length v.core.store) s) (sym e) (record { listeners = g.listeners; rows = g.rows; scopes = g.scopes; bodies = g.bodies }))
+
+pub page_controlled : (f : ControlState → ControlState) (k : Key) (v w : Works) → state_of w ≡ with_control_at f k (state_of v) → w.core ≡ v.core → ((ts : Stands) → Standing v ts → Standing w ts) → templates_of w ≡ templates_of v
+    → PageIs v → PageIs w
+page_controlled f k v w e core stands ts h =
+    page_left v w (with_control_at f k (state_of v)) e (control_sites f k (state_of v)) (control_whole f k v w e core stands h.works.whole) ts h
 
 pub page_asked : (a : Asked) (v w : Works) → state_of w ≡ asked_run a (state_of v) → IsWhole w → templates_of w ≡ templates_of v → PageIs v → PageIs w
 page_asked a v w e whole ts h = page_left v w (asked_run a (state_of v)) e (asked_sites a (state_of v)) whole ts h

@@ -8,6 +8,7 @@ use Rattle.ng_behaviour.specs.Scopes.{Scope, object_at}
 use Rattle.ng_drawing.specs.Drawing.{shown_as}
 use Rattle.ng_drawing.specs.Instance as instances
 use Rattle.ng_drawing.specs.Instance.{Instance, SiteState, instances_from, outlets_from}
+use Rattle.ng_link.specs.Controls.{Controls}
 use Rattle.ng_link.specs.Events.{scope_in, scope_of}
 use Rattle.ng_link.specs.Instances.{Body, OutletState, Page, Linked, Instances, is_path, linked_at, read_bodies, read, owner_of}
 use Rattle.ng_link.specs.Shape.{key_on}
@@ -19,16 +20,16 @@ use Rattle.ng_page.specs.Settled.{IsWatched}
 use Rattle.ng_page.proofs.Rendering.{all_entries}
 
 -- the sites of an instance have its scope
-site_scope : (t : Table) (r : Resting) (scope : ℕ) (path ns : List ℕ) (i : ℕ) (s : SiteState) → slice_get (map (λ n. site_state t r scope (key_on path n)) ns) i ≡ Some s → s.scope ≡ scope
-site_scope t r scope path [] i s e = absurd (cc)
-site_scope t r scope path (n ∷ ns) zero s e = let one : site_state t r scope (key_on path n) ≡ s = cc in ap (λ v. v.scope) (sym one)
-site_scope t r scope path (n ∷ ns) (suc i) s e = site_scope t r scope path ns i s e
+site_scope : (t : Table) (r : Resting) (cs : Controls) (scope : ℕ) (path ns : List ℕ) (i : ℕ) (s : SiteState) → slice_get (map (λ n. site_state t r cs scope (key_on path n)) ns) i ≡ Some s → s.scope ≡ scope
+site_scope t r cs scope path [] i s e = absurd (cc)
+site_scope t r cs scope path (n ∷ ns) zero s e = let one : site_state t r cs scope (key_on path n) ≡ s = cc in ap (λ v. v.scope) (sym one)
+site_scope t r cs scope path (n ∷ ns) (suc i) s e = site_scope t r cs scope path ns i s e
 
-module _ (objects : List Object) (scopes : List Scope) (among : AreAmong (length objects) scopes) (t : Table) (r : Resting) where
-  states_stand : (p : Page) → p.scope < length scopes → NamesStand objects scopes (site_states t r p)
+module _ (objects : List Object) (scopes : List Scope) (among : AreAmong (length objects) scopes) (t : Table) (r : Resting) (cs : Controls) where
+  states_stand : (p : Page) → p.scope < length scopes → NamesStand objects scopes (site_states t r cs p)
   states_stand p there = record {
     state = λ n s e.
-        let same : s.scope ≡ p.scope = site_scope t r p.scope p.path p.serials n s e in
+        let same : s.scope ≡ p.scope = site_scope t r cs p.scope p.path p.serials n s e in
         record {
           scope = subst (λ k. k < length scopes) (sym same) there;
           object = subst (λ k. object_at scopes k < length objects) (sym same) (among.below p.scope there);
@@ -36,7 +37,7 @@ module _ (objects : List Object) (scopes : List Scope) (among : AreAmong (length
   }
 
   abbrev go_in : Instances → List ℕ → Instance
-  go_in is = read nothing_linked (instance_join t r) is
+  go_in is = read nothing_linked (instance_join t r cs) is
 
   bodies_stand : (is : Instances) (bs : List Body) → ((p : List ℕ) → InstanceStands objects scopes (go_in is p)) → InstancesStand objects scopes (instances_from (map (λ (b : Body). go_in is b.path) bs))
   bodies_stand is [] each = tt
@@ -51,41 +52,41 @@ module _ (objects : List Object) (scopes : List Scope) (among : AreAmong (length
   read_stands [] all p = (record { state = λ n s e. absurd (cc) }, tt)
   read_stands (e ∷ is) all p = by_path (is_path p e.0) (states_stand e.1.page all.0, outlets_stand is e.1.page.outlets (read_stands is all.1)) (read_stands is all.1 p)
     where
-      by_path : (b : Bool) → InstanceStands objects scopes (instance_join t r e.1 (read_bodies (go_in is) e.1.page.outlets)) → InstanceStands objects scopes (go_in is p)
-          → InstanceStands objects scopes (cond b (instance_join t r e.1 (read_bodies (go_in is) e.1.page.outlets)) (go_in is p))
+      by_path : (b : Bool) → InstanceStands objects scopes (instance_join t r cs e.1 (read_bodies (go_in is) e.1.page.outlets)) → InstanceStands objects scopes (go_in is p)
+          → InstanceStands objects scopes (cond b (instance_join t r cs e.1 (read_bodies (go_in is) e.1.page.outlets)) (go_in is p))
       by_path true here more = here
       by_path false here more = more
 
 -- an instance that is there is read off
-instance_there : (s : State) (o : Option Linked) (i : Instance) → Some i ≡ option_map (λ (l : Linked). instance_at s.watchers s.resting s.instances []) o → i ≡ instance_at s.watchers s.resting s.instances []
+instance_there : (s : State) (o : Option Linked) (i : Instance) → Some i ≡ option_map (λ (l : Linked). instance_at s.watchers s.resting s.controls s.instances []) o → i ≡ instance_at s.watchers s.resting s.controls s.instances []
 instance_there s None i e = absurd (cc)
 instance_there s (Some l) i e = cc
 
 pub names_stand : (s : State) (i : Instance) → AreAmong (length s.core.objects) s.core.scopes → IsWatched s → Some i ≡ instance s → InstanceStands s.core.objects s.core.scopes i
 names_stand s i among h e =
     subst (InstanceStands s.core.objects s.core.scopes) (sym (instance_there s (linked_at [] s.instances) i e))
-    (read_stands s.core.objects s.core.scopes among s.watchers s.resting s.instances
+    (read_stands s.core.objects s.core.scopes among s.watchers s.resting s.controls s.instances
     (all_entries (λ (x : List ℕ × Linked). x.1.page.scope < length s.core.scopes) s.instances h.paths (λ p l at. (h.linked p l at).there)) [])
 
 pub page_rendered : (s : State) (i : Instance) → Some i ≡ instance s → instances.rendering s.core.objects s.core.scopes i ≡ rendering s
 page_rendered s i e = ap (instances.rendering s.core.objects s.core.scopes) (instance_there s (linked_at [] s.instances) i e)
 
 -- without an instance nothing is linked
-none_read : (t : Table) (r : Resting) (is : Instances) (p : List ℕ) → linked_at p is ≡ None → instance_at t r is p ≡ nothing_linked
-none_read t r [] p e = refl
-none_read t r (x ∷ is) p e = by_path (is_path p x.0) e (none_read t r is p)
+none_read : (t : Table) (r : Resting) (cs : Controls) (is : Instances) (p : List ℕ) → linked_at p is ≡ None → instance_at t r cs is p ≡ nothing_linked
+none_read t r cs [] p e = refl
+none_read t r cs (x ∷ is) p e = by_path (is_path p x.0) e (none_read t r cs is p)
   where
-    by_path : (b : Bool) → cond b (Some x.1) (linked_at p is) ≡ None → (linked_at p is ≡ None → instance_at t r is p ≡ nothing_linked)
-        → cond b (instance_join t r x.1 (read_bodies (instance_at t r is) x.1.page.outlets)) (instance_at t r is p) ≡ nothing_linked
+    by_path : (b : Bool) → cond b (Some x.1) (linked_at p is) ≡ None → (linked_at p is ≡ None → instance_at t r cs is p ≡ nothing_linked)
+        → cond b (instance_join t r cs x.1 (read_bodies (instance_at t r cs is) x.1.page.outlets)) (instance_at t r cs is p) ≡ nothing_linked
     by_path true e more = absurd (cc)
     by_path false e more = more e
 
-none_there : (s : State) (o : Option Linked) → None ≡ option_map (λ (l : Linked). instance_at s.watchers s.resting s.instances []) o → o ≡ None
+none_there : (s : State) (o : Option Linked) → None ≡ option_map (λ (l : Linked). instance_at s.watchers s.resting s.controls s.instances []) o → o ≡ None
 none_there s None e = refl
 none_there s (Some l) e = absurd (cc)
 
 pub none_rendered : (s : State) → None ≡ instance s → rendering s ≡ shown_as no_nodes
-none_rendered s e = ap (instances.rendering s.core.objects s.core.scopes) (none_read s.watchers s.resting s.instances [] (none_there s (linked_at [] s.instances) e))
+none_rendered s e = ap (instances.rendering s.core.objects s.core.scopes) (none_read s.watchers s.resting s.controls s.instances [] (none_there s (linked_at [] s.instances) e))
 
 -- the scope of a node is one of the scopes
 pub node_scope : (s : State) (n : ℕ) → IsWatched s → 0 < length s.core.scopes → scope_of s n < length s.core.scopes

@@ -28,6 +28,7 @@ use Rattle.ng_drawing.specs.Template.{Site, Outlet, Filling}
 use Rattle.ng_drawing.specs.declared.kind.SiteKind.{SiteKind}
 use Rattle.ng_drawing.specs.declared.kind.SiteKind.TheVariants as sites
 use Rattle.ng_drawing.proofs.FreshInstances.{fresh_instance}
+use Rattle.ng_link.specs.Controls.{Controls, state_under}
 use Rattle.ng_link.specs.Instances.{Body, OutletState, Linked, Instances, is_path, linked_at, read_bodies, read}
 use Rattle.ng_link.specs.Rows.{watch_kind, watching_site}
 use Rattle.ng_link.specs.Shape.{key_on}
@@ -100,20 +101,20 @@ site_cases serials (o ∷ os) site n rising sites at =
         (λ one. let two : true ≡ false = sym (eq-eqb o.site site one) ∙ e in cc)
         (sym same ∙ sym (number_at_place serials site n at))))
 
-module _ (c : act.State) (t : Table) (r : Resting) (settled : (k : Key) (w : Watcher) → found k t ≡ Some w → verdict c.objects w ≡ Ok clean) where
+module _ (c : act.State) (t : Table) (r : Resting) (cs : Controls) (settled : (k : Key) (w : Watcher) → found k t ≡ Some w → verdict c.objects w ≡ Ok clean) where
   site_shows : (scope : ℕ) (x : Site) (k : Key) → WatchesAt k (watching_site (object_at c.scopes scope) x) t
-      → site_now c.objects c.scopes (Some x) (Some (site_state t r scope k)) ≡ shown_as (state_kept (Some (site_state t r scope k)))
+      → site_now c.objects c.scopes (Some x) (Some (site_state t r cs scope k)) ≡ shown_as (state_kept (Some (site_state t r cs scope k)))
   site_shows scope x k h = by_watcher (found k t) refl
     where
       state : Option Watcher → SiteState
-      state o = record { key = k; scope = scope; kept = kept_or o (lookup (is_key k) r); rests = not (is_some o) }
+      state o = record { key = k; scope = scope; kept = kept_or o (lookup (is_key k) r); rests = not (is_some o); control = state_under k cs }
 
       by_watcher : (o : Option Watcher) → found k t ≡ o → site_now c.objects c.scopes (Some x) (Some (state o)) ≡ shown_as (state_kept (Some (state o)))
       by_watcher None e = refl
       by_watcher (Some w) e = clean_shows c.objects x (object_at c.scopes scope) w (h w e) (settled k w e)
 
   abbrev shown_at : ℕ → List ℕ → ℕ → SiteState
-  shown_at scope path n = site_state t r scope (key_on path n)
+  shown_at scope path n = site_state t r cs scope (key_on path n)
 
   sites_show : (scope : ℕ) (path ns : List ℕ) (xs : List Site) (i : ℕ) → length ns ≡ length xs → AreWatched t (object_at c.scopes scope) path ns xs
       → site_now c.objects c.scopes (slice_get xs i) (slice_get (map (shown_at scope path) ns) i) ≡ shown_as (state_kept (slice_get (map (shown_at scope path) ns) i))
@@ -150,7 +151,7 @@ module _ (c : act.State) (t : Table) (r : Resting) (settled : (k : Key) (w : Wat
   FilledBy cases filling rs s = option_map_or (λ (x : SiteState). x.rests) s true ≡ false → is_filled cases filling (state_kept s) rs ≡ true
 
   one_filled : (p : List ℕ) (l : Linked) (o : Outlet) (x : OutletState) → IsLinked c t p l → IsOutlet l.page.serials o x → OutletFits t [] p l.page.serials l.fragment.outlets x
-      → IsFilled (site_states t r l.page) (cases_of l.fragment.outlets) o (roles_in x.bodies)
+      → IsFilled (site_states t r cs l.page) (cases_of l.fragment.outlets) o (roles_in x.bodies)
   one_filled p l o x h is fit = by_place (slice_get l.page.serials o.site) refl
     where
       roles : List Role
@@ -175,7 +176,7 @@ module _ (c : act.State) (t : Table) (r : Resting) (settled : (k : Key) (w : Wat
           ∙ (ap (λ (cs : List Case). is_filled cs o.filling (Some kept.0) roles) (sym those)
           ∙ (ap (λ (f : Filling). is_filled under f (Some kept.0) roles) (sym is.1) ∙ filled_now))
 
-      by_place : (i : Option ℕ) → slice_get l.page.serials o.site ≡ i → FilledBy cases o.filling roles (slice_get (site_states t r l.page) o.site)
+      by_place : (i : Option ℕ) → slice_get l.page.serials o.site ≡ i → FilledBy cases o.filling roles (slice_get (site_states t r cs l.page) o.site)
       by_place None at = subst (FilledBy cases o.filling roles) (sym (no_state (shown_at l.page.scope l.page.path) l.page.serials o.site at)) (λ live. absurd (cc))
       by_place (Some n) at =
           subst (FilledBy cases o.filling roles) (sym (state_at (shown_at l.page.scope l.page.path) l.page.serials o.site n at))
@@ -183,14 +184,14 @@ module _ (c : act.State) (t : Table) (r : Resting) (settled : (k : Key) (w : Wat
           (λ live. by_watcher n at (found (key_on p n) t) refl (lookup (is_key (key_on p n)) r) live))
 
   abbrev go_in : Instances → List ℕ → Instance
-  go_in is = read nothing_linked (instance_join t r) is
+  go_in is = read nothing_linked (instance_join t r cs) is
 
   all_fresh : (is : Instances) (bs : List Body) → ((p : List ℕ) → IsFresh c.objects c.scopes (go_in is p)) → AllFresh c.objects c.scopes (instances_from (map (λ (b : Body). go_in is b.path) bs))
   all_fresh is [] each = tt
   all_fresh is (b ∷ bs) each = (each b.path, all_fresh is bs each)
 
   are_filled : (p : List ℕ) (l : Linked) (is : Instances) (os : List Outlet) (xs : List OutletState) → IsLinked c t p l → AreOutlets l.page.serials os xs → AllByRecursion (OutletFits t [] p l.page.serials l.fragment.outlets) xs → ((q : List ℕ) → IsFresh c.objects c.scopes (go_in is q))
-      → AreFilled c.objects c.scopes (site_states t r l.page) (cases_of l.fragment.outlets) os (outlets_from (groups_in xs (map instances_from (read_bodies (go_in is) xs))))
+      → AreFilled c.objects c.scopes (site_states t r cs l.page) (cases_of l.fragment.outlets) os (outlets_from (groups_in xs (map instances_from (read_bodies (go_in is) xs))))
   are_filled p l is os [] h outlets fit each = tt
   are_filled p l is [] (x ∷ xs) h outlets fit each = absurd outlets
   are_filled p l is (o ∷ os) (x ∷ xs) h outlets fit each =
@@ -199,7 +200,7 @@ module _ (c : act.State) (t : Table) (r : Resting) (settled : (k : Key) (w : Wat
   abbrev IsRight : List ℕ × Linked → Type 0
   IsRight e = IsLinked c t e.0 e.1 × AllByRecursion (OutletFits t [] e.0 e.1.page.serials e.1.fragment.outlets) e.1.page.outlets
 
-  one_fresh : (e : List ℕ × Linked) (is : Instances) → IsRight e → ((q : List ℕ) → IsFresh c.objects c.scopes (go_in is q)) → IsFresh c.objects c.scopes (instance_join t r e.1 (read_bodies (go_in is) e.1.page.outlets))
+  one_fresh : (e : List ℕ × Linked) (is : Instances) → IsRight e → ((q : List ℕ) → IsFresh c.objects c.scopes (go_in is q)) → IsFresh c.objects c.scopes (instance_join t r cs e.1 (read_bodies (go_in is) e.1.page.outlets))
   one_fresh e is h each = (
     (λ n. subst (λ (p : List ℕ). site_now c.objects c.scopes (slice_get e.1.fragment.sites n) (slice_get (map (shown_at e.1.page.scope p) e.1.page.serials) n) ≡ shown_as (state_kept (slice_get (map (shown_at e.1.page.scope p) e.1.page.serials) n))) (sym h.0.path)
         (sites_show e.1.page.scope e.0 e.1.page.serials e.1.fragment.sites n h.0.count h.0.watched)),
@@ -211,8 +212,8 @@ module _ (c : act.State) (t : Table) (r : Resting) (settled : (k : Key) (w : Wat
   read_fresh [] all p = ((λ n. refl), tt)
   read_fresh (e ∷ is) all p = by_path (is_path p e.0) (one_fresh e is all.0 (read_fresh is all.1)) (read_fresh is all.1 p)
     where
-      by_path : (b : Bool) → IsFresh c.objects c.scopes (instance_join t r e.1 (read_bodies (go_in is) e.1.page.outlets)) → IsFresh c.objects c.scopes (go_in is p)
-          → IsFresh c.objects c.scopes (cond b (instance_join t r e.1 (read_bodies (go_in is) e.1.page.outlets)) (go_in is p))
+      by_path : (b : Bool) → IsFresh c.objects c.scopes (instance_join t r cs e.1 (read_bodies (go_in is) e.1.page.outlets)) → IsFresh c.objects c.scopes (go_in is p)
+          → IsFresh c.objects c.scopes (cond b (instance_join t r cs e.1 (read_bodies (go_in is) e.1.page.outlets)) (go_in is p))
       by_path true here more = here
       by_path false here more = more
 
@@ -235,8 +236,8 @@ all_entries P (e ∷ is) o each = (
 
 pub settled_renders : (s : State) → IsSettled s → IsWatched s → Fits [] s → rendering s ≡ shown_as (shown s)
 settled_renders s settled h fits =
-    fresh_instance s.core.objects s.core.scopes (instance_at s.watchers s.resting s.instances [])
-    (read_fresh s.core s.watchers s.resting settled s.instances (all_entries (IsRight s.core s.watchers s.resting settled) s.instances h.paths (λ p l at. (h.linked p l at, fits p l at))) [])
+    fresh_instance s.core.objects s.core.scopes (instance_at s.watchers s.resting s.controls s.instances [])
+    (read_fresh s.core s.watchers s.resting s.controls settled s.instances (all_entries (IsRight s.core s.watchers s.resting s.controls settled) s.instances h.paths (λ p l at. (h.linked p l at, fits p l at))) [])
 
 pub when_done : (P Q : Type 0) (o : Option (Result Report DigestFault)) → WhenOk o P → (P → Q) → WhenOk o Q
 when_done P Q None h f = tt

@@ -1,5 +1,5 @@
 -- What programs, fires, tasks and the end of a digest leave of sites.
-use Rattle.std.proofs.Common.{◌≡◌, ◌≤◌, ℕ, true, sym, subst, List, [], ◌∷◌, length, map, length-append, arith, Option, Some, None, Result, Ok, Err}
+use Rattle.std.proofs.Common.{◌≡◌, ◌≤◌, ℕ, Bool, true, false, cond, refl, sym, subst, List, [], ◌∷◌, length, map, length-append, arith, Option, Some, None, Result, Ok, Err}
 use Rattle.std.specs.Prelude.{is_some, is_err}
 use Rattle.serde_json.specs.Data.{Data}
 use Rattle.ng_core.specs.Keeping.{stores, nothing}
@@ -14,20 +14,26 @@ use Rattle.ng_base.specs.Views.{ViewTree, prim}
 use Rattle.ng_base.specs.declared.fault.Fault.{Fault}
 use Rattle.ng_base.specs.declared.path.Key.{Key}
 use Rattle.ng_base.specs.declared.value.Value.{Value}
+use Rattle.ng_base.specs.declared.value.Value.TheVariants as value
 use Rattle.ng_behaviour.specs.Scopes.{path_at}
+use Rattle.ng_control.specs.State.{ControlState, typed_in, checked_in}
 use Rattle.ng_fire.specs.Changes.{key_in, watching_in, listening_in, applied, applied_all, changed, without_changes}
 use Rattle.ng_fire.specs.Fires.{former_value, listener_locals, listener_run, run_with, fire_run, fired_by, listener_at, value_at}
+use Rattle.ng_fire.specs.Inputs.{write_run, all_run, written}
 use Rattle.ng_fire.specs.Runs.{asked_first, followed, task_run, ran_of, ran, without_task, program_run, back, destroyed}
 use Rattle.ng_fire.specs.Settling.{without_probes}
 use Rattle.ng_language.specs.Trees.{Trees}
-use Rattle.ng_link.specs.Calls.{with_core, ended_at}
+use Rattle.ng_link.specs.Calls.{with_core, with_control_at, ended_at}
+use Rattle.ng_link.specs.Controls.{ControlHere, state_under, read_as}
+use Rattle.ng_link.specs.Events.{scope_of, control_at}
 use Rattle.ng_link.specs.State.{State, Listening}
 use Rattle.ng_store.specs.Json.{json_value, placed, with_json}
 use Rattle.ng_store.specs.declared.json.JsonFault.{JsonFault}
+use Rattle.ng_template.specs.Writing.{input_name}
 use Rattle.ng_watch.specs.Table.{kept_at}
 use Rattle.ng_write.specs.Making.{value_in}
 use Rattle.ng_page.specs.Commands as commands
-use Rattle.ng_page.specs.Commands.{json_read, json_run, items_in, emit_run, broadcast_run, asked_run, applies, queues, probes, digests, destroys_scope, emits, broadcasts}
+use Rattle.ng_page.specs.Commands.{json_read, json_run, items_in, emit_run, broadcast_run, typed_run, checked_run, asked_run, applies, queues, probes, digests, destroys_scope, emits, broadcasts, types, checks}
 use Rattle.ng_page.proofs.EventsStay.{part, Stays, stays_refl, stays_trans, objects_stay, fault_stays}
 use Rattle.ng_act.proofs.Programs.{some_first}
 use Rattle.ng_page.proofs.ProgramsStay.{bind_stay, stores_stay, statements_stay, does_stay, destroys_stay}
@@ -147,6 +153,47 @@ broadcast_stays scope name d c =
     bind_stay (part c) (json_run d c).0 (json_run d c).1 (λ v e. as_value_run (asked_first (a_broadcast scope name (map prim (items_in e.objects v))) e)) (read_stays (json_value c.objects d) d c)
     (λ v e. value_run e (asked_first (a_broadcast scope name (map prim (items_in e.objects v))) e) (first_stays (a_broadcast scope name (map prim (items_in e.objects v))) e))
 
+-- a control takes what is put in, its model is written, and programs run after that
+pub control_sites : (f : ControlState → ControlState) (k : Key) (s : State) → SitesStay s (with_control_at f k s)
+control_sites f k s = record { instances = refl; templates = refl; keys = λ o. o; found = λ o q w i e. e; core = stays_refl (part s.core) }
+
+pub write_stays : (scope : ℕ) (p : Trees) (v : Value) (c : act.State) → Stays (part c) (part (write_run scope p v c).0)
+unfolding write_run
+write_stays scope p v c =
+    let d : act.State = with_locals ((input_name, v) ∷ []) c in
+    value_run c (programmed (does 64) scope p d) (statements_stay 64 scope nothing p d)
+
+all_sites : (scope : ℕ) (ps : List Trees) (s : State) → SitesStay s (all_run scope ps s)
+all_sites scope [] s = sites_refl s
+all_sites scope (p ∷ ps) s =
+    let t = followed (program_run scope p s.core) s in
+    sites_trans s t (all_run scope ps t) (followed_sites (program_run scope p s.core) s (program_stays scope p s.core)) (all_sites scope ps t)
+
+pub written_sites : (scope : ℕ) (p : Trees) (v : Value) (ps : List Trees) (s : State) → SitesStay s (written scope p v ps s)
+written_sites scope p v ps s = by_end (is_err (write_run scope p v s.core).1)
+  where
+    t : State
+    t = followed (write_run scope p v s.core) s
+
+    one : SitesStay s t
+    one = followed_sites (write_run scope p v s.core) s (write_stays scope p v s.core)
+
+    by_end : (b : Bool) → SitesStay s (cond b t (all_run scope ps t))
+    by_end true = one
+    by_end false = sites_trans s t (all_run scope ps t) one (all_sites scope ps t)
+
+typed_sites : (t : List ℕ) (scope : ℕ) (c : Option ControlHere) (s : State) → SitesStay s (typed_run t scope c s)
+typed_sites t scope None s = sites_refl s
+typed_sites t scope (Some c) s =
+    let u = with_control_at (λ x. typed_in x t) c.key s in
+    sites_trans s u (typed_run t scope (Some c) s) (control_sites (λ x. typed_in x t) c.key s) (written_sites scope c.writes (read_as t (state_under c.key s.controls)) c.changes u)
+
+checked_sites : (b : Bool) (scope : ℕ) (c : Option ControlHere) (s : State) → SitesStay s (checked_run b scope c s)
+checked_sites b scope None s = sites_refl s
+checked_sites b scope (Some c) s =
+    let u = with_control_at checked_in c.key s in
+    sites_trans s u (checked_run b scope (Some c) s) (control_sites checked_in c.key s) (written_sites scope c.writes (value.Bool b) c.changes u)
+
 pub asked_sites : (a : commands.Asked) (s : State) → SitesStay s (asked_run a s)
 asked_sites (applies scope p) s = followed_sites (program_run scope p s.core) s (program_stays scope p s.core)
 asked_sites (queues p) s = core_sites s (act.with_task (record { scope = 0; body = p }) s.core) (stays_refl (part s.core))
@@ -155,3 +202,5 @@ asked_sites digests s = sites_refl s
 asked_sites (destroys_scope scope) s = sites_trans s (with_core (destroyed scope s.core) s) (changed (with_core (destroyed scope s.core) s)) (core_sites s (destroyed scope s.core) (destroyed_stays scope s.core)) (changed_sites (with_core (destroyed scope s.core) s))
 asked_sites (emits scope name d) s = followed_sites (emit_run scope name d s.core) s (emit_stays scope name d s.core)
 asked_sites (broadcasts scope name d) s = followed_sites (broadcast_run scope name d s.core) s (broadcast_stays scope name d s.core)
+asked_sites (types n t) s = typed_sites t (scope_of s n) (control_at s n) s
+asked_sites (checks n b) s = checked_sites b (scope_of s n) (control_at s n) s

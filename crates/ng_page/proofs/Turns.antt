@@ -28,17 +28,18 @@ use Rattle.ng_fire.specs.Whole.{Unless}
 use Rattle.ng_language.specs.Objects.{new_object}
 use Rattle.ng_language.specs.Trees.{Trees}
 use Rattle.ng_link.specs.Calls.{with_core, left_at}
-use Rattle.ng_link.specs.Events.{scope_of}
+use Rattle.ng_link.specs.Controls.{ControlHere}
+use Rattle.ng_link.specs.Events.{scope_of, control_at}
 use Rattle.ng_link.specs.State as link
 use Rattle.ng_link.specs.declared.works.Works.{Works}
 use Rattle.ng_store.specs.Json.{json_value, with_json}
 use Rattle.ng_watch.specs.Table.{Table, found, without_under}
 use Rattle.ng_write.proofs.More.{length-one_more}
 use Rattle.ng_page.specs.Answered.{DigestsWhere, WhenOk}
-use Rattle.ng_page.specs.Dispatch.{Happening, Event, unmade, made, refused, Going, ready, event_of, event_then, handler_run, handling_run, rested, handled, TakesTurn}
+use Rattle.ng_page.specs.Dispatch.{Happening, Event, unmade, awaited, made, refused, Going, ready, event_of, event_then, handler_run, handling_run, rested, handled, TakesTurn, touch_run, touched, touched_then, Touches}
 use Rattle.ng_page.specs.Dispatched.{told_of, UnlessFailed}
 use Rattle.ng_page.specs.EventObject.{value_read, extra_set, typed_event, event_objects, event_refusal, event_made}
-use Rattle.ng_page.specs.EventSeen.{MadeBelow}
+use Rattle.ng_page.specs.EventSeen.{event_seen, MadeBelow}
 use Rattle.ng_page.specs.OutcomeOf.{outcome_of}
 use Rattle.ng_page.specs.PlaceOf.{PageIs}
 use Rattle.ng_page.specs.Settled.{IsSettled}
@@ -85,6 +86,7 @@ made_stays (Some f) type extra c = stays_refl (part c)
 event_stays : (x : Happening) (e : Event) (c : act.State) → Stays (part c) (part (event_of x e c).0)
 event_stays x unmade c = made_stays (event_refusal c.objects x.extra) x.type x.extra c
 event_stays x (made o) c = stays_refl (part c)
+event_stays x awaited c = made_stays (event_refusal c.objects x.extra) x.type x.extra c
 event_stays x refused c = made_stays (event_refusal c.objects x.extra) x.type x.extra c
 
 handler_stays : (scope o : ℕ) (p : Trees) (c : act.State) → Stays (part c) (part (handler_run scope o p c).0)
@@ -122,6 +124,7 @@ was_no_want (Err e) d faulted A f P h = by (is_memory e) refl
 pub below_still : (m n : ℕ) (e : code.Event) → m ≤ n → MadeBelow m e → MadeBelow n e
 below_still m n events.Unmade l h = tt
 below_still m n (events.Made o) l h = omega (arith, h)
+below_still m n events.Awaited l h = tt
 below_still m n events.Refused l h = tt
 
 -- what came after a run lost no object of what the run left
@@ -189,6 +192,7 @@ ready_objects e s t i = subst (λ (x : link.State). length s.core.objects ≤ le
   where
     by : (e : Event) → length s.core.objects ≤ length (ready e s).core.objects
     by unmade = omega arith
+    by awaited = omega arith
     by (made o) = omega arith
     by refused = omega arith
 
@@ -211,6 +215,41 @@ takes_turn x n p g h s o e i ends short = record {
   event = i;
 }
 
+-- ---- the turn of a control
+
+touch_objects : (c : Option ControlHere) (s : link.State) → (touch_run c s).core.objects ≡ s.core.objects
+touch_objects None s = refl
+touch_objects (Some c) s = refl
+
+-- what it leaves, before it is seen whether the root has died
+abbrev pub before_touch_rest : ℕ → Going → link.State
+before_touch_rest n g = touch_run (control_at g.state n) (ready g.event g.state)
+
+-- it makes no object
+pub touched_grown : (n : ℕ) (g : Going) (t : link.State) → t ≡ touched n g → length g.state.core.objects ≤ length t.core.objects
+touched_grown n g t i =
+    let s = ready g.event g.state in
+    let grown = ready_objects g.event g.state s refl in
+    let same : length (before_touch_rest n g).core.objects ≡ length s.core.objects = ap length (touch_objects (control_at g.state n) s) in
+    rested_grown (length g.state.core.objects) (before_touch_rest n g) t i (omega (arith, grown, same))
+
+-- an event that stood stands
+pub below_touched : (k m n : ℕ) (e f : code.Event) → event_seen f ≡ touched_then (event_seen e) → k ≤ m → m ≤ n → MadeBelow k e → MadeBelow n f
+below_touched k m n e events.Unmade i l j h = tt
+below_touched k m n e events.Awaited i l j h = tt
+below_touched k m n e events.Refused i l j h = tt
+below_touched k m n events.Unmade (events.Made o) i l j h = absurd (cc)
+below_touched k m n events.Awaited (events.Made o) i l j h = absurd (cc)
+below_touched k m n events.Refused (events.Made o) i l j h = absurd (cc)
+below_touched k m n (events.Made p) (events.Made o) i l j h = let same : made o.0 ≡ made p.0 = i in let one : o.0 ≡ p.0 = cc in omega (arith, one, l, j, h)
+
+pub touches : (n : ℕ) (g h : Going) (s : link.State) (o : Outcome) → s ≡ touched n g → h.event ≡ touched_then g.event → Ends s (outcome_of o) h.state → EndsShort s o.digest h.state → Touches n g (told_of o) h
+touches n g h s o e i ends short = record {
+  ends = subst (λ t. Ends t (outcome_of o) h.state) e ends;
+  short = subst (λ t. EndsShort t o.digest h.state) e short;
+  event = i;
+}
+
 -- what is said of an answer
 pub if_ok : {T E : Type 0} {A B : T → Type 0} (r : Result T E) → IfOk r A → ((v : T) → A v → B v) → IfOk r B
 if_ok (Ok v) a f = f v a
@@ -219,6 +258,10 @@ if_ok (Err e) a f = tt
 pub if_ok_both : {T E : Type 0} {A B C : T → Type 0} (r : Result T E) → IfOk r A → IfOk r B → ((v : T) → A v → B v → C v) → IfOk r C
 if_ok_both (Ok v) a b f = f v a b
 if_ok_both (Err e) a b f = tt
+
+pub on_ok_both : {T E A B C : Type 0} (r : Result T E) → OnOk r A → OnOk r B → (A → B → C) → OnOk r C
+on_ok_both (Ok v) a b f = f a b
+on_ok_both (Err e) a b f = tt
 
 pub on_ok_if : {T E C : Type 0} {A : T → Type 0} (r : Result T E) → IfOk r A → ((v : T) → A v → C) → OnOk r C
 on_ok_if (Ok v) a f = f v a

@@ -13,7 +13,7 @@ use Rattle.ng_base.specs.Views.{ViewTree}
 use Rattle.ng_base.specs.declared.path.Key.{Key}
 use Rattle.ng_behaviour.specs.Scopes.{Scope, object_at}
 use Rattle.ng_drawing.specs.Template.{Site}
-use Rattle.ng_link.specs.Calls.{with_core}
+use Rattle.ng_link.specs.Calls.{with_core, keeping_at}
 use Rattle.ng_link.specs.Instances.{Body, OutletState, Linked, Instances, linked_at, is_site_in, is_site}
 use Rattle.ng_link.specs.Rows.{watching_site}
 use Rattle.ng_link.specs.Shape.{key_on}
@@ -122,6 +122,10 @@ kept_watched j o s h = record {
   keys = subst (IsStrictlySortedBy key_cmp) (sym (kept_keys j o s.watchers)) h.keys;
   templates = h.templates;
 }
+
+-- a control drops what was typed meanwhile
+pub keeping_watched : (k : Key) (v : ViewTree) (s : State) → IsWatched s → IsWatched (keeping_at k v s)
+keeping_watched k v s h = let g = kept_watched k (Some v) s h in record { linked = g.linked; paths = g.paths; keys = g.keys; templates = g.templates }
 
 -- a core with the same scopes or more, where no number of registration is given anew
 pub watched_core : (s : State) (c : act.State) → ScopesStay s.core.scopes c.scopes → s.core.serial ≤ c.serial → IsWatched s → IsWatched (with_core c s)

@@ -5,7 +5,7 @@ use Rattle.ng_base.specs.declared.fault.Fault.{Fault}
 use Rattle.ng_base.specs.declared.name.Oid.{Oid}
 use Rattle.ng_link.specs.State as link
 use Rattle.ng_link.specs.declared.works.Works.{Works}
-use Rattle.ng_page.specs.Dispatch.{Happening, Event, Going, Told, unmade, made, refused}
+use Rattle.ng_page.specs.Dispatch.{Happening, Event, Going, Told, unmade, awaited, made, refused}
 use Rattle.ng_page.specs.Dispatched.{told_all, UnlessFailed}
 use Rattle.ng_page.specs.Settled.{IsSettled}
 use Rattle.ng_page.specs.declared.dispatching.Dispatch.{Dispatch}
@@ -20,6 +20,7 @@ number o = o.0
 
 abbrev pub event_seen : code.Event → Event
 event_seen events.Unmade = unmade
+event_seen events.Awaited = awaited
 event_seen (events.Made o) = made o.0
 event_seen events.Refused = refused
 
@@ -37,6 +38,7 @@ happening_seen x = record { type = x.name.now; extra = view x.extra.now }
 -- an event that was made is one of so many objects
 abbrev pub MadeBelow : ℕ → code.Event → Type 0
 MadeBelow count events.Unmade = Unit {0}
+MadeBelow count events.Awaited = Unit {0}
 MadeBelow count (events.Made o) = o.0 < count
 MadeBelow count events.Refused = Unit {0}
 

@@ -1,5 +1,5 @@
 //! Events of the document: their handlers run, one after another, each in an `$apply` of its own.
-ghost use Rattle.std.specs.Prelude.{◌≡◌, ◌<◌, ◌≤◌, ◌++◌, ◌∷◌, [], ℕ, List, length, map, true, if◌then◌else◌, IfOk, OnOk, Option, Some, None, codes};
+ghost use Rattle.std.specs.Prelude.{◌≡◌, ◌<◌, ◌≤◌, ◌++◌, ◌∷◌, [], ℕ, List, length, map, option_map, true, if◌then◌else◌, IfOk, OnOk, Option, Some, None, codes};
 ghost use Rattle.std.specs.List.{list_any};
 ghost use Rattle.std.specs.Str.{bytes_eq};
 ghost use Rattle.serde_json.specs.View.{view};
@@ -12,11 +12,11 @@ ghost use Rattle.ng_behaviour.specs.Scopes.{live_at};
 ghost use Rattle.ng_dom.specs.Paths.{StandsIn};
 ghost use Rattle.ng_fire.specs.Whole.{Unless};
 ghost use Rattle.ng_link.specs.Events.{named, handlers_at, scope_of};
-ghost use Rattle.ng_link.specs.State.{state_of};
+ghost use Rattle.ng_link.specs.State.{control_of, state_of};
 ghost use Rattle.ng_parse.specs.ProgramOf.{program};
 ghost use Rattle.ng_members.specs.Leaves.{LocalsStand};
 ghost use Rattle.ng_page.specs.Answered.{WhenOk};
-ghost use Rattle.ng_page.specs.Dispatch.{Happening, Told, bubbles, stays_put, way, is_refused, has_turn, ready, event_of, event_after, handler_run, handling_run, rested, handled, event_then, TakesTurn, MayTakeTurn, Handles, is_stopped, Bubbles, Dispatches, last_digest};
+ghost use Rattle.ng_page.specs.Dispatch.{Happening, Told, bubbles, stays_put, way, is_refused, has_turn, ready, event_of, event_after, handler_run, handling_run, rested, handled, event_then, TakesTurn, MayTakeTurn, Handles, has_touch, touch_run, touched, touched_then, Touches, MayTouch, HandlesAt, is_stopped, Bubbles, Dispatches, last_digest};
 ghost use Rattle.ng_page.specs.Dispatched.{told_of, told_all, UnlessFailed};
 ghost use Rattle.ng_page.specs.EventSeen.{number, event_seen, after_seen, going, happening_seen, MadeBelow, Goes, IsStill, LastSettled};
 ghost use Rattle.ng_page.specs.PlaceOf.{PageIs};
@@ -36,15 +36,16 @@ use ng_base::txt::Txt;
 use ng_base::value::Value;
 use ng_core::core_state::Core;
 use ng_fire::following::follow;
-use ng_link::works::Works;
+use ng_link::works::{ControlHere, Works};
 use ng_parse::Program;
 use serde_json::Value as Json;
 use std::alloc::Global;
 
-/// `$event` of a dispatch: not made yet, made, or refused.
+/// `$event` of a dispatch: not made yet, not made though the command has begun, made, or refused.
 #[derive(Clone, Copy, Debug, PartialEq, Eq)]
 pub(crate) enum Event {
     Unmade,
+    Awaited,
     Made(Oid),
     Refused,
 }
@@ -101,6 +102,7 @@ fn is_refused(event: Event) -> bool
 {
     match event {
         Event::Unmade => false,
+        Event::Awaited => false,
         Event::Made(_) => false,
         Event::Refused => true,
     }
@@ -129,6 +131,7 @@ fn ready(works: &mut Works, event: Event)
 {
     match event {
         Event::Unmade => begin(works),
+        Event::Awaited => works.forget_faults(),
         Event::Made(_) => works.forget_faults(),
         Event::Refused => {}
     }
@@ -153,6 +156,7 @@ fn event_of(
     match event {
         Event::Made(o) => Ok(o),
         Event::Unmade => make_event(core, alloc, happening.name, happening.extra),
+        Event::Awaited => make_event(core, alloc, happening.name, happening.extra),
         Event::Refused => make_event(core, alloc, happening.name, happening.extra),
     }
 }
@@ -306,7 +310,115 @@ fn may_turn(
     Ok(())
 }
 
-/// The handlers of a node, in order.
+/// Whether the control that a node is loses the focus.
+fn has_touch(works: &Works, happening: Happening<'_>, event: Event, n: u64) -> bool
+    requires { PageIs works.now }
+    ensures { result ≡ has_touch (happening_seen happening.entry) n (going works.now event) }
+{
+    happening.name.is_word("blur")
+        && !is_refused(event)
+        && works.is_control(n)
+        && scope_lives(works, n)
+}
+
+/// What `$event` is after a control has lost the focus.
+fn touched_then(event: Event) -> Event
+    ensures { event_seen result ≡ touched_then (event_seen event) }
+{
+    match event {
+        Event::Unmade => Event::Awaited,
+        Event::Awaited => Event::Awaited,
+        Event::Made(o) => Event::Made(o),
+        Event::Refused => Event::Refused,
+    }
+}
+
+/// A control loses the focus, where there is one.
+fn touch_one(works: &mut Works, control: &Option<ControlHere>) -> Result<(), Memory>
+    requires { PageIs works.old }
+    ensures state { OnOk result (state_of works.new ≡ touch_run (option_map control_of control.now) (state_of works.old)) }
+    ensures page { OnOk result (PageIs works.new) }
+{
+    match control {
+        None => Ok(()),
+        Some(control) => works.touch(&control.key),
+    }
+}
+
+/// The control that a node is loses the focus, up to its digest.
+fn run_touch(works: &mut Works, alloc: Global, event: Event, n: u64) -> Result<(), Memory>
+    requires { PageIs works.old }
+    ensures state { OnOk result (state_of works.new ≡ touched n (going works.old event)) }
+    ensures page { OnOk result (PageIs works.new) }
+{
+    let control = works.control_at(n)?;
+    ready(works, event);
+    touch_one(works, &control)?;
+    rest_where_dead(works, alloc)
+}
+
+/// A control loses the focus: an `$apply` of its own.
+fn touch(engine: &mut Engine, event: &mut Event, n: u64) -> Result<Outcome, Memory>
+    requires page { PageIs engine.old.works }
+    requires below { MadeBelow (length engine.old.works.core.store) event.old }
+    ensures turn { IfOk result (λ o. Touches n (going engine.old.works event.old) (told_of o) (going engine.new.works event.new)) }
+    ensures settled { IfOk result (λ o. UnlessFailed o.digest (IsSettled (state_of engine.new.works))) }
+    ensures page { OnOk result (PageIs engine.new.works) }
+    ensures below { OnOk result (MadeBelow (length engine.new.works.core.store) event.new) }
+{
+    run_touch(&mut engine.works, engine.alloc, *event, n)?;
+    *event = touched_then(*event);
+    conclude(engine)
+}
+
+/// The control that a node is loses the focus at a `blur`, where its node stands and its scope lives.
+fn may_touch(
+    engine: &mut Engine,
+    happening: Happening<'_>,
+    dispatch: &mut Dispatch,
+    n: u64,
+) -> Result<(), Memory>
+    requires page { PageIs engine.old.works }
+    requires below { MadeBelow (length engine.old.works.core.store) dispatch.old.event }
+    requires settled { LastSettled dispatch.old.outcomes (state_of engine.old.works) }
+    ensures turn { OnOk result (Goes (λ os h. MayTouch (has_touch (happening_seen happening.entry) n (going engine.old.works dispatch.old.event)) n (going engine.old.works dispatch.old.event) os h) dispatch.old dispatch.new engine.new.works) }
+    ensures still { OnOk result (IsStill dispatch.old dispatch.new engine.old engine.new) }
+    ensures settled { OnOk result (LastSettled dispatch.new.outcomes (state_of engine.new.works)) }
+    ensures page { OnOk result (PageIs engine.new.works) }
+    ensures below { OnOk result (MadeBelow (length engine.new.works.core.store) dispatch.new.event) }
+{
+    if !has_touch(&engine.works, happening, dispatch.event, n) {
+        return Ok(());
+    }
+    let outcome = touch(engine, &mut dispatch.event, n)?;
+    dispatch.outcomes.push(outcome)?;
+    Ok(())
+}
+
+/// Handlers of a node, in order.
+fn handle_all(
+    engine: &mut Engine,
+    happening: Happening<'_>,
+    dispatch: &mut Dispatch,
+    n: u64,
+    list: &[Program],
+) -> Result<(), Memory>
+    requires page { PageIs engine.old.works }
+    requires below { MadeBelow (length engine.old.works.core.store) dispatch.old.event }
+    requires settled { LastSettled dispatch.old.outcomes (state_of engine.old.works) }
+    ensures handled { OnOk result (Goes (λ os h. Handles (happening_seen happening.entry) n (map program list.now) (going engine.old.works dispatch.old.event) os h) dispatch.old dispatch.new engine.new.works) }
+    ensures still { OnOk result (IsStill dispatch.old dispatch.new engine.old engine.new) }
+    ensures settled { OnOk result (LastSettled dispatch.new.outcomes (state_of engine.new.works)) }
+    ensures page { OnOk result (PageIs engine.new.works) }
+    ensures below { OnOk result (MadeBelow (length engine.new.works.core.store) dispatch.new.event) }
+{
+    for p in list {
+        may_turn(engine, happening, dispatch, n, p)?;
+    }
+    Ok(())
+}
+
+/// What an event does at a node: a control's turn, and then those of the handlers.
 fn handle(
     engine: &mut Engine,
     happening: Happening<'_>,
@@ -316,18 +428,15 @@ fn handle(
     requires page { PageIs engine.old.works }
     requires below { MadeBelow (length engine.old.works.core.store) dispatch.old.event }
     requires settled { LastSettled dispatch.old.outcomes (state_of engine.old.works) }
-    ensures handled { OnOk result (Goes (λ os h. Handles (happening_seen happening.entry) n (handlers_at (state_of engine.old.works) n happening.entry.name.now) (going engine.old.works dispatch.old.event) os h) dispatch.old dispatch.new engine.new.works) }
+    ensures handled { OnOk result (Goes (λ os h. HandlesAt (happening_seen happening.entry) n (going engine.old.works dispatch.old.event) os h) dispatch.old dispatch.new engine.new.works) }
     ensures still { OnOk result (IsStill dispatch.old dispatch.new engine.old engine.new) }
     ensures settled { OnOk result (LastSettled dispatch.new.outcomes (state_of engine.new.works)) }
     ensures page { OnOk result (PageIs engine.new.works) }
     ensures below { OnOk result (MadeBelow (length engine.new.works.core.store) dispatch.new.event) }
 {
     let programs = engine.works.handlers(n, happening.name)?;
-    let list = programs.as_slice();
-    for p in list {
-        may_turn(engine, happening, dispatch, n, p)?;
-    }
-    Ok(())
+    may_touch(engine, happening, dispatch, n)?;
+    handle_all(engine, happening, dispatch, n, programs.as_slice())
 }
 
 /// Whether bubbling has been stopped.
@@ -337,6 +446,7 @@ fn is_stopped(engine: &Engine, event: Event) -> Result<bool, Memory>
 {
     match event {
         Event::Unmade => Ok(false),
+        Event::Awaited => Ok(false),
         Event::Made(o) => is_cancelled(&engine.works.core.store, engine.alloc, o),
         Event::Refused => Ok(false),
     }

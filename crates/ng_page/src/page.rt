@@ -21,7 +21,9 @@ ghost use Rattle.ng_template.specs.Kept.{fragments_in};
 ghost use Rattle.ng_template.specs.TemplateOf.{template_of};
 ghost use Rattle.ng_view.specs.Purity.{are_pure, all_filters_known};
 ghost use Rattle.ng_page.specs.Answered.{WhenOk};
-ghost use Rattle.ng_page.specs.Commands.{applies, queues, probes, digests, destroys_scope, emits, broadcasts, is_dead};
+ghost use Rattle.ng_control.specs.Typed.{TakesText, IsCheckbox};
+ghost use Rattle.ng_link.specs.Controls.{IsOfKind};
+ghost use Rattle.ng_page.specs.Commands.{applies, queues, probes, digests, destroys_scope, emits, broadcasts, types, checks, is_dead};
 ghost use Rattle.ng_page.specs.OutcomeOf.{outcome_of};
 ghost use Rattle.ng_page.specs.PlaceOf.{PageIs};
 ghost use Rattle.ng_page.specs.Settled.{IsSettled};
@@ -39,6 +41,7 @@ use ng_base::fault::{Fault, Memory};
 use ng_base::name::{NodeId, ScopeId};
 use ng_base::path::{Path, Target};
 use ng_base::txt::Txt;
+use ng_control::ControlKind;
 use ng_core::core_state::Core;
 use ng_dom::dom::Dom;
 use ng_drawing::instance::Instance;
@@ -85,7 +88,7 @@ fn element_at(dom: &Dom, path: &Path) -> Option<NodeId>
 
 impl Page {
     ghost use Rattle.ng_dom.specs.Paths.{StandsIn};
-    ghost use Rattle.ng_link.specs.Events.{named, scope_of};
+    ghost use Rattle.ng_link.specs.Events.{named, scope_of, state_by, control_at, kind_at};
     ghost use Rattle.ng_page.specs.Commanded.{Commanded, Ended, refusal};
     ghost use Rattle.ng_page.specs.Dispatched.{Dispatched};
     ghost use Rattle.ng_page.specs.PageOf.{state_of, fragments_of, IsPage, Displays, Names};
@@ -292,7 +295,8 @@ impl Page {
 
     /// An event of the document at a node, with a JSON object of extra names for `$event` (API: ngClick). Its handlers run at the
     /// node and, where it bubbles, at each element round it, each in an `$apply` of its own, where its node still stands and its
-    /// scope lives. The answer is an outcome for each handler that ran.
+    /// scope lives. At a `blur` the control that the node is loses the focus first, which counts as a handler. The answer is an outcome for
+    /// each handler that ran.
     pub fn dispatch(&mut self, n: NodeId, event: &Txt, extra: &Json) -> Result<Outcomes, PageFault>
         requires page { IsPage self.old }
         requires stands { self.old.spent ≡ false → StandsIn n.made.0 (named (state_of self.old)) }
@@ -310,6 +314,37 @@ impl Page {
             }
             Err(memory) => Err(self.wanting(memory)),
         }
+    }
+
+    /// A text is typed into the control that a node is, in an `$apply`: its model is written, and the programs of its `ng-change` run (API:
+    /// ngModel; API: ngChange). Where the model is then what the text was read as, the control goes on showing the text as it was typed.
+    pub fn type_text(&mut self, n: NodeId, text: &Txt) -> Result<Outcome, PageFault>
+        requires page { IsPage self.old }
+        requires control { self.old.spent ≡ false → IsOfKind TakesText (state_by (control_at (state_of self.old) n.made.0) (state_of self.old)) }
+        ensures { Commanded (types n.made.0 text.now) self.old result self.new }
+    {
+        let scope = self.scope_of(n);
+        if let Some(fault) = self.refused_on(scope) {
+            return Err(fault);
+        }
+        running::begin(&mut self.engine.works);
+        let ran = running::type_in(&mut self.engine.works, self.engine.alloc, n.made.0, text);
+        self.ended(ran)
+    }
+
+    /// The checkbox that a node is is checked, or not, in an `$apply`, as a text is typed into other controls.
+    pub fn check(&mut self, n: NodeId, on: bool) -> Result<Outcome, PageFault>
+        requires page { IsPage self.old }
+        requires control { self.old.spent ≡ false → IsOfKind IsCheckbox (state_by (control_at (state_of self.old) n.made.0) (state_of self.old)) }
+        ensures { Commanded (checks n.made.0 on) self.old result self.new }
+    {
+        let scope = self.scope_of(n);
+        if let Some(fault) = self.refused_on(scope) {
+            return Err(fault);
+        }
+        running::begin(&mut self.engine.works);
+        let ran = running::check_in(&mut self.engine.works, self.engine.alloc, n.made.0, on);
+        self.ended(ran)
     }
 
     /// Appends the document on one line, without a line feed.
@@ -373,6 +408,13 @@ impl Page {
         ensures there { IsPage self.now → self.now.spent ≡ false → result.0 < length (state_of self.now).core.scopes }
     {
         self.engine.works.scope_of(n.made.0)
+    }
+
+    /// The kind of the control that a node is. There is none where it has no `ng-model`.
+    pub fn control_of(&self, n: NodeId) -> Option<ControlKind>
+        ensures { result ≡ kind_at (state_of self.now) n.made.0 }
+    {
+        self.engine.works.control_kind(n.made.0)
     }
 
     /// The root scope.

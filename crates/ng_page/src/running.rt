@@ -11,7 +11,10 @@ ghost use Rattle.ng_fire.specs.Runs.{destroyed};
 ghost use Rattle.ng_link.specs.State.{state_of};
 ghost use Rattle.ng_parse.specs.ProgramOf.{program};
 ghost use Rattle.ng_view.specs.Purity.{are_pure, all_filters_known};
-ghost use Rattle.ng_page.specs.Commands.{begun, json_fault as json_fault_of, items_in, json_run, emit_run, broadcast_run, asked_run, applies, queues, probes, destroys_scope, emits, broadcasts};
+ghost use Rattle.ng_control.specs.Typed.{TakesText, IsCheckbox};
+ghost use Rattle.ng_link.specs.Controls.{IsOfKind};
+ghost use Rattle.ng_link.specs.Events.{state_by, control_at};
+ghost use Rattle.ng_page.specs.Commands.{begun, json_fault as json_fault_of, items_in, json_run, emit_run, broadcast_run, asked_run, applies, queues, probes, destroys_scope, emits, broadcasts, types, checks};
 ghost use Rattle.ng_page.specs.PlaceOf.{PageIs};
 
 use ng_act::running::{broadcast, destroy, emit};
@@ -25,6 +28,7 @@ use ng_core::core_state::{Core, Handed};
 use ng_core::pending::Task;
 use ng_fire::changing::apply_changes;
 use ng_fire::following::follow;
+use ng_fire::inputs::write_model;
 use ng_fire::programs::run_program;
 use ng_link::works::Works;
 use ng_parse::Program;
@@ -246,4 +250,36 @@ pub(crate) fn broadcast_from(
     let end = broadcast_event(&mut works.core, alloc, scope, name, args);
     follow(works, alloc, end)?;
     Ok(())
+}
+
+/// A text is typed into the control that a node is, and its model is written.
+pub(crate) fn type_in(works: &mut Works, alloc: Global, n: u64, text: &Txt) -> Result<(), Memory>
+    requires page { PageIs works.old }
+    requires control { IsOfKind TakesText (state_by (control_at (state_of works.old) n) (state_of works.old)) }
+    ensures state { OnOk result (state_of works.new ≡ asked_run (types n text.now) (state_of works.old)) }
+    ensures page { OnOk result (PageIs works.new) }
+{
+    let Some(control) = works.control_at(n)? else {
+        unreachable!();
+    };
+    let scope = works.scope_of(n);
+    let value = works.take_text(&control.key, text.copied()?)?;
+    let changes = control.changes.as_slice();
+    write_model(works, alloc, scope, &control.writes, value, changes)
+}
+
+/// The checkbox that a node is is checked, or not, and its model is written.
+pub(crate) fn check_in(works: &mut Works, alloc: Global, n: u64, on: bool) -> Result<(), Memory>
+    requires page { PageIs works.old }
+    requires control { IsOfKind IsCheckbox (state_by (control_at (state_of works.old) n) (state_of works.old)) }
+    ensures state { OnOk result (state_of works.new ≡ asked_run (checks n on) (state_of works.old)) }
+    ensures page { OnOk result (PageIs works.new) }
+{
+    let Some(control) = works.control_at(n)? else {
+        unreachable!();
+    };
+    let scope = works.scope_of(n);
+    let value = works.take_check(&control.key, on)?;
+    let changes = control.changes.as_slice();
+    write_model(works, alloc, scope, &control.writes, value, changes)
 }

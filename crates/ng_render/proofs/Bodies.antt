@@ -5,9 +5,9 @@ use Rattle.std.specs.Prelude.{Option, slice_get}
 use Rattle.ng_base.specs.Objects.{Object}
 use Rattle.ng_behaviour.specs.Scopes.{Scope}
 use Rattle.ng_markup.specs.Forest.{Forest, no_nodes}
-use Rattle.ng_drawing.specs.Drawing.{Now, Rendered, shown_as, render}
+use Rattle.ng_drawing.specs.Drawing.{Rendered, shown_as, render}
 use Rattle.ng_drawing.specs.Cases.{cases_of}
-use Rattle.ng_drawing.specs.Instance.{SiteState, CasesAt, Instance, Instances, Group, Outlets, instance_with, no_instances, instance_then, no_outlets, outlet_then, instances_from, outlets_from, instance_now, outlet_at, rendering, rendering_all, rendering_in}
+use Rattle.ng_drawing.specs.Instance.{SiteState, CasesAt, Instance, Instances, Group, Outlets, instance_with, no_instances, instance_then, no_outlets, outlet_then, instances_from, outlets_from, KeptNow, instance_now, seen_now, outlet_at, rendering, rendering_all, rendering_in}
 use Rattle.ng_drawing.specs.InstanceOf.{state_of, Fragments, instance_step, instances_step, instance_of, group_of, instances_of}
 use Rattle.ng_drawing.specs.RolesOf.{role_of}
 use Rattle.ng_drawing.specs.Template.{Site, Outlet, Contents, Part, Parts, anchor_part, Fragment, no_fragment}
@@ -83,7 +83,7 @@ drop_again xs zero = refl
 drop_again [] (suc i) = let e : suc (i + 1) ≡ suc i + 1 = omega arith in ap (λ k. drop k []) e
 drop_again (x ∷ xs) (suc i) = let e : suc (i + 1) ≡ suc i + 1 = omega arith in drop_again xs i ∙ ap (λ k. drop k (x ∷ xs)) e
 
-module _ (objects : List Object) (scopes : List Scope) (now : Now) (states : List SiteState) (cases : CasesAt) where
+module _ (objects : List Object) (scopes : List Scope) (now : KeptNow) (states : List SiteState) (cases : CasesAt) where
   abbrev pub filled_by : List Outlet → List Group → List (Rendered Forest)
   filled_by os gs = rendering_in objects scopes now states cases os (outlets_from gs)
 
@@ -123,7 +123,7 @@ module _ (objects : List Object) (scopes : List Scope) (all : Fragments) (i : co
   kept = map state_of (out-Instance i).sites.items
 
   abbrev pub shape : List Site → List SiteState → List (Rendered Forest) → Parts → Rendered Forest
-  shape sites states gs parts = render (instance_now objects scopes sites states) (λ o. slice_index_or gs o (shown_as no_nodes)) parts
+  shape sites states gs parts = render (seen_now (instance_now objects scopes sites states) states) (λ o. slice_index_or gs o (shown_as no_nodes)) parts
 
   abbrev groups_of : Fragment → List Site → List SiteState → List (Rendered Forest)
   groups_of f sites states = rendering_in objects scopes (instance_now objects scopes sites states) states (cases_of f.outlets) f.outlets outlets

@@ -4,7 +4,7 @@ use Rattle.std.specs.List.{AllByRecursion}
 use Rattle.ng_base.specs.Objects.{Object}
 use Rattle.ng_behaviour.specs.Scopes.{Scope, object_at}
 use Rattle.ng_drawing.specs.Drawing.{Now, GroupsNow, Rendered, shown_as}
-use Rattle.ng_drawing.specs.Instance.{SiteState, Instance, Instances, Outlets, instance_with, no_instances, instance_then, no_outlets, outlet_then, instance_now}
+use Rattle.ng_drawing.specs.Instance.{SiteState, KeptNow, Instance, Instances, Outlets, instance_with, no_instances, instance_then, no_outlets, outlet_then, instance_now, seen_now}
 use Rattle.ng_drawing.specs.InstanceOf.{state_of}
 use Rattle.ng_html.specs.Seen.{forest_of}
 use Rattle.ng_markup.specs.Forest.{Forest, no_nodes}
@@ -46,15 +46,18 @@ group_of (Faulted f) = Err f
 abbrev pub groups_over : Over → GroupsNow
 groups_over o k = slice_index_or (map group_of o.groups.now) k (shown_as no_nodes)
 
--- what is known of sites is what they show now
-abbrev pub AreKnown : Now → List Known → Type 0
+-- what is known of sites is what they have now
+abbrev pub AreKnown : KeptNow → List Known → Type 0
 AreKnown now ks = AllByRecursion (λ k. now k.number ≡ shown_as (option_map snap_of k.shown)) ks
 
--- what each site shows now
+-- what each site has now, and what is seen of it then
+abbrev pub kept_over : Over → KeptNow
+kept_over o = instance_now o.store.now o.scopes.now (map site_of o.sites.now) (map state_of o.states.now)
+
 abbrev pub now_over : Over → Now
-now_over o = instance_now o.store.now o.scopes.now (map site_of o.sites.now) (map state_of o.states.now)
+now_over o = seen_now (kept_over o) (map state_of o.states.now)
 
 -- what is rendered over is there, and what is known is so
 pub record Stands (o : Over) : Type 0 where
   pub names : NamesStand o.store.now o.scopes.now (map state_of o.states.now)
-  pub known : AreKnown (now_over o) o.known.now
+  pub known : AreKnown (kept_over o) o.known.now

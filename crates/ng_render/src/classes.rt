@@ -1,54 +1,20 @@
 //! What a class shows (API: ngClass, ngShow, ngHide).
-ghost use Rattle.std.specs.Prelude.{◌≡◌, ◌++◌, Some, OnOk, map, option_map};
+ghost use Rattle.std.specs.Prelude.{Some, map};
 ghost use Rattle.ng_base.specs.Faults.{is_memory};
 ghost use Rattle.ng_base.specs.Meets.{Gives};
 ghost use Rattle.ng_drawing.specs.Drawing.{render_words, render_hiding, render_hidings, render_class};
-ghost use Rattle.ng_drawing.specs.Looks.{kept_words, is_kept_true as is_kept_true_of, is_kept_false as is_kept_false_of};
 ghost use Rattle.ng_template.specs.AttributeOf.{hiding_of, class_of};
-ghost use Rattle.ng_value.specs.Snaps.{snap_of};
 ghost use Rattle.ng_render.specs.OverOf.{now_over, Stands};
 
 use crate::over::Over;
+use crate::seen::{is_false_at, is_true_at, push_words_at};
 use crate::sites::shown_now;
 use crate::texts::pieces_text;
 use ng_base::fault::Fault;
 use ng_base::lists::Words;
 use ng_base::txt::Txt;
-use ng_drawing::classes::{class_text, push_kept_words};
+use ng_drawing::classes::class_text;
 use ng_template::{ClassValue, Hiding};
-use ng_value::operators::truthy;
-use ng_value::snapshot::Snap;
-use std::alloc::AllocError;
-
-/// Whether a value was kept that counts as true.
-pub(crate) fn is_kept_true(kept: &Option<Snap>) -> bool
-    ensures { result ≡ is_kept_true_of (option_map snap_of kept.now) }
-{
-    match kept {
-        None => false,
-        Some(kept) => truthy(kept.view()),
-    }
-}
-
-/// Whether a value was kept that doesn't count as true.
-fn is_kept_false(kept: &Option<Snap>) -> bool
-    ensures { result ≡ is_kept_false_of (option_map snap_of kept.now) }
-{
-    match kept {
-        None => false,
-        Some(kept) => !truthy(kept.view()),
-    }
-}
-
-/// Adds the words that were kept.
-fn push_words(words: &mut Words, kept: &Option<Snap>) -> Result<(), AllocError>
-    ensures { OnOk result (words.new ≡ words.old ++ kept_words (option_map snap_of kept.now)) }
-{
-    match kept {
-        None => Ok(()),
-        Some(kept) => push_kept_words(words, kept),
-    }
-}
 
 /// The words that sites show.
 fn site_words(over: &Over<'_>, numbers: &[u32]) -> Result<Words, Fault>
@@ -58,7 +24,7 @@ fn site_words(over: &Over<'_>, numbers: &[u32]) -> Result<Words, Fault>
     let mut words = Words::new(over.alloc);
     for n in numbers {
         let shown = shown_now(over, *n)?;
-        push_words(&mut words, &shown)?;
+        push_words_at(over, &mut words, *n, &shown)?;
     }
     Ok(words)
 }
@@ -69,8 +35,14 @@ fn is_hiding(over: &Over<'_>, hiding: &Hiding) -> Result<bool, Fault>
     ensures { Gives is_memory Some (render_hiding (now_over over.now) (hiding_of hiding.now)) result }
 {
     match hiding {
-        Hiding::WhileTrue(n) => Ok(is_kept_true(&shown_now(over, *n)?)),
-        Hiding::WhileFalse(n) => Ok(is_kept_false(&shown_now(over, *n)?)),
+        Hiding::WhileTrue(n) => {
+            let shown = shown_now(over, *n)?;
+            Ok(is_true_at(over, *n, &shown))
+        }
+        Hiding::WhileFalse(n) => {
+            let shown = shown_now(over, *n)?;
+            Ok(is_false_at(over, *n, &shown))
+        }
     }
 }
 

@@ -6,7 +6,7 @@
 //!
 //! There is no document where a block has not the bodies that its expression calls for now; in a settled page each has.
 //!
-//! In reading order: `over` is what is asked, `snapshots` and `sites` what a site shows, `texts` joins pieces and sets attributes,
+//! In reading order: `over` is what is asked, `snapshots` and `sites` what a site has now, `seen` what is seen of it, `texts` joins pieces and sets attributes,
 //! `classes` has what a class shows, `groups` what fills an outlet, `parts` walks a fragment, and `rendering` goes through the bodies of
 //! an instance and has the call. Nothing here changes data.
 #![tactic(auto)]
@@ -16,6 +16,7 @@ mod groups;
 mod over;
 mod parts;
 pub mod rendering;
+mod seen;
 mod sites;
 mod snapshots;
 mod texts;

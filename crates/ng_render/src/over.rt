@@ -1,7 +1,8 @@
 //! What a rendering is computed over.
 ghost use Rattle.std.specs.Prelude.{◌≡◌, option_map};
 ghost use Rattle.std.specs.Option.{IfSome};
-ghost use Rattle.ng_drawing.specs.Drawing.{Now, shown_as};
+ghost use Rattle.ng_drawing.specs.Drawing.{shown_as};
+ghost use Rattle.ng_drawing.specs.Instance.{KeptNow};
 ghost use Rattle.ng_render.specs.OverOf.{AreKnown};
 ghost use Rattle.ng_value.specs.Snaps.{snap_of};
 
@@ -14,7 +15,7 @@ use ng_template::Site;
 use ng_value::snapshot::Snap;
 use std::alloc::Global;
 
-/// What the site of a number shows now, once it was asked.
+/// What the site of a number has now, once it was asked.
 #[derive(Drop)]
 pub(crate) struct Known {
     pub(crate) number: u32,
@@ -44,7 +45,7 @@ pub(crate) struct Over<'a> {
 
 /// What is known of the site of a number. An element's own sites have consecutive numbers, so it is looked for at one place.
 pub(crate) fn known_at<'a>(known: &'a [Known], n: u32) -> Option<&'a Known>
-    ensures { (now : Now) → AreKnown now known.now → IfSome result (λ one. now n ≡ shown_as (option_map snap_of one.now.shown)) }
+    ensures { (now : KeptNow) → AreKnown now known.now → IfSome result (λ one. now n ≡ shown_as (option_map snap_of one.now.shown)) }
 {
     let first = known.first()?;
     if n < first.number {

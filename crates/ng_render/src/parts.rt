@@ -8,7 +8,7 @@ ghost use Rattle.ng_language.specs.Trees.{Trees};
 ghost use Rattle.ng_markup.specs.Forest.{node as one_node, no_nodes};
 ghost use Rattle.ng_html.specs.Seen.{node_of, forest_of};
 ghost use Rattle.ng_template.specs.Seen.{part_of, contents_of, parts_of};
-ghost use Rattle.ng_render.specs.OverOf.{AreKnown, now_over, groups_over, Stands};
+ghost use Rattle.ng_render.specs.OverOf.{AreKnown, kept_over, now_over, groups_over, Stands};
 
 use crate::groups::{append, group_in};
 use crate::over::{Known, Over};
@@ -24,7 +24,7 @@ use std::alloc::{AllocError, Global};
 fn asked(over: &Over<'_>, own: &[u32]) -> Result<Vec<Known>, Fault>
     requires { Stands over.now }
     ensures gives { Gives is_memory (λ _. Some tt) (needed (now_over over.now) own.now) result }
-    ensures known { IfOk result (λ known. AreKnown (now_over over.now) known.items) }
+    ensures known { IfOk result (λ known. AreKnown (kept_over over.now) known.items) }
 {
     let mut known = Vec::new(over.alloc);
     for n in own {

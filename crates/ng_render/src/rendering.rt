@@ -5,6 +5,7 @@ ghost use Rattle.ng_base.specs.Meets.{Gives};
 ghost use Rattle.std.specs.List.{list_any};
 ghost use Rattle.ng_blocks.specs.Switching.{matches};
 ghost use Rattle.ng_drawing.specs.Cases.{case_in, cases_of, is_chosen as is_chosen_of, is_chosen_by as is_chosen_by_of, calls_for as calls_for_of};
+ghost use Rattle.ng_drawing.specs.Looks.{is_kept_true as is_kept_true_of};
 ghost use Rattle.ng_drawing.specs.Roles.{entries_kept, are_rows as are_rows_of};
 ghost use Rattle.ng_drawing.specs.RolesOf.{entries_of, role_of};
 ghost use Rattle.ng_drawing.specs.Rows.{is_as_called as is_as_called_of, is_included as is_included_of, is_filled as is_filled_of};
@@ -14,9 +15,8 @@ ghost use Rattle.ng_html.specs.Seen.{forest_of};
 ghost use Rattle.ng_template.specs.Kept.{templates_of, fragments_in};
 ghost use Rattle.ng_template.specs.FragmentOf.{outlet_of, outlets_of, filling_of};
 ghost use Rattle.ng_value.specs.Snaps.{snap_of};
-ghost use Rattle.ng_render.specs.OverOf.{group_of, now_over, Stands, InstanceStands, InstancesStand, OutletsStand};
+ghost use Rattle.ng_render.specs.OverOf.{group_of, kept_over, Stands, InstanceStands, InstancesStand, OutletsStand};
 
-use crate::classes::is_kept_true;
 use crate::groups::{append, group_from};
 use crate::over::{Group, Over};
 use crate::parts::rendered;
@@ -41,6 +41,16 @@ struct Ground<'a> {
     all: &'a Templates,
     store: &'a Store,
     scopes: &'a Scopes,
+}
+
+/// Whether a value was kept that counts as true.
+fn is_kept_true(kept: &Option<Snap>) -> bool
+    ensures { result ≡ is_kept_true_of (option_map snap_of kept.now) }
+{
+    match kept {
+        None => false,
+        Some(kept) => truthy(kept.view()),
+    }
 }
 
 /// Whether the site of a number rests.
@@ -213,7 +223,7 @@ fn filled(
     group: Group,
 ) -> Result<Group, Memory>
     requires { Stands over.now }
-    ensures { IfOk result (λ g. group_of g ≡ outlet_now (now_over over.now) (map state_of over.now.states.now) (cases_of (outlets_of outlets.now)) (outlet_of outlet.now) (map role_of roles.now) (group_of group)) }
+    ensures { IfOk result (λ g. group_of g ≡ outlet_now (kept_over over.now) (map state_of over.now.states.now) (cases_of (outlets_of outlets.now)) (outlet_of outlet.now) (map role_of roles.now) (group_of group)) }
 {
     if rests(over.states, outlet.site) {
         return Ok(group);
@@ -240,7 +250,7 @@ fn filled_at(
     group: Group,
 ) -> Result<Group, Memory>
     requires { Stands over.now }
-    ensures { IfOk result (λ g. group_of g ≡ outlet_at (now_over over.now) (map state_of over.now.states.now) (cases_of (outlets_of outlets.now)) (slice_get (outlets_of outlets.now) k) (map role_of roles.now) (group_of group)) }
+    ensures { IfOk result (λ g. group_of g ≡ outlet_at (kept_over over.now) (map state_of over.now.states.now) (cases_of (outlets_of outlets.now)) (slice_get (outlets_of outlets.now) k) (map role_of roles.now) (group_of group)) }
 {
     match outlets.get(k) {
         None => Ok(group),
@@ -301,7 +311,7 @@ fn rendered_outlets(
 ) -> Result<Vec<Group>, Fault>
     requires over { Stands over.now }
     requires stands { OutletsStand ground.now.store.now ground.now.scopes.now (outlets_from (map (bodies_of (fragments_in (templates_of ground.now.all.now))) bodies.now)) }
-    ensures groups { IfOk result (λ gs. map group_of gs.items ≡ rendering_in ground.now.store.now ground.now.scopes.now (now_over over.now) (map state_of over.now.states.now) (cases_of (outlets_of outlets.now)) (outlets_of outlets.now) (outlets_from (map (bodies_of (fragments_in (templates_of ground.now.all.now))) bodies.now))) }
+    ensures groups { IfOk result (λ gs. map group_of gs.items ≡ rendering_in ground.now.store.now ground.now.scopes.now (kept_over over.now) (map state_of over.now.states.now) (cases_of (outlets_of outlets.now)) (outlets_of outlets.now) (outlets_from (map (bodies_of (fragments_in (templates_of ground.now.all.now))) bodies.now))) }
     ensures faults { IfErr result (λ e. is_memory e ≡ true) }
 {
     let mut groups = Vec::new(ground.alloc);

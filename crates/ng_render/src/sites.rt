@@ -1,50 +1,38 @@
-//! What a site shows.
-ghost use Rattle.std.specs.Prelude.{◌≡◌, ◌<◌, [], length, option_map, Some, IfOk};
+//! What a site has now, and which control's model it is.
+ghost use Rattle.std.specs.Prelude.{◌≡◌, ◌<◌, [], length, map, option_map, option_copied, slice_get, Some, IfOk};
 ghost use Rattle.ng_base.specs.Faults.{is_memory};
 ghost use Rattle.ng_base.specs.Meets.{Gives};
 ghost use Rattle.ng_base.specs.ViewOf.{view_of};
-ghost use Rattle.ng_drawing.specs.Instance.{snapshot_now as snapshot_now_of, site_now as site_now_of};
+ghost use Rattle.ng_drawing.specs.Instance.{snapshot_now as snapshot_now_of, site_now as site_now_of, state_control};
 ghost use Rattle.ng_drawing.specs.InstanceOf.{state_of};
-ghost use Rattle.ng_drawing.specs.Looks.{kept_text as kept_text_of};
 ghost use Rattle.ng_language.specs.Views.{ViewStands};
 ghost use Rattle.ng_template.specs.SiteOf.{site_of};
 ghost use Rattle.ng_value.specs.Snaps.{snap_of};
 ghost use Rattle.ng_view.specs.Evaluation.{evaluated_program};
-ghost use Rattle.ng_render.specs.OverOf.{now_over, StateStands, Stands};
+ghost use Rattle.ng_render.specs.OverOf.{kept_over, StateStands, Stands};
 
 use crate::over::{Over, known_at};
 use crate::snapshots::snapshot;
 use ng_base::fault::{Fault, Memory};
 use ng_base::locals::Locals;
 use ng_base::name::Oid;
-use ng_base::txt::Txt;
-use ng_base::value::Value;
 use ng_base::view::View;
+use ng_control::Control;
 use ng_drawing::instance::SiteState;
 use ng_store::store::Store;
 use ng_template::Site;
 use ng_value::copies::copied;
 use ng_value::snapshot::Snap;
 use ng_view::view;
-use std::alloc::{AllocError, Global};
+use std::alloc::Global;
 
-/// The text that a snapshot holds.
-fn text_in(alloc: Global, kept: &Snap) -> Result<Txt, AllocError>
-    ensures { IfOk result (λ t. t ≡ kept_text_of (Some (snap_of kept.now))) }
+/// The control whose model the site of a number is.
+pub(crate) fn control_at<'a>(over: &Over<'a>, n: u32) -> Option<&'a Control>
+    ensures { option_copied result ≡ state_control (slice_get (map state_of over.now.states.now) n) }
 {
-    match kept.view() {
-        View::Prim(Value::Text(text)) => text.copied(),
-        _ => Ok(Txt::new(alloc)),
-    }
-}
-
-/// The text that was kept, if one was.
-pub(crate) fn kept_text(alloc: Global, kept: &Option<Snap>) -> Result<Txt, AllocError>
-    ensures { IfOk result (λ t. t ≡ kept_text_of (option_map snap_of kept.now)) }
-{
-    match kept {
-        None => Ok(Txt::new(alloc)),
-        Some(kept) => text_in(alloc, kept),
+    match over.states.get(n as usize) {
+        None => None,
+        Some(state) => state.control.as_ref(),
     }
 }
 
@@ -95,7 +83,7 @@ fn site_now(over: &Over<'_>, site: &Site, state: &SiteState) -> Result<Option<Sn
 /// What the site of a number shows, computed.
 fn computed(over: &Over<'_>, n: u32) -> Result<Option<Snap>, Fault>
     requires { Stands over.now }
-    ensures { Gives is_memory (λ s. Some (option_map snap_of s)) (now_over over.now n) result }
+    ensures { Gives is_memory (λ s. Some (option_map snap_of s)) (kept_over over.now n) result }
 {
     let Some(site) = over.sites.get(n as usize) else {
         return Ok(None);
@@ -109,7 +97,7 @@ fn computed(over: &Over<'_>, n: u32) -> Result<Option<Snap>, Fault>
 /// What the site of a number shows. What is known isn't computed again.
 pub(crate) fn shown_now(over: &Over<'_>, n: u32) -> Result<Option<Snap>, Fault>
     requires { Stands over.now }
-    ensures { Gives is_memory (λ s. Some (option_map snap_of s)) (now_over over.now n) result }
+    ensures { Gives is_memory (λ s. Some (option_map snap_of s)) (kept_over over.now n) result }
 {
     match known_at(over.known, n) {
         None => computed(over, n),

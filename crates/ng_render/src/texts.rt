@@ -9,9 +9,10 @@ ghost use Rattle.ng_template.specs.AttributeOf.{value_of};
 ghost use Rattle.ng_template.specs.PieceOf.{piece_of};
 ghost use Rattle.ng_render.specs.OverOf.{now_over, Stands};
 
-use crate::classes::{class_now, is_kept_true};
+use crate::classes::class_now;
 use crate::over::Over;
-use crate::sites::{kept_text, shown_now};
+use crate::seen::{is_true_at, text_at};
+use crate::sites::shown_now;
 use ng_base::fault::Fault;
 use ng_base::txt::Txt;
 use ng_html::attrs::Attrs;
@@ -25,7 +26,7 @@ pub(crate) fn hole_text(over: &Over<'_>, n: u32) -> Result<Txt, Fault>
     ensures { Gives is_memory Some (render_piece (now_over over.now) (hole n)) result }
 {
     let shown = shown_now(over, n)?;
-    Ok(kept_text(over.alloc, &shown)?)
+    Ok(text_at(over, n, &shown)?)
 }
 
 /// What a piece shows.
@@ -71,13 +72,13 @@ fn if_any(text: Txt) -> Option<Txt>
     if text.is_empty() { None } else { Some(text) }
 }
 
-/// A word, where the value of a site is true.
+/// A word, where a site is seen as true.
 fn flag_text(over: &Over<'_>, word: &Txt, n: u32) -> Result<Option<Txt>, Fault>
     requires { Stands over.now }
     ensures { Gives is_memory Some (render_value (now_over over.now) (flag word.now n)) result }
 {
     let shown = shown_now(over, n)?;
-    if is_kept_true(&shown) {
+    if is_true_at(over, n, &shown) {
         Ok(Some(word.copied()?))
     } else {
         Ok(None)

@@ -8,7 +8,7 @@ use Rattle.ng_digest.specs.declared.rounds.DigestFault.{DigestFault}
 use Rattle.ng_language.specs.Trees.{Trees}
 use Rattle.ng_link.specs.Events.{handlers_at}
 use Rattle.ng_link.specs.State.{State}
-use Rattle.ng_page.specs.Dispatch.{Happening, Event, Going, Told, outcome_told, way, has_turn, handled, TakesTurn, MayTakeTurn, Handles, is_stopped, Unless, Bubbles, before, Dispatches}
+use Rattle.ng_page.specs.Dispatch.{Happening, Event, Going, Told, outcome_told, way, has_turn, handled, has_touch, touched, TakesTurn, MayTakeTurn, Handles, Touches, MayTouch, HandlesAt, is_stopped, Unless, Bubbles, before, Dispatches}
 use Rattle.ng_page.specs.Steps.{Outcome}
 use Rattle.ng_run.proofs.OneDigest.{answer_one, ends_one}
 
@@ -61,6 +61,28 @@ module _ (x : Happening) where
       let two = handles_one n programs mid rest back h k more (subst (λ (z : Going). Handles x n programs z back k) (sym one.1) further) in
       (both_told os first rest ps front back e f one.0 two.0, two.1)
 
+  -- ---- at a node
+
+  touch_one : (n : ℕ) (g : Going) (o q : Told) (h k : Going) → Touches n g o h → Touches n g q k → (o ≡ q) × (h ≡ k)
+  touch_one n g o q h k a b =
+      let s = touched n g in
+      let one = ends_one s (outcome_told o) (outcome_told q) h.state k.state a.ends b.ends in
+      let digest = answer_one (live_at s.core.scopes 0) s o.digest q.digest h.state k.state (ap (λ (z : Outcome). z.digest) one.0) a.short b.short in (
+        same_told o q (ap (λ (z : Outcome). z.count) one.0) (ap (λ (z : Outcome). z.first) one.0) digest (ap (λ (z : Outcome). z.probed) one.0),
+        same_going h k one.1 (a.event ∙ sym b.event),
+      )
+
+  may_touch_one : (b : Bool) (n : ℕ) (g : Going) (os ps : List Told) (h k : Going) → MayTouch b n g os h → MayTouch b n g ps k → AreOne os ps h k
+  may_touch_one true n g os ps h k (o, a, e) (q, b, f) = let one = touch_one n g o q h k a b in (e ∙ (ap (λ (z : Told). z ∷ []) one.0 ∙ sym f), one.1)
+  may_touch_one false n g os ps h k a b = (a.0 ∙ sym b.0, a.1 ∙ sym b.1)
+
+  node_one : (n : ℕ) (g : Going) (os ps : List Told) (h k : Going) → HandlesAt x n g os h → HandlesAt x n g ps k → AreOne os ps h k
+  node_one n g os ps h k (mid, first, rest, a, more, e) (half, front, back, b, further, f) =
+      let programs = handlers_at g.state n x.type in
+      let one = may_touch_one (has_touch x n g) n g first front mid half a b in
+      let two = handles_one n programs mid rest back h k more (subst (λ (z : Going). Handles x n programs z back k) (sym one.1) further) in
+      (both_told os first rest ps front back e f one.0 two.0, two.1)
+
   unless_one : (b : Bool) (Goes : Going → List Told → Going → Type 0) → ((g : Going) (os ps : List Told) (h k : Going) → Goes g os h → Goes g ps k → AreOne os ps h k)
       → (g : Going) (os ps : List Told) (h k : Going) → Unless b Goes g os h → Unless b Goes g ps k → AreOne os ps h k
   unless_one true Goes one g os ps h k a b = (a.0 ∙ sym b.0, a.1 ∙ sym b.1)
@@ -68,13 +90,13 @@ module _ (x : Happening) where
 
   -- what goes on from a node, where bubbling isn't stopped
   abbrev GoesOn : ℕ → List ℕ → Going → List Told → Going → Type 0
-  GoesOn n ns g os h = (mid : Going) × (first : List Told) × (rest : List Told) × Handles x n (handlers_at g.state n x.type) g first mid × Bubbles x ns mid rest h × (os ≡ first ++ rest)
+  GoesOn n ns g os h = (mid : Going) × (first : List Told) × (rest : List Told) × HandlesAt x n g first mid × Bubbles x ns mid rest h × (os ≡ first ++ rest)
 
   -- one at a node, where what comes after it is one
   goes_on_one : (n : ℕ) (ns : List ℕ) → ((g : Going) (os ps : List Told) (h k : Going) → Bubbles x ns g os h → Bubbles x ns g ps k → AreOne os ps h k)
       → (g : Going) (os ps : List Told) (h k : Going) → GoesOn n ns g os h → GoesOn n ns g ps k → AreOne os ps h k
   goes_on_one n ns then_one g os ps h k (mid, first, rest, a, more, e) (half, front, back, b, further, f) =
-      let one = handles_one n (handlers_at g.state n x.type) g first front mid half a b in
+      let one = node_one n g first front mid half a b in
       let two = then_one mid rest back h k more (subst (λ (z : Going). Bubbles x ns z back k) (sym one.1) further) in
       (both_told os first rest ps front back e f one.0 two.0, two.1)
 

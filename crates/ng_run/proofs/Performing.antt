@@ -20,8 +20,6 @@ use Rattle.ng_page.specs.declared.outcome.PageFault.{PageFault}
 use Rattle.ng_page.specs.declared.outcome.PageFault.TheVariants as fault
 use Rattle.ng_page.specs.declared.page.Page.{Page}
 use Rattle.ng_script.specs.Acts.{Act, Entry}
-use Rattle.ng_script.specs.declared.commands.ScopeOf.{ScopeOf}
-use Rattle.ng_run.specs.Aims.{scope_in}
 use Rattle.ng_run.specs.Happenings.{Fired, fired_by, event_step, left_after, HasTold, DoesEvent}
 use Rattle.ng_run.specs.Lines.{header}
 use Rattle.ng_run.specs.Performed.{Answers, AnswersFired, Performed, FiredAt, PerformedAct, IsStepOf}
@@ -59,13 +57,13 @@ performed a old new (Err fault.Spent) (Ok d) ready h e = absurd e
 performed a old new (Err fault.Spent) (Err m) ready h e = tt
 performed a old new (Err (fault.Memory n)) d ready h e = subst (λ x. Performed (Some a) old x new) (sym e) tt
 
--- a call on the scope that a command is aimed at
-module _ (o : ScopeOf) (old : Page) (f : ℕ → Asked) where
-  pub nowhere : None ≡ scope_in o (state_of old) → Performed (option_map f (scope_in o (state_of old))) old (Ok done.Aimless) old
+-- a call on what a command is aimed at, a scope or a control
+module _ (o : Option ℕ) (old : Page) (f : ℕ → Asked) where
+  pub nowhere : None ≡ o → Performed (option_map f o) old (Ok done.Aimless) old
   nowhere at = subst (λ x. Performed (option_map f x) old (Ok done.Aimless) old) at (refl, refl)
 
-  pub performed_on : (n : ℕ) (new : Page) (r : Result Outcome PageFault) (d : Result Done Memory) → Some n ≡ scope_in o (state_of old) → IsReady old → Commanded (f n) old r new → Answers r d
-      → Performed (option_map f (scope_in o (state_of old))) old d new
+  pub performed_on : (n : ℕ) (new : Page) (r : Result Outcome PageFault) (d : Result Done Memory) → Some n ≡ o → IsReady old → Commanded (f n) old r new → Answers r d
+      → Performed (option_map f o) old d new
   performed_on n new r d at ready h k = subst (λ x. Performed (option_map f x) old d new) at (performed (f n) old new r d ready h k)
 
 -- the root is among the scopes of a page

@@ -48,7 +48,7 @@ abbrev pub DoesUnlessIdle : Bool → Bool → List ℕ → Asked → State → S
 DoesUnlessIdle true trace head a s step left = (step ≡ idle_step head) × (left ≡ same_page s)
 DoesUnlessIdle false trace head a s step left = Performs trace head a s step left
 
--- nor where no element stands at the target
+-- nor where no element stands at the target, or no control of its kind
 abbrev pub DoesAsked : Bool → List ℕ → Option Asked → State → Step → Left → Type 0
 DoesAsked trace head None s step left = (step ≡ aimless_step head) × (left ≡ same_page s)
 DoesAsked trace head (Some a) s step left = DoesUnlessIdle (is_idle a s) trace head a s step left

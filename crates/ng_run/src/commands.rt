@@ -4,12 +4,15 @@ ghost use Rattle.std.specs.Option.{IfSome};
 ghost use Rattle.serde_json.specs.Data.{object, no_members};
 ghost use Rattle.serde_json.specs.Find.{as_array};
 ghost use Rattle.serde_json.specs.View.{view};
-ghost use Rattle.ng_page.specs.Commands.{applies, destroys_scope, emits, broadcasts};
+ghost use Rattle.ng_control.specs.Typed.{TakesText, IsCheckbox};
+ghost use Rattle.ng_link.specs.Controls.{IsOfKind};
+ghost use Rattle.ng_link.specs.Events.{state_by, control_at};
+ghost use Rattle.ng_page.specs.Commands.{applies, destroys_scope, emits, broadcasts, types, checks};
 ghost use Rattle.ng_page.specs.PageOf.{state_of};
 ghost use Rattle.ng_parse.specs.ProgramOf.{program as program_of};
 ghost use Rattle.ng_script.specs.Acts.{act_of, entry_of};
 ghost use Rattle.ng_inputs.specs.Acts.{IsSound};
-ghost use Rattle.ng_run.specs.Aims.{scope_in};
+ghost use Rattle.ng_run.specs.Aims.{scope_in, takes_text as takes_text_of, is_checkbox as is_checkbox_of, if_control, control_in};
 ghost use Rattle.ng_run.specs.Happenings.{fired_by};
 ghost use Rattle.ng_run.specs.Performed.{Answers, AnswersFired, Performed, FiredBy, PerformedAct, IsStepOf};
 ghost use Rattle.ng_run.specs.ReplyOf.{IsReady};
@@ -19,9 +22,10 @@ use crate::lines::header;
 use crate::reply::Lines;
 use crate::step::{aimless, idle, step};
 use ng_base::fault::Memory;
-use ng_base::name::ScopeId;
+use ng_base::name::{NodeId, ScopeId};
 use ng_base::path::Target;
 use ng_base::txt::Txt;
+use ng_control::ControlKind;
 use ng_page::outcome::{Outcome, Outcomes, PageFault};
 use ng_page::page::Page;
 use ng_parse::Program;
@@ -30,7 +34,7 @@ use ng_words::words::Flags;
 use serde_json::{Map, Value as Json};
 use std::alloc::Global;
 
-/// What became of a command: no element stands at its target; nothing was to be done; it was done; or the handlers of its event have
+/// What became of a command: no element, or no control of its kind, stands at its target; nothing was to be done; it was done; or the handlers of its event have
 /// run.
 #[derive(Drop)]
 pub(crate) enum Done {
@@ -146,7 +150,97 @@ fn click(alloc: Global, page: &mut Page, target: &Target) -> Result<Done, Memory
     fire(page, target, &event, &Json::Object(Map::new(alloc)))
 }
 
-/// Does what a command asks of the page. Those of controls ask nothing yet, and are refused with the script.
+/// Whether a text is typed into controls of a kind.
+fn takes_text(kind: ControlKind) -> bool
+    ensures { result ≡ takes_text_of kind }
+{
+    match kind {
+        ControlKind::Text { .. } => true,
+        ControlKind::Number => true,
+        ControlKind::Checkbox => false,
+    }
+}
+
+/// Whether controls of a kind are checked.
+fn is_checkbox(kind: ControlKind) -> bool
+    ensures { result ≡ is_checkbox_of kind }
+{
+    match kind {
+        ControlKind::Text { .. } => false,
+        ControlKind::Number => false,
+        ControlKind::Checkbox => true,
+    }
+}
+
+/// A node, where it is a control that a text is typed into.
+fn text_at(page: &Page, node: NodeId) -> Option<NodeId>
+    ensures found { option_map (λ n. n.made.0) result ≡ if_control takes_text_of (state_of page.now) (Some node.made.0) }
+    ensures control { IfSome result (λ n. IsOfKind TakesText (state_by (control_at (state_of page.now) n.made.0) (state_of page.now))) }
+{
+    match page.control_of(node) {
+        None => None,
+        Some(kind) => { if takes_text(kind) { Some(node) } else { None } }
+    }
+}
+
+/// The control that a text is typed into, where one stands at a target.
+fn text_control(page: &Page, target: &Target) -> Option<NodeId>
+    requires { IsReady page.now }
+    ensures found { option_map (λ n. n.made.0) result ≡ control_in takes_text_of target.now (state_of page.now) }
+    ensures control { IfSome result (λ n. IsOfKind TakesText (state_by (control_at (state_of page.now) n.made.0) (state_of page.now))) }
+{
+    match page.find(target) {
+        None => None,
+        Some(node) => text_at(page, node),
+    }
+}
+
+/// A node, where it is a checkbox that is a control.
+fn checkbox_at(page: &Page, node: NodeId) -> Option<NodeId>
+    ensures found { option_map (λ n. n.made.0) result ≡ if_control is_checkbox_of (state_of page.now) (Some node.made.0) }
+    ensures control { IfSome result (λ n. IsOfKind IsCheckbox (state_by (control_at (state_of page.now) n.made.0) (state_of page.now))) }
+{
+    match page.control_of(node) {
+        None => None,
+        Some(kind) => { if is_checkbox(kind) { Some(node) } else { None } }
+    }
+}
+
+/// The checkbox that stands at a target.
+fn checkbox(page: &Page, target: &Target) -> Option<NodeId>
+    requires { IsReady page.now }
+    ensures found { option_map (λ n. n.made.0) result ≡ control_in is_checkbox_of target.now (state_of page.now) }
+    ensures control { IfSome result (λ n. IsOfKind IsCheckbox (state_by (control_at (state_of page.now) n.made.0) (state_of page.now))) }
+{
+    match page.find(target) {
+        None => None,
+        Some(node) => checkbox_at(page, node),
+    }
+}
+
+/// A text is typed into a control.
+fn type_text(page: &mut Page, target: &Target, text: &Txt) -> Result<Done, Memory>
+    requires { IsReady page.old }
+    ensures { Performed (option_map (λ n. types n text.now) (control_in takes_text_of target.now (state_of page.old))) page.old result page.new }
+{
+    match text_control(page, target) {
+        None => Ok(Done::Aimless),
+        Some(node) => answered(page.type_text(node, text)),
+    }
+}
+
+/// A checkbox is checked, or not.
+fn check(page: &mut Page, target: &Target, on: bool) -> Result<Done, Memory>
+    requires { IsReady page.old }
+    ensures { Performed (option_map (λ n. checks n on) (control_in is_checkbox_of target.now (state_of page.old))) page.old result page.new }
+{
+    match checkbox(page, target) {
+        None => Ok(Done::Aimless),
+        Some(node) => answered(page.check(node, on)),
+    }
+}
+
+/// Does what a command asks of the page.
 fn perform(alloc: Global, page: &mut Page, what: &What) -> Result<Done, Memory>
     requires ready { IsReady page.old }
     requires sound { IsSound (act_of what.now) }
@@ -167,8 +261,8 @@ fn perform(alloc: Global, page: &mut Page, what: &What) -> Result<Done, Memory>
             target,
             extra,
         } => fire(page, target, event, extra),
-        What::Typed { .. } => Ok(Done::Aimless),
-        What::Check { .. } => Ok(Done::Aimless),
+        What::Typed { target, text } => type_text(page, target, text),
+        What::Check { target, on } => check(page, target, *on),
     }
 }
 

@@ -104,7 +104,7 @@ pub(crate) fn idle(header: Vec<u8>) -> Result<Lines, AllocError>
     Ok(Lines { piece, well: true })
 }
 
-/// A step that did nothing, since no element stands at its target.
+/// A step that did nothing, since no element stands at its target, or no control of its kind.
 pub(crate) fn aimless(header: Vec<u8>) -> Result<Lines, AllocError>
     ensures { IfOk result (λ l. step_seen l ≡ aimless_step header.items) }
 {

@@ -8,8 +8,7 @@ use ng_base::fault::Memory;
 use std::alloc::{AllocError, AllocFailed};
 use thiserror::Error;
 
-/// Why a line of a script is refused. `Later` is a command that is not built yet: the reader takes it, and the run
-/// refuses it.
+/// Why a line of a script is refused.
 #[derive(Clone, Copy, Debug, PartialEq, Eq, Error)]
 pub enum ScriptKind {
     #[error("Utf8")]
@@ -24,8 +23,6 @@ pub enum ScriptKind {
     TooMany,
     #[error("BadArgument")]
     BadArgument,
-    #[error("Later")]
-    Later,
     #[error("{0}")]
     Memory(Memory),
 }

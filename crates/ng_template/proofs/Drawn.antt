@@ -1,16 +1,18 @@
 -- What an element's directives set is drawn from the element's own sites.
-use Rattle.std.proofs.Common.{◌≡◌, ◌<◌, ◌≤◌, ◌+◌, ℕ, Bool, true, List, [], ◌∷◌, ◌++◌, length, Option, None, Some, Result, Ok, Err, refl, ap, sym, subst, ◌∙◌, length-append, arith}
+use Rattle.std.proofs.Common.{◌≡◌, ◌<◌, ◌≤◌, ◌+◌, ℕ, Bool, true, false, cond, List, [], ◌∷◌, ◌++◌, length, Option, None, Some, Result, Ok, Err, refl, ap, sym, subst, ◌∙◌, length-append, arith}
 use Rattle.std.proofs.lemmas.Bool.{and_parts, and_from, leb-true, le-leb, ltb-true, lt-ltb, ne_eqb, not_from_false}
 use Rattle.std.proofs.lemmas.List.Folds.{list_all-append}
 use Rattle.std.specs.List.{list_all}
 use Rattle.std.specs.Map.{lookup}
-use Rattle.std.specs.Prelude.{◌&&◌, ◌==◌, not, nat_le, nat_lt, codes}
+use Rattle.std.specs.Prelude.{◌&&◌, ◌==◌, not, nat_le, nat_lt, option_map, codes}
 use Rattle.std.specs.Str.{bytes_eq}
 use Rattle.ng_base.specs.Meets.{◌>>=◌}
 use Rattle.ng_base.proofs.Binds.{if_held}
 use Rattle.ng_collect.specs.Cloak.{kept_attributes}
 use Rattle.ng_collect.specs.declared.pick.Pick.{Pick}
-use Rattle.ng_drawing.specs.Template.{Site, Hiding, while_true, while_false, PartClass, PartAttributes, classes}
+use Rattle.ng_control.specs.declared.kind.ControlKind.{ControlKind}
+use Rattle.ng_control.specs.declared.kind.ControlKind.TheVariants as controls
+use Rattle.ng_drawing.specs.Template.{Site, Control, Hiding, while_true, while_false, PartClass, PartAttributes, always, classes}
 use Rattle.ng_drawing.specs.Template as template
 use Rattle.ng_drawing.specs.declared.kind.SiteKind.{SiteKind}
 use Rattle.ng_drawing.specs.declared.kind.SiteKind.TheVariants as kinds
@@ -20,13 +22,14 @@ use Rattle.ng_language.specs.OneTime.{one_time_of}
 use Rattle.ng_language.specs.Trees.{Trees}
 use Rattle.ng_markup.specs.Forest.{Attributes}
 use Rattle.ng_template.specs.Compiles.{class_with, bare}
-use Rattle.ng_template.specs.Directives.{Head, name_on, text_on, whole, parts_for, kind_for, set_by, class_by, bound_by, switch_by, with_parts, is_classed, class_setting, attributes_of}
+use Rattle.ng_template.specs.Directives.{Head, name_on, text_on, whole, parts_for, kind_for, set_by, class_by, bound_by, switch_by, with_parts, with_model, changed_more, with_change, is_classed, class_setting, control_attribute, control_setting, with_states, attributes_of}
 use Rattle.ng_template.specs.Manners.{target_of}
 use Rattle.ng_template.specs.Plain.{plain_values}
 use Rattle.ng_template.specs.Numbering.{is_within, is_apart, is_piece_drawn, is_hiding_drawn, is_class_drawn, is_value_drawn, are_drawn}
 use Rattle.ng_template.specs.Texts.{numbered, sites_in}
+use Rattle.ng_template.specs.Writing.{is_named_piece, not_named, named_only}
 use Rattle.ng_template.specs.declared.manners.Setting.{Setting}
-use Rattle.ng_template.specs.declared.manners.Setting.TheVariants.{Interpolates, Links, Switches, Binds, Classes, Shows, Hides, Chooses}
+use Rattle.ng_template.specs.declared.manners.Setting.TheVariants.{Interpolates, Links, Switches, Binds, Classes, Shows, Hides, Chooses, Names}
 use Rattle.ng_template.proofs.Numbers.{numbered-drawn, class_more, attributes_more}
 
 -- whether a number is not this one
@@ -43,6 +46,11 @@ abbrev pub is_bound_within : ℕ → ℕ → Option ℕ → Bool
 is_bound_within n c None = true
 is_bound_within n c (Some b) = is_within n c b
 
+-- the site of a control
+abbrev pub is_control_drawn : (ℕ → Bool) → Option Control → Bool
+is_control_drawn test None = true
+is_control_drawn test (Some c) = test c.site
+
 -- an element whose own sites are those from n on
 pub record Drawn (n : ℕ) (h : Head) : Type 0 where
   pub least : n ≤ length h.sites
@@ -50,6 +58,7 @@ pub record Drawn (n : ℕ) (h : Head) : Type 0 where
   pub switch : is_bound_within n (length h.sites) h.switch ≡ true
   pub attributes : are_drawn (apart_from h.bound h.switch n (length h.sites)) h.attributes ≡ true
   pub class : is_class_drawn (apart_from h.bound h.switch n (length h.sites)) h.class ≡ true
+  pub control : is_control_drawn (apart_from h.bound h.switch n (length h.sites)) h.acts.control ≡ true
 
 pub both_all : {A : Type 0} (p : A → Bool) (xs ys : List A) → list_all p xs ≡ true → list_all p ys ≡ true → list_all p (xs ++ ys) ≡ true
 both_all p xs ys e h = list_all-append p xs ys ∙ and_from (list_all p xs) (list_all p ys) e h
@@ -107,7 +116,13 @@ module _ (n c d : ℕ) (up : c ≤ d) where
   old Classes o w k e = still_apart o w k e o w (λ x. x) (λ x. x)
   old Shows o w k e = still_apart o w k e o w (λ x. x) (λ x. x)
   old Hides o w k e = still_apart o w k e o w (λ x. x) (λ x. x)
+  old Names o w k e = still_apart o w k e o w (λ x. x) (λ x. x)
   old Chooses o w k e = still_apart o w k e o (Some c) (λ x. x) (λ x. not_above c k (within_parts n c k (apart_parts n c o w k e).0).1)
+
+  -- and so is the site of a control that is there
+  control_still : (s : Setting) (o w : Option ℕ) (x : Option Control) → is_control_drawn (apart_from o w n c) x ≡ true → is_control_drawn (apart_from (bound_by s c o) (switch_by s c w) n d) x ≡ true
+  control_still s o w None e = refl
+  control_still s o w (Some x) e = old s o w x.site e
 
   -- and a new one from those that were
   apart_new : (o w : Option ℕ) → n ≤ c → is_bound_within n c o ≡ true → is_bound_within n c w ≡ true → (k : ℕ) → c ≤ k → k < d → apart_from o w n d k ≡ true
@@ -172,6 +187,7 @@ module _ (n c : ℕ) (o w : Option ℕ) (l : n ≤ c) (b : is_bound_within n c o
   set_drawn Shows own target e = refl
   set_drawn Hides own target e = refl
   set_drawn Chooses own target e = refl
+  set_drawn Names own target e = refl
 
   class_drawn : (s : Setting) (own : List ℕ) (cl : PartClass) → parts_for s t ≡ Ok ps → is_class_drawn (test s) cl ≡ true → is_class_drawn (test s) (class_by s own c (numbered c ps) cl) ≡ true
   class_drawn Interpolates own cl e h =
@@ -184,6 +200,7 @@ module _ (n c : ℕ) (o w : Option ℕ) (l : n ≤ c) (b : is_bound_within n c o
   class_drawn Shows own cl e h = with_hiding (test Shows) cl h (while_false c) (first_new kinds.Reference e)
   class_drawn Hides own cl e h = with_hiding (test Hides) cl h (while_true c) (first_new kinds.Reference e)
   class_drawn Chooses own cl e h = h
+  class_drawn Names own cl e h = h
 
   bound_drawn : (s : Setting) → parts_for s t ≡ Ok ps → is_bound_within n (end s) (bound_by s c o) ≡ true
   bound_drawn Interpolates e = bound_more n c (end Interpolates) (omega arith) o b
@@ -194,6 +211,7 @@ module _ (n c : ℕ) (o w : Option ℕ) (l : n ≤ c) (b : is_bound_within n c o
   bound_drawn Shows e = bound_more n c (end Shows) (omega arith) o b
   bound_drawn Hides e = bound_more n c (end Hides) (omega arith) o b
   bound_drawn Chooses e = bound_more n c (end Chooses) (omega arith) o b
+  bound_drawn Names e = bound_more n c (end Names) (omega arith) o b
 
   switch_drawn : (s : Setting) → parts_for s t ≡ Ok ps → is_bound_within n (end s) (switch_by s c w) ≡ true
   switch_drawn Interpolates e = bound_more n c (end Interpolates) (omega arith) w v
@@ -203,6 +221,7 @@ module _ (n c : ℕ) (o w : Option ℕ) (l : n ≤ c) (b : is_bound_within n c o
   switch_drawn Classes e = bound_more n c (end Classes) (omega arith) w v
   switch_drawn Shows e = bound_more n c (end Shows) (omega arith) w v
   switch_drawn Hides e = bound_more n c (end Hides) (omega arith) w v
+  switch_drawn Names e = bound_more n c (end Names) (omega arith) w v
   switch_drawn Chooses e = let h = whole_one kinds.Deep e in within_from n (end Chooses) c l (omega arith)
 
 -- a directive more
@@ -239,7 +258,51 @@ module _ (p : Pick) (s : Setting) (ps : List Piece) (e : parts_for s (text_on p.
     switch = subst (λ c. is_bound_within n c (switch_by s first h.switch) ≡ true) (sym size) (switch_drawn n first h.bound h.switch g.least g.bound g.switch (text_on p.attribute) ps s e);
     attributes = subst (λ c. are_drawn (apart_from (bound_by s first h.bound) (switch_by s first h.switch) n c) (with_parts p s ps h).attributes ≡ true) (sym size) attributes_now;
     class = subst (λ c. is_class_drawn (apart_from (bound_by s first h.bound) (switch_by s first h.switch) n c) (with_parts p s ps h).class ≡ true) (sym size) class_now;
+    control = subst (λ c. is_control_drawn (apart_from (bound_by s first h.bound) (switch_by s first h.switch) n c) h.acts.control ≡ true) (sym size) (control_still n first last (omega arith) s h.bound h.switch h.acts.control g.control);
   }
+
+-- the text of a model is a whole expression
+abbrev read : List Piece → Result (List Piece) InterpFault
+read ps = Ok ps
+
+abbrev read_if : Bool → List Piece → Result (List Piece) InterpFault
+read_if b ps = cond b (Ok ps) (Err not_named)
+
+read_whole : (b : Bool) (qs ps : List Piece) → read_if b qs ≡ read ps → read qs ≡ read ps
+read_whole true qs ps h = h
+read_whole false qs ps h = absurd (cc)
+
+named_whole : (r : Result (List Piece) InterpFault) (ps : List Piece) → (r >>= named_only) ≡ Ok ps → r ≡ Ok ps
+named_whole (Err f) ps e = absurd (cc)
+named_whole (Ok qs) ps e = read_whole (list_all is_named_piece qs) qs ps e
+
+-- a model, whose site is the control's
+module _ (p : Pick) (b : Trees) (ps : List Piece) (e : parts_for Names (text_on p.attribute) ≡ Ok ps) (n : ℕ) (h : Head) (g : Drawn n h) where
+  abbrev modelled : Head
+  modelled = with_model (length h.sites) b h
+
+  its_site : apart_from h.bound h.switch n (length h.sites + length (sites_in kinds.Deep ps)) (length h.sites) ≡ true
+  its_site = first_new n (length h.sites) h.bound h.switch g.least g.bound g.switch (text_on p.attribute) ps kinds.Deep (named_whole (whole (text_on p.attribute)) ps e)
+
+  pub model_drawn : Drawn n (with_parts p Names ps modelled)
+  model_drawn =
+      let d : Drawn n (with_parts p Names ps h) = parts_drawn p Names ps e n h g in
+      record {
+        least = d.least;
+        bound = d.bound;
+        switch = d.switch;
+        attributes = d.attributes;
+        class = d.class;
+        control = subst (λ c. apart_from h.bound h.switch n c (length h.sites) ≡ true) (sym (length-append h.sites (sites_in kinds.Deep ps))) its_site;
+      }
+
+-- a program that runs after a control's model was written
+pub change_drawn : (b : Trees) (n : ℕ) (h : Head) → Drawn n h → Drawn n (with_change b h)
+change_drawn b n h g = record { least = g.least; bound = g.bound; switch = g.switch; attributes = g.attributes; class = g.class; control = by_control h.acts.control g.control }
+  where
+    by_control : (c : Option Control) → is_control_drawn (apart_from h.bound h.switch n (length h.sites)) c ≡ true → is_control_drawn (apart_from h.bound h.switch n (length h.sites)) (option_map (changed_more b) c) ≡ true
+    by_control None e = e
+    by_control (Some c) e = e
 
 -- no directive yet
 pub plain_drawn : (test : ℕ → Bool) (ats : Attributes) → are_drawn test (plain_values ats) ≡ true
@@ -250,22 +313,43 @@ class_with_drawn : (test : ℕ → Bool) (o : Option (List ℕ)) → is_class_dr
 class_with_drawn test None = refl
 class_with_drawn test (Some t) = refl
 
-pub bare_drawn : (ats : Attributes) (sites : List Site) → Drawn (length sites) (bare ats sites)
-bare_drawn ats sites = record {
+pub bare_drawn : (kind : ControlKind) (ats : Attributes) (sites : List Site) → Drawn (length sites) (bare kind ats sites)
+bare_drawn kind ats sites = record {
   least = omega arith;
   bound = refl;
   switch = refl;
   attributes = plain_drawn (apart_from None None (length sites) (length sites)) (kept_attributes ats);
   class = class_with_drawn (apart_from None None (length sites) (length sites)) (lookup (λ n. bytes_eq n (codes "class")) (kept_attributes ats));
+  control = refl;
 }
 
--- all attributes, with the class
+-- what a control sets
+control_drawn : (test : ℕ → Bool) (c : Option Control) → is_control_drawn test c ≡ true → are_drawn test (control_setting c) ≡ true
+control_drawn test None e = refl
+control_drawn test (Some c) e = by_kind c.kind
+  where
+    text_value : are_drawn test ((codes "value", always (template.hole c.site ∷ [])) ∷ []) ≡ true
+    text_value = and_from _ true (and_from (test c.site) true e refl) refl
+
+    by_kind : (k : ControlKind) → are_drawn test (control_attribute k c.site) ≡ true
+    by_kind (controls.Text trim) = text_value
+    by_kind controls.Number = text_value
+    by_kind controls.Checkbox = and_from (test c.site) true e refl
+
+states_drawn : (test : ℕ → Bool) (c : Option Control) (p : PartClass) → is_control_drawn test c ≡ true → is_class_drawn test p ≡ true → is_class_drawn test (with_states c p) ≡ true
+states_drawn test None p e h = h
+states_drawn test (Some c) p e h = with_word test p h c.site e
+
+-- all attributes, with what a control sets, and the class
 pub all_drawn : (n : ℕ) (h : Head) → Drawn n h → are_drawn (apart_from h.bound h.switch n (length h.sites)) (attributes_of h) ≡ true
 all_drawn n h g =
     let test : ℕ → Bool = apart_from h.bound h.switch n (length h.sites) in
-    let last : are_drawn test (class_setting h.class) ≡ true =
-    if_held (is_classed h.class) ((codes "class", classes h.class) ∷ []) [] (λ ats. are_drawn test ats ≡ true) (λ _. and_from (is_class_drawn test h.class) true g.class refl) (λ _. refl) in
-    both_all (λ a. is_value_drawn test a.1) h.attributes (class_setting h.class) g.attributes last
+    let class : PartClass = with_states h.acts.control h.class in
+    let drawn : is_class_drawn test class ≡ true = states_drawn test h.acts.control h.class g.control g.class in
+    let last : are_drawn test (class_setting class) ≡ true =
+    if_held (is_classed class) ((codes "class", classes class) ∷ []) [] (λ ats. are_drawn test ats ≡ true) (λ _. and_from (is_class_drawn test class) true drawn refl) (λ _. refl) in
+    both_all (λ a. is_value_drawn test a.1) h.attributes (control_setting h.acts.control ++ class_setting class) g.attributes
+    (both_all (λ a. is_value_drawn test a.1) (control_setting h.acts.control) (class_setting class) (control_drawn test h.acts.control g.control) last)
 
 -- so an element is numbered: its attributes are drawn from its own sites, but for that of its contents
 pub any_alone : (o w : Option ℕ) (n c : ℕ) (ats : PartAttributes) → are_drawn (apart_from o w n c) ats ≡ true → are_drawn (is_within n c) ats ≡ true

@@ -3,7 +3,7 @@ use Rattle.std.proofs.Common.{◌≡◌, ◌<◌, ◌≤◌, ◌+◌, ◌++◌, 
 use Rattle.std.proofs.lemmas.Bool.{lt-ltb, le-ltb}
 use Rattle.std.specs.Prelude.{nat_lt}
 use Rattle.ng_collect.specs.declared.pick.Pick.{Pick}
-use Rattle.ng_drawing.specs.Template.{Site, PartClass, PartAttributes, text_part}
+use Rattle.ng_drawing.specs.Template.{Site, Acts, PartClass, PartAttributes, text_part}
 use Rattle.ng_drawing.specs.Template as template
 use Rattle.ng_drawing.specs.declared.kind.SiteKind.TheVariants as kinds
 use Rattle.ng_interp.specs.Parts.{Piece}
@@ -37,15 +37,16 @@ module _ (p : Pick) (s : Setting) (ps : List Piece) (h : Head) where
   pub parts_full : site_limit < length h.sites + length (sites_in (kind_for s) ps) → if_it_fits p s ps h ≡ Err worn
   parts_full l = no_room (Err worn) (Ok (with_parts p s ps h)) (length h.sites + length (sites_in (kind_for s) ps)) l
 
-  pub parts_placed : (n : ℕ) (pieces : List template.Piece) (attributes : PartAttributes) (class : PartClass) (bound switch : Option ℕ) (own : List ℕ) (sites : List Site) → n ≡ length h.sites → pieces ≡ numbered n ps
+  pub parts_placed : (n : ℕ) (pieces : List template.Piece) (attributes : PartAttributes) (class : PartClass) (bound switch : Option ℕ) (own : List ℕ) (acts : Acts) (sites : List Site) → n ≡ length h.sites → pieces ≡ numbered n ps
       → attributes ≡ h.attributes ++ set_by s (name_on p.attribute) (target_of p.directive) n pieces
       → class ≡ class_by s (name_on p.attribute) n pieces h.class
       → bound ≡ bound_by s n h.bound
       → switch ≡ switch_by s n h.switch
       → own ≡ h.own ++ counted n (sites_in (kind_for s) ps)
+      → acts ≡ h.acts
       → sites ≡ h.sites ++ sites_in (kind_for s) ps
       → length h.sites + length (sites_in (kind_for s) ps) ≤ site_limit
-      → if_it_fits p s ps h ≡ Ok (record { attributes = attributes; class = class; bound = bound; switch = switch; own = own; acts = h.acts; sites = sites })
-  parts_placed n pieces attributes class bound switch own sites first named a c b w o t fits =
-      let same : with_parts p s ps h ≡ record { attributes = attributes; class = class; bound = bound; switch = switch; own = own; acts = h.acts; sites = sites } = (cc) in
+      → if_it_fits p s ps h ≡ Ok (record { kind = h.kind; attributes = attributes; class = class; bound = bound; switch = switch; own = own; acts = acts; sites = sites })
+  parts_placed n pieces attributes class bound switch own acts sites first named a c b w o does t fits =
+      let same : with_parts p s ps h ≡ record { kind = h.kind; attributes = attributes; class = class; bound = bound; switch = switch; own = own; acts = acts; sites = sites } = (cc) in
       room (Err worn) (Ok (with_parts p s ps h)) (length h.sites + length (sites_in (kind_for s) ps)) fits ∙ ap Ok same

@@ -14,6 +14,7 @@ use Rattle.ng_interp.specs.Parts as interp
 use Rattle.ng_markup.specs.Forest.{Attributes, Node, Forest, element, text, comment, no_nodes, node}
 use Rattle.ng_template.specs.Around.{Inside, is_plain, has_picks, has_template, Block, Around, at_place, around_node}
 use Rattle.ng_template.specs.Compiles.{Made, Switch, switch_in, first_place, other_places, with_text, text_made, bare, with_head, element_with, after_node, after_forest, passed_over, contents_made, emptied_by, element_made, the_case, the_block, outermost_made, rounds, begun_body, site_in, filling_in, outlet_by, fragment_made, bodies_with, has_room, wrapped, in_rounds, node_made, compiled_node, compiled_forest}
+use Rattle.ng_template.specs.Kinds.{control_kind}
 use Rattle.ng_template.specs.Directives.{Head, with_picks, attributes_of}
 use Rattle.ng_template.specs.Limits.{site_limit, worn}
 use Rattle.ng_template.specs.Manners.{any_gives_contents}
@@ -226,7 +227,7 @@ module _ (defs : List DirectiveDef) where
       abbrev own_sites : List Site
       own_sites = flat_map pick_sites ps
 
-      module _ (none : first_pick_refusal ps ≡ None) (h : Head) (own : Picked own_sites (list_any is_bind ps) (list_any is_switch ps) (bare ats m.sites) h) where
+      module _ (none : first_pick_refusal ps ≡ None) (h : Head) (own : Picked own_sites (list_any is_bind ps) (list_any is_switch ps) (bare (control_kind name ats ps) ats m.sites) h) where
         abbrev after_head : Made
         after_head = with_head h m
 
@@ -247,7 +248,7 @@ module _ (defs : List DirectiveDef) where
             by (Some k) j = omega (arith, j, size)
 
         drawn : Drawn (length m.sites) h
-        drawn = own.drawn (length m.sites) (bare_drawn ats m.sites)
+        drawn = own.drawn (length m.sites) (bare_drawn (control_kind name ats ps) ats m.sites)
 
         with_contents : (r : Result (Contents × Made) TplFault) → TheseContents kids outer m h (length m.sites) others drawn h.bound r
             → Alone own_sites (is_some h.bound) (is_some inner_switch) (r >>= λ q. Ok (element_with name h q.0, q.1))
@@ -310,7 +311,7 @@ module _ (defs : List DirectiveDef) where
       finished r =
           r >>= λ h. contents_made h.bound kids (with_head h m) (compiled_forest defs (switch_in h.switch outer) kids (with_head h m)) >>= λ q. Ok (element_with name h q.0, q.1)
 
-      picked_good : KidsGood → (r : Result Head TplFault) → Answers (first_place m.places) own_sites (list_any is_bind ps) (list_any is_switch ps) (first_pick_refusal ps) (bare ats m.sites) r → ByItself (has_picks ps) (finished r)
+      picked_good : KidsGood → (r : Result Head TplFault) → Answers (first_place m.places) own_sites (list_any is_bind ps) (list_any is_switch ps) (first_pick_refusal ps) (bare (control_kind name ats ps) ats m.sites) r → ByItself (has_picks ps) (finished r)
       picked_good go (Ok h) g = headed_good g.1 h g.0 go
       picked_good go (Err f) (inl g) =
           let here : refusal defs met_this ≡ Some f.kind = e ∙ g.1 in
@@ -318,7 +319,7 @@ module _ (defs : List DirectiveDef) where
           inl (subst (λ x. FirstRefusal defs ((met_this, first_place m.places) ∷ inside (list_any is_bind ps) (list_any is_switch ps || is_some outer)) x) at (refused_here here))
       picked_good go (Err f) (inr g) = inr g
 
-      templated_good : (o : Bool) (r : Result Head TplFault) → Answers (first_place m.places) own_sites (list_any is_bind ps) (list_any is_switch ps) (first_pick_refusal ps) (bare ats m.sites) r
+      templated_good : (o : Bool) (r : Result Head TplFault) → Answers (first_place m.places) own_sites (list_any is_bind ps) (list_any is_switch ps) (first_pick_refusal ps) (bare (control_kind name ats ps) ats m.sites) r
           → Alone own_sites true o (r >>= λ h. Ok (element_with name h (children no_parts), passed_over kids (with_head h m)))
       templated_good o (Ok h) g = with_template g.1 h g.0 o
       templated_good o (Err f) (inl g) =
@@ -341,12 +342,12 @@ module _ (defs : List DirectiveDef) where
       grown = sym (append-nil m.outlets);
       apart = tt;
     }
-    alone_good go (has_picks ps) e = picked_good ps e go (with_picks (first_place m.places) ps (bare ats m.sites)) (picks_answer (first_place m.places) ps (bare ats m.sites))
+    alone_good go (has_picks ps) e = picked_good ps e go (with_picks (first_place m.places) ps (bare (control_kind name ats ps) ats m.sites)) (picks_answer (first_place m.places) ps (bare (control_kind name ats ps) ats m.sites))
     alone_good go (has_template ps) e = by_contents (any_gives_contents ps) e
       where
         by_contents : (b : Bool) → refusal defs met_this ≡ cond b (Some MultiDir) (first_pick_refusal ps) → ByItself (has_template ps) (cond b (Err (refused MultiDir (first_place m.places))) (emptied_by name ats kids ps m))
         by_contents true f = inl (refused_here f)
-        by_contents false f = templated_good ps f (list_any is_switch ps || is_some outer) (with_picks (first_place m.places) ps (bare ats m.sites)) (picks_answer (first_place m.places) ps (bare ats m.sites))
+        by_contents false f = templated_good ps f (list_any is_switch ps || is_some outer) (with_picks (first_place m.places) ps (bare (control_kind name ats ps) ats m.sites)) (picks_answer (first_place m.places) ps (bare (control_kind name ats ps) ats m.sites))
 
   -- an element in its blocks
   module _ (name : List ℕ) (ats : Attributes) (kids : Forest) (outer : Switch) (m : Made) where

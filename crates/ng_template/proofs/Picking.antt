@@ -8,19 +8,20 @@ use Rattle.ng_drawing.specs.Template.{Site}
 use Rattle.ng_interp.specs.Parts as interp
 use Rattle.ng_interp.specs.declared.pieces.InterpFault.{InterpFault}
 use Rattle.ng_language.specs.Trees.{Trees}
-use Rattle.ng_template.specs.Directives.{Head, text_on, parts_for, kind_for, bound_by, switch_by, with_parts, if_it_fits, with_start, with_handler, with_manner, with_picks}
+use Rattle.ng_template.specs.Directives.{Head, text_on, parts_for, kind_for, bound_by, switch_by, with_parts, if_it_fits, with_start, with_handler, with_model, with_change, with_manner, with_picks}
 use Rattle.ng_template.specs.Limits.{site_limit, worn}
 use Rattle.ng_template.specs.Manners.{manner_of, event_name}
-use Rattle.ng_template.specs.Order.{text_refusal, manner_refusal, pick_refusal, first_of, first_pick_refusal, is_binding, is_bind, is_choosing, is_switch, text_sites, manner_sites, pick_sites}
+use Rattle.ng_template.specs.Order.{text_refusal, writing_refusal, manner_refusal, pick_refusal, first_of, first_pick_refusal, is_binding, is_bind, is_choosing, is_switch, text_sites, manner_sites, pick_sites}
 use Rattle.ng_template.specs.Programs.{program_in, program_refusal, judged_program}
 use Rattle.ng_template.specs.Texts.{judged, counted, sites_in}
+use Rattle.ng_template.specs.Writing.{writing_in, judged_writing}
 use Rattle.ng_template.specs.declared.fault.TplFault.{TplFault}
 use Rattle.ng_template.specs.declared.fault.TplKind.{TplKind}
 use Rattle.ng_template.specs.declared.manners.Manner.{Manner}
-use Rattle.ng_template.specs.declared.manners.Manner.TheVariants.{Sets, Starts, Handles, Fills}
+use Rattle.ng_template.specs.declared.manners.Manner.TheVariants.{Sets, Models, Changes, Starts, Handles, Fills, Passes}
 use Rattle.ng_template.specs.declared.manners.Setting.{Setting}
-use Rattle.ng_template.specs.declared.manners.Setting.TheVariants.{Interpolates, Links, Switches, Binds, Classes, Shows, Hides, Chooses}
-use Rattle.ng_template.proofs.Drawn.{Drawn, parts_drawn}
+use Rattle.ng_template.specs.declared.manners.Setting.TheVariants.{Interpolates, Links, Switches, Binds, Classes, Shows, Hides, Chooses, Names}
+use Rattle.ng_template.proofs.Drawn.{Drawn, parts_drawn, model_drawn, change_drawn}
 use Rattle.ng_template.proofs.Judging.{Judged, fine, faulty, judged_is, JudgedProgram, program_fine, program_faulty, judged_program_is}
 use Rattle.ng_template.proofs.Numbers.{counted-append}
 
@@ -58,6 +59,7 @@ bound_after Classes n o = or-false (is_some o)
 bound_after Shows n o = or-false (is_some o)
 bound_after Hides n o = or-false (is_some o)
 bound_after Chooses n o = or-false (is_some o)
+bound_after Names n o = or-false (is_some o)
 
 switch_after : (s : Setting) (n : ℕ) (o : Option ℕ) → is_some (switch_by s n o) ≡ (is_some o || is_choosing (Some (Sets s)))
 switch_after Interpolates n o = or-false (is_some o)
@@ -68,6 +70,7 @@ switch_after Classes n o = or-false (is_some o)
 switch_after Shows n o = or-false (is_some o)
 switch_after Hides n o = or-false (is_some o)
 switch_after Chooses n o = or-true (is_some o)
+switch_after Names n o = or-false (is_some o)
 
 -- nothing is watched
 acted : (h k : Head) → k.own ≡ h.own → k.sites ≡ h.sites → k.bound ≡ h.bound → k.switch ≡ h.switch → ((n : ℕ) → Drawn n h → Drawn n k) → Picked [] false false h k
@@ -99,19 +102,52 @@ module _ (place : ℕ) where
 
     started : (o : Option Trees) (j : Result Trees TplFault) → JudgedProgram place o j → Answers place [] false false (program_refusal o) h (j >>= λ b. Ok (with_start b h))
     started o (Ok b) (program_fine none) =
-        (acted h (with_start b h) refl refl refl refl (λ n g. record { least = g.least; bound = g.bound; switch = g.switch; attributes = g.attributes; class = g.class }), none)
+        (acted h (with_start b h) refl refl refl refl (λ n g. record { least = g.least; bound = g.bound; switch = g.switch; attributes = g.attributes; class = g.class; control = g.control }), none)
     started o (Err f) (program_faulty is) = inl (refl, is)
 
     handled : (event : List ℕ) (o : Option Trees) (j : Result Trees TplFault) → JudgedProgram place o j → Answers place [] false false (program_refusal o) h (j >>= λ b. Ok (with_handler event b h))
     handled event o (Ok b) (program_fine none) =
-        (acted h (with_handler event b h) refl refl refl refl (λ n g. record { least = g.least; bound = g.bound; switch = g.switch; attributes = g.attributes; class = g.class }), none)
+        (acted h (with_handler event b h) refl refl refl refl (λ n g. record { least = g.least; bound = g.bound; switch = g.switch; attributes = g.attributes; class = g.class; control = g.control }), none)
     handled event o (Err f) (program_faulty is) = inl (refl, is)
+
+    changed : (o : Option Trees) (j : Result Trees TplFault) → JudgedProgram place o j → Answers place [] false false (program_refusal o) h (j >>= λ b. Ok (with_change b h))
+    changed o (Ok b) (program_fine none) = (acted h (with_change b h) refl refl refl refl (λ n g. change_drawn b n h g), none)
+    changed o (Err f) (program_faulty is) = inl (refl, is)
+
+    -- a model that can be written to
+    module _ (b : Trees) where
+      model_fitting : (ps : List interp.Piece) → parts_for Names (text_on p.attribute) ≡ Ok ps → (o : Option TplKind) → o ≡ None → (full : Bool)
+          → Answers place (sites_in (kind_for Names) ps) false false o h (cond full (Err worn) (Ok (with_parts p Names ps (with_model (length h.sites) b h))))
+      model_fitting ps e o none true = inr refl
+      model_fitting ps e o none false =
+          (record { own = refl; sites = refl; bound = or-false (is_some h.bound); switch = or-false (is_some h.switch); drawn = λ n g. model_drawn p b ps e n h g }, none)
+
+      model_set : (r : Result (List interp.Piece) InterpFault) → parts_for Names (text_on p.attribute) ≡ r → (j : Result (List interp.Piece) TplFault) → Judged place r j
+          → Answers place (text_sites (kind_for Names) r) false false (text_refusal r) h (j >>= λ ps. if_it_fits p Names ps (with_model (length h.sites) b h))
+      model_set (Ok ps) e (Ok qs) (fine same none) =
+          let here : ps ≡ qs = (cc) in
+          let there = subst (λ x. parts_for Names (text_on p.attribute) ≡ Ok x) here e in
+          subst (λ x. Answers place (sites_in (kind_for Names) x) false false (text_refusal (Ok x)) h (if_it_fits p Names qs (with_model (length h.sites) b h))) (sym here)
+          (model_fitting qs there (text_refusal (Ok qs)) (ap (λ x. text_refusal (Ok x)) (sym here) ∙ none) (nat_lt site_limit (length h.sites + length (sites_in (kind_for Names) qs))))
+      model_set (Err f) e (Ok qs) (fine same none) = absurd (cc)
+      model_set r e (Err f) (faulty is) = inl (refl, is)
+
+    modelled : (o : Option Trees) (r : Result (List interp.Piece) InterpFault) → parts_for Names (text_on p.attribute) ≡ r
+        → Answers place (text_sites (kind_for Names) r) false false (writing_refusal o (text_refusal r)) h
+        (judged_writing place o >>= λ b. judged place r >>= λ ps. if_it_fits p Names ps (with_model (length h.sites) b h))
+    modelled None r e = inl (refl, refl)
+    modelled (Some b) r e = model_set b r e (judged place r) (judged_is place r)
 
     manner_answers : (o : Option Manner) → Answers place (manner_sites o p.attribute) (is_binding o) (is_choosing o) (manner_refusal o p.attribute) h (with_manner place p o h)
     manner_answers None = inl (refl, refl)
     manner_answers (Some (Sets s)) =
         let r : Result (List interp.Piece) InterpFault = parts_for s (text_on p.attribute) in
         set s r refl (judged place r) (judged_is place r)
+    manner_answers (Some Models) = modelled (writing_in (text_on p.attribute)) (parts_for Names (text_on p.attribute)) refl
+    manner_answers (Some Changes) =
+        let o : Option Trees = program_in (text_on p.attribute) in
+        changed o (judged_program place o) (judged_program_is place o)
+    manner_answers (Some Passes) = (acted h h refl refl refl refl (λ n g. g), refl)
     manner_answers (Some Fills) = (acted h h refl refl refl refl (λ n g. g), refl)
     manner_answers (Some Starts) =
         let o : Option Trees = program_in (text_on p.attribute) in

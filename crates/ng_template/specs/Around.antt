@@ -26,7 +26,7 @@ use Rattle.ng_view.specs.Purity.{all_filters_known}
 use Rattle.ng_markup.specs.Forest.{Attributes, Node, element, text, comment}
 use Rattle.ng_tags.specs.declared.attrs.Attr.{Attr}
 use Rattle.ng_template.specs.Directives.{text_on, whole}
-use Rattle.ng_template.specs.Manners.{are_built, any_makes_plain}
+use Rattle.ng_template.specs.Manners.{are_built, any_makes_plain, picks_read}
 use Rattle.ng_template.specs.Programs.{program_in}
 use Rattle.ng_interp.specs.Parts.{Piece}
 use Rattle.ng_interp.specs.declared.pieces.InterpFault.{InterpFault}
@@ -74,10 +74,10 @@ attributes_in (element name attributes kids) = attributes
 attributes_in (text t) = []
 attributes_in (comment t) = []
 
--- the directives of an element, or why they are refused
+-- the directives of an element that are read, or why they are refused
 abbrev pub picks_in : Attributes → Result (List Pick) CollectFault → Result (List Pick) TplKind
 picks_in attributes (Err f) = Err (unpicked f)
-picks_in attributes (Ok ps) = Ok (map (worded attributes) ps)
+picks_in attributes (Ok ps) = Ok (map (worded attributes) (picks_read ps))
 
 -- what is refused stands at a place
 abbrev pub at_place : {A : Type 0} → ℕ → Result A TplKind → Result A TplFault

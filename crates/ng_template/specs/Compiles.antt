@@ -6,14 +6,16 @@ use Rattle.ng_base.specs.Meets.{◌>>=◌}
 use Rattle.ng_collect.specs.Cloak.{kept_attributes}
 use Rattle.ng_collect.specs.declared.definition.DirectiveDef.{DirectiveDef}
 use Rattle.ng_collect.specs.declared.pick.Pick.{Pick}
+use Rattle.ng_control.specs.declared.kind.ControlKind.{ControlKind}
 use Rattle.ng_drawing.specs.Cases.{Case}
-use Rattle.ng_drawing.specs.Template.{Site, Filling, Outlet, Fragment, Template, PartClass, Part, Contents, Parts, word, text_part, comment_part, element_part, anchor_part, children, bound, no_parts, part_then, body_if, on_case, for_each, by_name}
+use Rattle.ng_drawing.specs.Template.{Site, Filling, Outlet, Fragment, Template, PartClass, Part, Contents, Parts, word, text_part, comment_part, element_part, anchor_part, children, bound, no_parts, part_then, no_acts, body_if, on_case, for_each, by_name}
 use Rattle.ng_drawing.specs.declared.kind.SiteKind.TheVariants as kinds
 use Rattle.ng_interp.specs.Parts as interp
 use Rattle.ng_language.specs.Trees.{Trees}
 use Rattle.ng_markup.specs.Forest.{Attributes, Node, Forest, element, text, comment, no_nodes, node}
 use Rattle.ng_template.specs.Around.{Inside, is_plain, has_picks, has_template, Block, block_if, block_for, block_named, Around, at_place, around_node}
 use Rattle.ng_template.specs.Directives.{Head, with_picks, attributes_of}
+use Rattle.ng_template.specs.Kinds.{control_kind}
 use Rattle.ng_template.specs.Limits.{site_limit, worn}
 use Rattle.ng_template.specs.Manners.{any_gives_contents}
 use Rattle.ng_template.specs.Plain.{plain_values, plain_part}
@@ -56,20 +58,21 @@ abbrev pub class_in : Attributes → PartClass
 class_in attributes = class_with (lookup (λ n. bytes_eq n (codes "class")) attributes)
 
 -- an element before its directives: the attributes that stay, and no site of its own
-abbrev pub bare : Attributes → List Site → Head
-bare attributes sites = record {
+abbrev pub bare : ControlKind → Attributes → List Site → Head
+bare kind attributes sites = record {
+  kind = kind;
   attributes = plain_values (kept_attributes attributes);
   class = class_in (kept_attributes attributes);
   bound = None;
   switch = None;
   own = [];
-  acts = record { starts = []; handlers = [] };
+  acts = no_acts;
   sites = sites;
 }
 
 -- an element with these directives, all but its contents
-abbrev pub head_with : List Pick → Attributes → Made → Result Head TplFault
-head_with ps attributes m = with_picks (first_place m.places) ps (bare attributes m.sites)
+abbrev pub head_with : List ℕ → List Pick → Attributes → Made → Result Head TplFault
+head_with name ps attributes m = with_picks (first_place m.places) ps (bare (control_kind name attributes ps) attributes m.sites)
 
 -- its sites come before those of its children
 abbrev pub with_head : Head → Made → Made
@@ -114,7 +117,7 @@ switch_in (Some n) outer = Some n
 -- An element whose children are not compiled, since a template will stand in their place. A directive that gives it contents as well is
 -- refused.
 abbrev pub emptied_by : List ℕ → Attributes → Forest → List Pick → Made → Result (Part × Made) TplFault
-emptied_by name attributes kids ps m = head_with ps attributes m >>= λ h. Ok (element_with name h (children no_parts), passed_over kids (with_head h m))
+emptied_by name attributes kids ps m = head_with name ps attributes m >>= λ h. Ok (element_with name h (children no_parts), passed_over kids (with_head h m))
 
 abbrev pub emptied_made : List ℕ → Attributes → Forest → List Pick → Made → Result (Part × Made) TplFault
 emptied_made name attributes kids ps m =
@@ -124,7 +127,7 @@ emptied_made name attributes kids ps m =
 abbrev pub element_made : Node → List ℕ → Attributes → Forest → Inside → (Switch → Made → Result (Parts × Made) TplFault) → Switch → Made → Result (Part × Made) TplFault
 element_made n name attributes kids is_plain go outer m = Ok (with_plain n m)
 element_made n name attributes kids (has_picks ps) go outer m =
-    head_with ps attributes m >>= λ h. contents_made h.bound kids (with_head h m) (go (switch_in h.switch outer) (with_head h m)) >>= λ r. Ok (element_with name h r.0, r.1)
+    head_with name ps attributes m >>= λ h. contents_made h.bound kids (with_head h m) (go (switch_in h.switch outer) (with_head h m)) >>= λ r. Ok (element_with name h r.0, r.1)
 element_made n name attributes kids (has_template ps) go outer m = emptied_made name attributes kids ps m
 
 abbrev pub fragment_made : Parts × Made → Fragment

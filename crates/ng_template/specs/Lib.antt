@@ -7,7 +7,9 @@ pub mod Texts
 pub mod Limits
 pub mod Manners
 pub mod Programs
+pub mod Writing
 pub mod Directives
+pub mod Kinds
 pub mod Shared
 pub mod Plain
 pub mod RepeatedOf

@@ -1,7 +1,7 @@
 -- What each directive does with its text, and which attribute it sets beside its own (API: ngHref, ngSrc, ngChecked, ngDisabled, ngOpen,
--- ngReadonly, ngSelected, ngBind, ngClass, ngShow, ngHide, ngInit, ngClick, ngNonBindable, ngIf, ngSwitch, ngRepeat).
-use Rattle.std.specs.Prelude.{ℕ, Bool, true, false, List, [], Option, None, Some, is_some, codes}
-use Rattle.std.specs.List.{list_all, list_any}
+-- ngReadonly, ngSelected, ngModel, ngBind, ngClass, ngShow, ngHide, ngChange, ngInit, ngClick, ngNonBindable, ngIf, ngSwitch, ngRepeat).
+use Rattle.std.specs.Prelude.{ℕ, Bool, true, false, not, ◌&&◌, ◌||◌, List, [], Option, None, Some, is_some, codes}
+use Rattle.std.specs.List.{filter, list_all, list_any}
 use Rattle.ng_collect.specs.Sorted.{of_core}
 use Rattle.ng_collect.specs.Table.{gives_contents}
 use Rattle.ng_collect.specs.declared.pick.Directive.{Directive}
@@ -30,11 +30,14 @@ core_manner dirs.Readonly = Some (manners.Sets Switches)
 core_manner dirs.Selected = Some (manners.Sets Switches)
 core_manner dirs.Href = Some (manners.Sets Links)
 core_manner dirs.Src = Some (manners.Sets Links)
+core_manner dirs.Model = Some manners.Models
 core_manner dirs.Bind = Some (manners.Sets Binds)
 core_manner dirs.Show = Some (manners.Sets Shows)
 core_manner dirs.Hide = Some (manners.Sets Hides)
 core_manner dirs.Class = Some (manners.Sets Classes)
 core_manner dirs.Switch = Some (manners.Sets Chooses)
+core_manner dirs.Change = Some manners.Changes
+core_manner dirs.Trim = Some manners.Passes
 core_manner (dirs.Event e) = Some (manners.Handles e)
 core_manner _ = None
 
@@ -48,6 +51,32 @@ is_built p = is_some (manner_of p.directive)
 
 abbrev pub are_built : List Pick → Bool
 are_built ps = list_all is_built ps
+
+-- Beside an `ng-model` an `ng-checked` is not read, and without one an `ng-change` is not.
+abbrev pub is_model : CoreDirective → Bool
+is_model dirs.Model = true
+is_model _ = false
+
+abbrev pub is_checking : CoreDirective → Bool
+is_checking dirs.Checked = true
+is_checking _ = false
+
+abbrev pub is_change : CoreDirective → Bool
+is_change dirs.Change = true
+is_change _ = false
+
+abbrev pub any_models : List Pick → Bool
+any_models ps = list_any (λ (p : Pick). of_core is_model p.directive) ps
+
+abbrev pub is_unread : Bool → CoreDirective → Bool
+is_unread modelled d = (modelled && is_checking d) || (not modelled && is_change d)
+
+abbrev pub is_read : Bool → Pick → Bool
+is_read modelled p = not (of_core (is_unread modelled) p.directive)
+
+-- the directives of an element whose texts are read
+abbrev pub picks_read : List Pick → List Pick
+picks_read ps = filter (is_read (any_models ps)) ps
 
 -- whether a directive makes its element plain (API: ngNonBindable)
 abbrev pub core_makes_plain : CoreDirective → Bool

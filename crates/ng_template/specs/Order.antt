@@ -13,14 +13,16 @@ use Rattle.ng_template.specs.Around.{Inside, is_plain, has_picks, has_template, 
 use Rattle.ng_template.specs.Compiles.{first_place, other_places, site_in}
 use Rattle.ng_drawing.specs.declared.kind.SiteKind.{SiteKind}
 use Rattle.ng_drawing.specs.declared.kind.SiteKind.TheVariants as kinds
+use Rattle.ng_language.specs.Trees.{Trees}
 use Rattle.ng_tags.specs.declared.attrs.Attr.{Attr}
 use Rattle.ng_template.specs.Directives.{text_on, parts_for, kind_for}
 use Rattle.ng_template.specs.Manners.{manner_of, any_gives_contents}
 use Rattle.ng_template.specs.Programs.{program_in, program_refusal}
 use Rattle.ng_template.specs.Texts.{refused, wrong, sites_in}
+use Rattle.ng_template.specs.Writing.{writing_in}
 use Rattle.ng_template.specs.declared.manners.Manner.{Manner}
-use Rattle.ng_template.specs.declared.manners.Manner.TheVariants.{Sets, Starts, Handles, Fills}
-use Rattle.ng_template.specs.declared.manners.Setting.TheVariants.{Binds, Chooses}
+use Rattle.ng_template.specs.declared.manners.Manner.TheVariants.{Sets, Models, Changes, Starts, Handles, Fills, Passes}
+use Rattle.ng_template.specs.declared.manners.Setting.TheVariants.{Binds, Chooses, Names}
 use Rattle.ng_template.specs.declared.fault.TplFault.{TplFault}
 use Rattle.ng_template.specs.declared.fault.TplKind.{TplKind}
 use Rattle.ng_template.specs.declared.fault.TplKind.TheVariants.{Later, Expression, MultiDir}
@@ -129,11 +131,19 @@ abbrev pub text_refusal : Result (List interp.Piece) InterpFault → Option TplK
 text_refusal (Err f) = Some Expression
 text_refusal (Ok ps) = wrong ps
 
+-- why the text of a model is refused: it can't be written to, or as any other text
+abbrev pub writing_refusal : Option Trees → Option TplKind → Option TplKind
+writing_refusal None o = Some Expression
+writing_refusal (Some b) o = o
+
 -- why a directive is refused: it is not built yet, or something is wrong with its text
 abbrev pub manner_refusal : Option Manner → Option Attr → Option TplKind
 manner_refusal None a = Some Later
 manner_refusal (Some (Sets s)) a = text_refusal (parts_for s (text_on a))
 manner_refusal (Some Fills) a = None
+manner_refusal (Some Passes) a = None
+manner_refusal (Some Models) a = writing_refusal (writing_in (text_on a)) (text_refusal (parts_for Names (text_on a)))
+manner_refusal (Some Changes) a = program_refusal (program_in (text_on a))
 manner_refusal (Some Starts) a = program_refusal (program_in (text_on a))
 manner_refusal (Some (Handles e)) a = program_refusal (program_in (text_on a))
 
@@ -189,6 +199,9 @@ abbrev pub manner_sites : Option Manner → Option Attr → List Site
 manner_sites None a = []
 manner_sites (Some (Sets s)) a = text_sites (kind_for s) (parts_for s (text_on a))
 manner_sites (Some Fills) a = []
+manner_sites (Some Passes) a = []
+manner_sites (Some Models) a = text_sites (kind_for Names) (parts_for Names (text_on a))
+manner_sites (Some Changes) a = []
 manner_sites (Some Starts) a = []
 manner_sites (Some (Handles e)) a = []
 

@@ -1,6 +1,6 @@
 -- Elements that are plain: nothing of them and of what is in them is read, and all of it is shown as it stands (API: ngNonBindable).
 use Rattle.std.specs.Prelude.{ℕ, List, [], ◌∷◌, map}
-use Rattle.ng_drawing.specs.Template.{PartValue, PartAttributes, Part, Parts, word, always, text_part, comment_part, element_part, children, no_parts, part_then}
+use Rattle.ng_drawing.specs.Template.{PartValue, PartAttributes, no_acts, Part, Parts, word, always, text_part, comment_part, element_part, children, no_parts, part_then}
 use Rattle.ng_markup.specs.Forest.{Attributes, Node, Forest, element, text, comment, no_nodes, node}
 
 abbrev pub plain_value : List ℕ × List ℕ → List ℕ × PartValue
@@ -13,7 +13,7 @@ plain_values attributes = map plain_value attributes
 -- the part of a node that has no directive, no hole and no site, whatever is written there
 abbrev mutual
   pub plain_part : Node → Part
-  plain_part (element name attributes kids) = element_part name [] (record { starts = []; handlers = [] }) (plain_values attributes) (children (plain_parts kids))
+  plain_part (element name attributes kids) = element_part name [] no_acts (plain_values attributes) (children (plain_parts kids))
   plain_part (text t) = text_part (word t ∷ [])
   plain_part (comment t) = comment_part t
 

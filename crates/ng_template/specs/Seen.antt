@@ -1,10 +1,11 @@
 -- What the parts of the code stand for.
-use Rattle.std.specs.Prelude.{ℕ, List, map}
-use Rattle.ng_drawing.specs.Template.{Acts, Part, Contents, Parts, text_part, comment_part, element_part, anchor_part, children, bound, parts_from}
+use Rattle.std.specs.Prelude.{ℕ, List, map, option_map}
+use Rattle.ng_drawing.specs.Template.{Control, Acts, Part, Contents, Parts, text_part, comment_part, element_part, anchor_part, children, bound, parts_from}
 use Rattle.ng_language.specs.Trees.{Trees}
 use Rattle.ng_parse.specs.ProgramOf.{program}
 use Rattle.ng_template.specs.declared.acts.Acts as code_acts
 use Rattle.ng_template.specs.declared.acts.Handler as code_handler
+use Rattle.ng_template.specs.declared.acts.Modelled as code_modelled
 use Rattle.ng_template.specs.declared.parts.Part as code_part
 use Rattle.ng_template.specs.declared.parts.Contents as code_contents
 use Rattle.ng_template.specs.declared.parts.Parts as code_parts
@@ -16,8 +17,11 @@ use Rattle.ng_template.specs.declared.parts.Contents.TheOpen.{Contents-F, Part-F
 abbrev pub handler_of : code_handler.Handler → List ℕ × Trees
 handler_of h = (h.event, program h.program)
 
+abbrev pub control_of : code_modelled.Modelled → Control
+control_of c = record { kind = c.kind; site = c.site; writes = program c.writes; changes = map program c.changes.items }
+
 abbrev pub acts_of : code_acts.Acts → Acts
-acts_of a = record { starts = map program a.starts.items; handlers = map handler_of a.handlers.items }
+acts_of a = record { starts = map program a.starts.items; handlers = map handler_of a.handlers.items; control = option_map control_of a.control }
 
 -- one level, with the parts inside seen already
 abbrev pub part_step : Part-F Contents Part Parts → Part

@@ -16,4 +16,4 @@ abbrev pub made_of : Making → Made
 made_of m = record { places = m.places.now; sites = sites_of m.sites.items; outlets = outlets_of m.outlets.items; bodies = fragments_of m.bodies.items }
 
 abbrev pub head_of : code.Element → Head
-head_of e = record { attributes = e.attributes; class = class_of e.class; bound = e.bound; switch = e.switch; own = e.own.items; acts = acts_of e.acts; sites = sites_of e.sites.items }
+head_of e = record { kind = e.kind; attributes = e.attributes; class = class_of e.class; bound = e.bound; switch = e.switch; own = e.own.items; acts = acts_of e.acts; sites = sites_of e.sites.items }

@@ -21,7 +21,7 @@ use crate::known::Known;
 use crate::manners::any_gives_contents;
 use crate::parts::{Contents, Part, Parts, bound as bound_to, children, comment, element, text};
 use crate::plain::plain_part;
-use crate::settings::with_class;
+use crate::settings::with_last;
 use crate::texts::{SITE_LIMIT, count_holes, first_of, place_parts, read_text, refusal, worn};
 use crate::tpl::{Making, Tpl};
 use crate::wrapping::{Outermost, wrap};
@@ -216,6 +216,7 @@ fn emptied_at<'a>(
         bodies,
     } = made;
     let Element {
+        kind: _,
         attributes,
         class,
         bound: _,
@@ -223,8 +224,8 @@ fn emptied_at<'a>(
         own,
         acts,
         sites,
-    } = element_of(alloc, known, picked.as_slice(), attrs, places, sites)?;
-    let attributes = with_class(alloc, attributes, class)?;
+    } = element_of(alloc, known, &name, picked.as_slice(), attrs, places, sites)?;
+    let attributes = with_last(alloc, attributes, class, &acts.control)?;
     let after = Making {
         places: after_forest(kids, others),
         sites,
@@ -262,6 +263,7 @@ fn element_at<'a>(
                 bodies,
             } = made;
             let Element {
+                kind: _,
                 attributes,
                 class,
                 bound,
@@ -269,8 +271,8 @@ fn element_at<'a>(
                 own,
                 acts,
                 sites,
-            } = element_of(alloc, known, picked.as_slice(), attrs, places, sites)?;
-            let attributes = with_class(alloc, attributes, class)?;
+            } = element_of(alloc, known, &name, picked.as_slice(), attrs, places, sites)?;
+            let attributes = with_last(alloc, attributes, class, &acts.control)?;
             let (_, others) = first_of(places);
             let inner = Making {
                 places: others,

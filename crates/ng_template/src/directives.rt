@@ -8,11 +8,13 @@ ghost use Rattle.ng_template.specs.Directives.{name_on, text_on, whole as whole_
 ghost use Rattle.ng_template.specs.Free.{is_tpl_want};
 ghost use Rattle.ng_template.specs.Programs.{program_in, judged_program};
 ghost use Rattle.ng_template.specs.Texts.{is_known, is_pure, judged};
+ghost use Rattle.ng_template.specs.declared.manners.Setting.TheVariants.{Names};
 
 use crate::fault::{TplFault, TplKind};
 use crate::known::Known;
 use crate::manners::Setting;
 use crate::texts::{judged_parts, push, read_pieces, refusal, want};
+use crate::writing::only_named;
 use ng_base::txt::Txt;
 use ng_collect::{Pick, kept_value};
 use ng_drawing::kind::SiteKind;
@@ -57,6 +59,7 @@ pub(crate) fn kind_for(setting: Setting) -> SiteKind
         Setting::Shows => SiteKind::Reference,
         Setting::Hides => SiteKind::Reference,
         Setting::Chooses => SiteKind::Deep,
+        Setting::Names => SiteKind::Deep,
     }
 }
 
@@ -69,6 +72,14 @@ fn read_whole(alloc: Global, known: &mut Known, text: &Txt) -> Result<Vec<Part>,
     let mut parts = Vec::new(alloc);
     push(&mut parts, hole)?;
     Ok(parts)
+}
+
+/// A text that is a name or a member as a whole.
+fn read_named(alloc: Global, known: &mut Known, text: &Txt) -> Result<Vec<Part>, InterpFault>
+    ensures { Gives is_free (λ v. map piece_of v.items) (parts_for Names text.now) result }
+{
+    let parts = read_whole(alloc, known, text)?;
+    only_named(parts)
 }
 
 /// The parts of a directive's text.
@@ -89,6 +100,7 @@ fn read_parts(
         Setting::Shows => read_whole(alloc, known, text),
         Setting::Hides => read_whole(alloc, known, text),
         Setting::Chooses => read_whole(alloc, known, text),
+        Setting::Names => read_named(alloc, known, text),
     }
 }
 

@@ -1,5 +1,5 @@
 //! Elements: their directives, and what these set (guide: HTML Compiler, "How directives are compiled").
-ghost use Rattle.std.specs.Prelude.{List, [], ◌≡◌, ◌++◌, ◌+◌, ◌≤◌, map, length, true, IfOk, IfErr, OnOk};
+ghost use Rattle.std.specs.Prelude.{List, [], ◌≡◌, ◌++◌, ◌+◌, ◌≤◌, map, length, option_map, true, Some, IfOk, IfErr, OnOk};
 ghost use Rattle.std.specs.List.{list_all};
 ghost use Rattle.ng_base.specs.Meets.{Gives};
 ghost use Rattle.ng_drawing.specs.Template.{Site as TemplateSite};
@@ -7,17 +7,20 @@ ghost use Rattle.ng_interp.specs.Parts.{piece_of};
 ghost use Rattle.ng_parse.specs.ProgramOf.{program as trees};
 ghost use Rattle.ng_template.specs.AttributeOf.{class_of};
 ghost use Rattle.ng_template.specs.Compiles.{class_in as class_in_of, bare as bare_of, head_with};
-ghost use Rattle.ng_template.specs.Directives.{if_it_fits, with_start as with_start_of, with_handler as with_handler_of, with_manner, with_picks};
+ghost use Rattle.ng_template.specs.Directives.{if_it_fits, with_start as with_start_of, with_handler as with_handler_of, acts_with, with_written, changed_more, with_change as with_change_of, with_manner, with_picks};
 ghost use Rattle.ng_template.specs.Free.{is_tpl_want};
 ghost use Rattle.ng_template.specs.Manners.{manner_of, event_name as event_name_of};
 ghost use Rattle.ng_template.specs.FragmentOf.{sites_of};
 ghost use Rattle.ng_template.specs.TemplateOf.{head_of};
+ghost use Rattle.ng_template.specs.Seen.{acts_of, control_of};
 ghost use Rattle.ng_template.specs.Texts.{is_known, is_pure, counted};
+ghost use Rattle.ng_template.specs.declared.manners.Manner.TheVariants.{Models};
 
-use crate::acts::{Acts, Handler};
+use crate::acts::{Acts, Handler, Modelled};
 use crate::classes::ClassValue;
 use crate::directives::{directive_parts, directive_program, kind_for};
 use crate::fault::{TplFault, TplKind};
+use crate::kinds::control_kind;
 use crate::known::Known;
 use crate::manners::{Manner, Setting, event_name, manner_for};
 use crate::pieces::{Attributes, Pieces};
@@ -25,17 +28,21 @@ use crate::plain::plain_values;
 use crate::settings::{add_to_class, bound_after, set, switch_after};
 use crate::site::Site;
 use crate::texts::{SITE_LIMIT, count_holes, first_of, place_parts, refusal, want, worn};
+use crate::writing::directive_writing;
+use ng_base::txt::Txt;
 use ng_collect::{DomEvent, Pick, kept_attrs};
+use ng_control::ControlKind;
 use ng_html::attrs::Attrs;
 use ng_interp::Part;
 use ng_parse::Program;
 use std::alloc::{AllocError, Global};
 
-/// An element that is being made: its attributes in the order in which they are set, what its class is made of, the site whose text
+/// An element that is being made: what kind of control it is, where it is one; its attributes in the order in which they are set, what its class is made of, the site whose text
 /// stands in place of its children, the site that chooses among the cases in it, the numbers of its own sites, what it does, and all sites so
 /// far.
 #[derive(Drop)]
 pub(crate) struct Element {
+    pub(crate) kind: ControlKind,
     pub(crate) attributes: Attributes,
     pub(crate) class: ClassValue,
     pub(crate) bound: Option<u32>,
@@ -82,19 +89,46 @@ fn add_numbers(own: &mut Vec<u32>, first: u32, count: usize) -> Result<(), Alloc
     Ok(())
 }
 
-/// An element after one directive more, which has these parts.
+/// What an element does, which is a control where a program is given that writes its model. This is watched by the site of a number.
+fn with_model(
+    alloc: Global,
+    kind: ControlKind,
+    acts: Acts,
+    n: u32,
+    program: Option<Program>,
+) -> Acts
+    ensures { acts_of result ≡ acts_with kind n (option_map trees program) (acts_of acts) }
+{
+    match program {
+        None => acts,
+        Some(writes) => {
+            let mut made = acts;
+            made.control = Some(Modelled {
+                kind,
+                site: n,
+                writes,
+                changes: Vec::new(alloc),
+            });
+            made
+        }
+    }
+}
+
+/// An element after one directive more, which has these parts, and is its model where a program is given that writes to it.
 fn with_parts(
     alloc: Global,
     setting: Setting,
     pick: &Pick,
     parts: Vec<Part>,
+    program: Option<Program>,
     element: Element,
 ) -> Result<Element, TplFault>
     requires known { list_all is_known (map piece_of parts.items) ≡ true }
     requires pure { list_all is_pure (map piece_of parts.items) ≡ true }
-    ensures { Gives is_tpl_want head_of (if_it_fits pick.now setting (map piece_of parts.items) (head_of element)) result }
+    ensures { Gives is_tpl_want head_of (if_it_fits pick.now setting (map piece_of parts.items) (with_written (option_map trees program) (head_of element))) result }
 {
     let Element {
+        kind,
         mut attributes,
         mut class,
         bound,
@@ -113,12 +147,13 @@ fn with_parts(
     set(alloc, &mut attributes, setting, pick, first, &pieces)?;
     add_to_class(alloc, &mut class, setting, pick, first, &pieces)?;
     Ok(Element {
+        kind,
         attributes,
         class,
         bound: bound_after(setting, first, bound),
         switch: switch_after(setting, first, switch),
         own,
-        acts,
+        acts: with_model(alloc, kind, acts, first, program),
         sites,
     })
 }
@@ -147,6 +182,77 @@ fn with_handler(
     Ok(made)
 }
 
+/// A control after a program more that runs once its model is written, where there is one.
+fn changed(control: Option<Modelled>, program: Program) -> Result<Option<Modelled>, AllocError>
+    ensures { IfOk result (λ c. option_map control_of c ≡ option_map (changed_more (trees program)) (option_map control_of control)) }
+{
+    match control {
+        None => Ok(None),
+        Some(control) => {
+            let mut made = control;
+            made.changes.push(program)?;
+            Ok(Some(made))
+        }
+    }
+}
+
+/// What an element does, after a program more that runs once its model is written.
+fn acts_after(acts: Acts, program: Program) -> Result<Acts, AllocError>
+    ensures { IfOk result (λ a. acts_of a ≡ record (acts_of acts) { control = option_map (changed_more (trees program)) (acts_of acts).control }) }
+{
+    let Acts {
+        starts,
+        handlers,
+        control,
+    } = acts;
+    Ok(Acts {
+        starts,
+        handlers,
+        control: changed(control, program)?,
+    })
+}
+
+/// An element after a program more that runs once its model is written.
+fn with_change(element: Element, program: Program) -> Result<Element, AllocError>
+    ensures { IfOk result (λ e. head_of e ≡ with_change_of (trees program) (head_of element)) }
+{
+    let Element {
+        kind,
+        attributes,
+        class,
+        bound,
+        switch,
+        own,
+        acts,
+        sites,
+    } = element;
+    Ok(Element {
+        kind,
+        attributes,
+        class,
+        bound,
+        switch,
+        own,
+        acts: acts_after(acts, program)?,
+        sites,
+    })
+}
+
+/// An element after its `ng-model`.
+fn with_named(
+    alloc: Global,
+    known: &mut Known,
+    place: u64,
+    pick: &Pick,
+    element: Element,
+) -> Result<Element, TplFault>
+    ensures { Gives is_tpl_want head_of (with_manner place pick.now (Some Models) (head_of element)) result }
+{
+    let program = directive_writing(alloc, place, pick)?;
+    let parts = directive_parts(alloc, known, place, Setting::Names, pick)?;
+    with_parts(alloc, Setting::Names, pick, parts, Some(program), element)
+}
+
 /// An element after one directive more.
 fn with_pick(
     alloc: Global,
@@ -161,9 +267,15 @@ fn with_pick(
         None => Err(refusal(TplKind::Later, place)),
         Some(Manner::Sets(setting)) => {
             let parts = directive_parts(alloc, known, place, setting, pick)?;
-            with_parts(alloc, setting, pick, parts, element)
+            with_parts(alloc, setting, pick, parts, None, element)
         }
         Some(Manner::Fills) => Ok(element),
+        Some(Manner::Passes) => Ok(element),
+        Some(Manner::Models) => with_named(alloc, known, place, pick, element),
+        Some(Manner::Changes) => {
+            let program = directive_program(alloc, place, pick)?;
+            Ok(with_change(element, program)?)
+        }
         Some(Manner::Starts) => {
             let program = directive_program(alloc, place, pick)?;
             Ok(with_start(element, program)?)
@@ -193,13 +305,19 @@ fn with_all(
 }
 
 /// An element that has these attributes and no directive yet, or want of memory.
-fn bare(alloc: Global, attrs: &Attrs, sites: Vec<Site>) -> Result<Element, TplFault>
-    ensures ok { IfOk result (λ e. head_of e ≡ bare_of attrs.now (sites_of sites.items)) }
+fn bare(
+    alloc: Global,
+    kind: ControlKind,
+    attrs: &Attrs,
+    sites: Vec<Site>,
+) -> Result<Element, TplFault>
+    ensures ok { IfOk result (λ e. head_of e ≡ bare_of kind attrs.now (sites_of sites.items)) }
     ensures err { IfErr result (λ f. is_tpl_want f ≡ true) }
 {
     match kept_attrs(alloc, attrs) {
         Err(_) => Err(want()),
         Ok(kept) => Ok(Element {
+            kind,
             attributes: plain_values(alloc, &kept)?,
             class: class_in(alloc, &kept)?,
             bound: None,
@@ -215,14 +333,16 @@ fn bare(alloc: Global, attrs: &Attrs, sites: Vec<Site>) -> Result<Element, TplFa
 pub(crate) fn element_of(
     alloc: Global,
     known: &mut Known,
+    name: &Txt,
     picks: &[Pick],
     attrs: &Attrs,
     places: &[u64],
     sites: Vec<Site>,
 ) -> Result<Element, TplFault>
-    ensures { Gives is_tpl_want head_of (head_with picks.now attrs.now (record { places = places.now; sites = sites_of sites.items; outlets = []; bodies = [] })) result }
+    ensures { Gives is_tpl_want head_of (head_with name.now picks.now attrs.now (record { places = places.now; sites = sites_of sites.items; outlets = []; bodies = [] })) result }
 {
     let (place, _) = first_of(places);
-    let element = bare(alloc, attrs, sites)?;
+    let kind = control_kind(alloc, name, attrs, picks)?;
+    let element = bare(alloc, kind, attrs, sites)?;
     with_all(alloc, known, place, picks, element)
 }

@@ -1,26 +1,24 @@
 //! A template in an element (API: ngInclude). Its sites follow those of the element, so that each number of one is higher.
-ghost use Rattle.std.specs.Prelude.{◌≡◌, ◌+◌, ◌++◌, ◌∷◌, [], map, length, Some, option_map, MatchOption, IfOk, OnOk};
+ghost use Rattle.std.specs.Prelude.{◌≡◌, ◌++◌, ◌∷◌, [], map, length, Some, option_map, MatchOption, IfOk, OnOk};
 ghost use Rattle.ng_drawing.specs.Included.{later, later_piece, later_hiding, later_class, later_value, later_attributes, later_part, later_contents, later_parts, later_outlet, is_no_parts, is_childless, opened_part, opened_with, opened, filled_with, included_in, included as included_of};
 ghost use Rattle.ng_drawing.specs.Template.{parts_from};
-ghost use Rattle.ng_parse.specs.ProgramOf.{program as trees};
 ghost use Rattle.ng_template.specs.AttributeOf.{hiding_of, class_of, value_of, attribute_of};
 ghost use Rattle.ng_template.specs.FragmentOf.{sites_of, outlet_of, fragment_of};
 ghost use Rattle.ng_template.specs.Numbering.{HasOrder};
 ghost use Rattle.ng_template.specs.PieceOf.{piece_of};
-ghost use Rattle.ng_template.specs.Seen.{handler_of, acts_of, part_of, contents_of, parts_of};
+ghost use Rattle.ng_template.specs.Seen.{part_of, contents_of, parts_of};
 ghost use Rattle.ng_template.specs.WholeOf.{opened_of, whole_of};
 
-use crate::acts::{Acts, Handler};
+use crate::acts::{Acts, copied_acts, copied_programs, later_acts};
 use crate::classes::{ClassValue, Hiding};
 use crate::fragment::Fragment;
 use crate::outlets::Outlet;
 use crate::parts::{Contents, Part, Parts, anchor, bound, children, comment, element, text};
 use crate::pieces::{AttributeValue, Attributes, Piece, Pieces};
-use crate::site::Site;
+use crate::site::{Site, after};
 use crate::texts::SITE_LIMIT;
 use ng_base::fault::Memory;
 use ng_base::txt::Txt;
-use ng_parse::Program;
 use std::alloc::{AllocError, Global};
 
 /// A fragment, of a template or made of two.
@@ -48,16 +46,6 @@ impl Whole<'_> {
             Whole::Kept(fragment) => fragment,
             Whole::Made(fragment) => fragment,
         }
-    }
-}
-
-/// The number of a site after so many others.
-fn after(by: u32, n: u32) -> Result<u32, Memory>
-    ensures { IfOk result (λ m. m ≡ by + n) }
-{
-    match by.checked_add(n) {
-        None => Err(Memory::Worn),
-        Some(m) => Ok(m),
     }
 }
 
@@ -217,41 +205,6 @@ fn copied_attributes(alloc: Global, attributes: &Attributes) -> Result<Attribute
     Ok(copies)
 }
 
-/// Programs again. Each has one owner more.
-fn copied_programs(alloc: Global, programs: &[Program]) -> Result<Vec<Program>, Memory>
-    ensures { IfOk result (λ v. map trees v.items ≡ map trees programs.now) }
-{
-    let mut copies = Vec::new(alloc);
-    for program in programs {
-        copies.push(program.copied(alloc)?)?;
-    }
-    Ok(copies)
-}
-
-/// Programs that handle events, again.
-fn copied_handlers(alloc: Global, handlers: &[Handler]) -> Result<Vec<Handler>, Memory>
-    ensures { IfOk result (λ v. map handler_of v.items ≡ map handler_of handlers.now) }
-{
-    let mut copies = Vec::new(alloc);
-    for handler in handlers {
-        copies.push(Handler {
-            event: handler.event.copied()?,
-            program: handler.program.copied(alloc)?,
-        })?;
-    }
-    Ok(copies)
-}
-
-/// What an element does, again.
-fn copied_acts(alloc: Global, acts: &Acts) -> Result<Acts, Memory>
-    ensures { IfOk result (λ a. acts_of a ≡ acts_of acts.now) }
-{
-    Ok(Acts {
-        starts: copied_programs(alloc, acts.starts.as_slice())?,
-        handlers: copied_handlers(alloc, acts.handlers.as_slice())?,
-    })
-}
-
 /// A part.
 #[cycle(later)]
 fn later_part(alloc: Global, by: u32, part: &Part) -> Result<Part, Memory>
@@ -268,7 +221,7 @@ fn later_part(alloc: Global, by: u32, part: &Part) -> Result<Part, Memory>
             contents,
         } => {
             let own = later_numbers(alloc, by, own.as_slice())?;
-            let acts = copied_acts(alloc, acts)?;
+            let acts = later_acts(alloc, by, acts)?;
             let attributes = later_attributes(alloc, by, attributes)?;
             let contents = later_contents(alloc, by, contents)?;
             Ok(element(name.copied()?, own, acts, attributes, contents))

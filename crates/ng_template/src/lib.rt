@@ -15,10 +15,10 @@
 //! fragment of a template, or of an element with another template in it, which `including` makes.
 //!
 //! In reading order: `fault` has the refusals; `pieces`, `classes`, `acts`, `parts`, `site`, `outlets`, `fragment` and `tpl` are what a
-//! template is; `known` and `texts` read texts; `manners` lists what each directive does, `directives` reads its text and `settings` sets
-//! what it sets; `elements` has what the directives of an element come to, `plain` copies one that is plain; `wording` finds the text of a
-//! directive, `around` the blocks round an element, and `wrapping` puts it in them; `compiling` walks the document; `including`; `templates`;
-//! `laws`.
+//! template is; `known` and `texts` read texts; `manners` lists what each directive does, `directives` reads its text, `writing` that of a
+//! model, and `settings` sets what it sets; `kinds` tells the kind of a control; `elements` has what the directives of an element come to,
+//! `plain` copies one that is plain; `wording` tells which directives are read, and finds the text of one; `around` finds the blocks round an
+//! element, and `wrapping` puts it in them; `compiling` walks the document; `including`; `templates`; `laws`.
 //!
 //! Not here: which directives an element has (`ng_collect`), how a text is cut and a hole is read (`ng_interp`), and what
 //! a template shows (`ng_drawing`).
@@ -33,6 +33,7 @@ mod elements;
 pub mod fault;
 pub mod fragment;
 pub mod including;
+mod kinds;
 mod known;
 pub mod laws;
 pub mod manners;
@@ -50,8 +51,9 @@ pub mod tpl;
 pub mod track;
 mod wording;
 mod wrapping;
+mod writing;
 
-pub use acts::{Acts, Handler};
+pub use acts::{Acts, Handler, Modelled};
 pub use classes::{ClassValue, Hiding};
 pub use compiling::compile;
 pub use fault::{TplFault, TplKind};

@@ -1,10 +1,10 @@
 //! What each directive does with its text, and which attribute it sets beside its own (API: ngHref, ngSrc, ngChecked, ngDisabled,
-//! ngOpen, ngReadonly, ngSelected, ngBind, ngClass, ngShow, ngHide, ngInit, ngClick, ngNonBindable, ngIf, ngSwitch, ngRepeat; guide: Interpolation, "How text and attribute
+//! ngOpen, ngReadonly, ngSelected, ngModel, ngChange, ngBind, ngClass, ngShow, ngHide, ngInit, ngClick, ngNonBindable, ngIf, ngSwitch, ngRepeat; guide: Interpolation, "How text and attribute
 //! bindings work").
 ghost use Rattle.std.specs.Prelude.{◌≡◌, IfOk};
 ghost use Rattle.ng_collect.specs.Sorted.{of_core};
 ghost use Rattle.ng_collect.specs.Table.{gives_contents as gives_contents_of};
-ghost use Rattle.ng_template.specs.Manners.{core_manner as core_manner_of, manner_of, are_built as are_built_all, core_makes_plain as core_makes_plain_of, makes_plain as makes_plain_of, any_makes_plain as any_makes_plain_of, any_gives_contents as any_gives_contents_of, core_target as core_target_of, target_of, event_name as event_name_of};
+ghost use Rattle.ng_template.specs.Manners.{core_manner as core_manner_of, manner_of, are_built as are_built_all, core_makes_plain as core_makes_plain_of, makes_plain as makes_plain_of, any_makes_plain as any_makes_plain_of, is_model as is_model_of, is_unread as is_unread_of, is_read as is_read_of, any_models as any_models_of, any_gives_contents as any_gives_contents_of, core_target as core_target_of, target_of, event_name as event_name_of};
 
 use ng_base::txt::Txt;
 use ng_collect::table::gives_contents;
@@ -14,7 +14,7 @@ use std::alloc::{AllocError, Global};
 /// What the values of a directive's text set. It interpolates them into its own attribute; or it links another attribute to it, too,
 /// which is not there while the text is empty; or it switches another attribute on while its value is true; or it binds the contents of
 /// the element to it; or it gives the element classes; or it shows the element, or hides it, while its value is true; or it chooses among the
-/// cases in the element.
+/// cases in the element; or it names what a control puts in and shows.
 #[derive(Clone, Copy, Debug, PartialEq, Eq, Drop)]
 pub enum Setting {
     Interpolates,
@@ -25,14 +25,19 @@ pub enum Setting {
     Shows,
     Hides,
     Chooses,
+    Names,
 }
 
-/// What a directive does with its text. It watches it and sets something, or is a block, whose body stands by its value; or it runs it as
-/// a program when the element is linked, or when an event is handled.
+/// What a directive does with its text. It watches it and sets something; or it makes the element a control, whose model it watches and writes
+/// to, or runs it as a program after that; or it is a block, whose body stands by its value; or it runs it as a program when the element is
+/// linked, or when an event is handled; or it does nothing with it.
 #[derive(Clone, Copy, Debug, PartialEq, Eq, Drop)]
 pub enum Manner {
     Sets(Setting),
+    Models,
+    Changes,
     Fills,
+    Passes,
     Starts,
     Handles(DomEvent),
 }
@@ -55,11 +60,14 @@ fn core_manner(d: CoreDirective) -> Option<Manner>
         CoreDirective::Selected => Some(Manner::Sets(Setting::Switches)),
         CoreDirective::Href => Some(Manner::Sets(Setting::Links)),
         CoreDirective::Src => Some(Manner::Sets(Setting::Links)),
+        CoreDirective::Model => Some(Manner::Models),
         CoreDirective::Bind => Some(Manner::Sets(Setting::Binds)),
         CoreDirective::Show => Some(Manner::Sets(Setting::Shows)),
         CoreDirective::Hide => Some(Manner::Sets(Setting::Hides)),
         CoreDirective::Class => Some(Manner::Sets(Setting::Classes)),
         CoreDirective::Switch => Some(Manner::Sets(Setting::Chooses)),
+        CoreDirective::Change => Some(Manner::Changes),
+        CoreDirective::Trim => Some(Manner::Passes),
         CoreDirective::Event(event) => Some(Manner::Handles(event)),
         _ => None,
     }
@@ -86,6 +94,60 @@ pub(crate) fn are_built(picks: &[Pick]) -> bool
         }
     }
     true
+}
+
+fn is_model(d: CoreDirective) -> bool
+    ensures { result ≡ is_model_of d }
+{
+    match d {
+        CoreDirective::Model => true,
+        _ => false,
+    }
+}
+
+/// Whether a directive is `ng-model`.
+fn models(d: Directive) -> bool
+    ensures { result ≡ of_core is_model_of d }
+{
+    match d {
+        Directive::Core(core) => is_model(core),
+        Directive::Interpolated => false,
+        Directive::User(_) => false,
+    }
+}
+
+/// Whether one of these directives is `ng-model`.
+pub(crate) fn any_models(picks: &[Pick]) -> bool
+    ensures { result ≡ any_models_of picks.now }
+{
+    for pick in picks {
+        if models(pick.directive) {
+            return true;
+        }
+    }
+    false
+}
+
+/// Whether one of the core's directives is not read: `ng-checked` beside an `ng-model`, and `ng-change` without one.
+fn is_unread(modelled: bool, d: CoreDirective) -> bool
+    ensures { result ≡ is_unread_of modelled d }
+{
+    match d {
+        CoreDirective::Checked => modelled,
+        CoreDirective::Change => !modelled,
+        _ => false,
+    }
+}
+
+/// Whether a directive is read.
+pub(crate) fn is_read(modelled: bool, pick: &Pick) -> bool
+    ensures { result ≡ is_read_of modelled pick.now }
+{
+    match pick.directive {
+        Directive::Core(core) => !is_unread(modelled, core),
+        Directive::Interpolated => true,
+        Directive::User(_) => true,
+    }
 }
 
 /// Whether one of the core's directives makes its element plain.

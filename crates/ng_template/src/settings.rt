@@ -1,16 +1,20 @@
 //! What the values of a directive set: attributes, what the class is made of, and the contents (API: ngHref, ngClass, ngShow, ngBind, ngSwitch).
-ghost use Rattle.std.specs.Prelude.{◌≡◌, ◌++◌, IfOk, OnOk};
+ghost use Rattle.std.specs.Prelude.{◌≡◌, ◌++◌, option_map, IfOk, OnOk};
 ghost use Rattle.ng_template.specs.AttributeOf.{class_of};
 ghost use Rattle.ng_template.specs.Manners.{target_of};
+ghost use Rattle.ng_control.specs.declared.kind.ControlKind.TheVariants.{Number, Checkbox};
 ghost use Rattle.ng_template.specs.declared.manners.Setting.TheVariants.{Interpolates};
-ghost use Rattle.ng_template.specs.Directives.{name_on, set_by, class_by, bound_by, switch_by, class_setting, is_classed as is_classed_by};
+ghost use Rattle.ng_template.specs.Directives.{name_on, set_by, class_by, bound_by, switch_by, control_attribute, control_setting, with_states as with_states_of, class_setting, is_classed as is_classed_by};
+ghost use Rattle.ng_template.specs.Seen.{control_of};
 
+use crate::acts::Modelled;
 use crate::classes::{ClassValue, Hiding};
 use crate::directives::name_of;
 use crate::manners::{Setting, target};
-use crate::pieces::{AttributeValue, Attributes, Pieces};
+use crate::pieces::{AttributeValue, Attributes, Piece, Pieces};
 use ng_base::txt::Txt;
 use ng_collect::Pick;
+use ng_control::ControlKind;
 use std::alloc::{AllocError, Global};
 
 /// Sets the attributes of a directive, where its first hole has the number n.
@@ -43,6 +47,7 @@ pub(crate) fn set(
         Setting::Shows => Ok(()),
         Setting::Hides => Ok(()),
         Setting::Chooses => Ok(()),
+        Setting::Names => Ok(()),
     }
 }
 
@@ -83,6 +88,7 @@ pub(crate) fn add_to_class(
         Setting::Shows => Ok(class.hidings.push(Hiding::WhileFalse(n))?),
         Setting::Hides => Ok(class.hidings.push(Hiding::WhileTrue(n))?),
         Setting::Chooses => Ok(()),
+        Setting::Names => Ok(()),
     }
 }
 
@@ -99,6 +105,7 @@ pub(crate) fn bound_after(setting: Setting, n: u32, bound: Option<u32>) -> Optio
         Setting::Shows => bound,
         Setting::Hides => bound,
         Setting::Chooses => bound,
+        Setting::Names => bound,
     }
 }
 
@@ -115,6 +122,7 @@ pub(crate) fn switch_after(setting: Setting, n: u32, switch: Option<u32>) -> Opt
         Setting::Shows => switch,
         Setting::Hides => switch,
         Setting::Chooses => Some(n),
+        Setting::Names => switch,
     }
 }
 
@@ -125,8 +133,84 @@ fn is_classed(class: &ClassValue) -> bool
     !(class.words.is_empty() && class.hidings.is_empty())
 }
 
-/// Sets the class that directives make, after all other attributes.
-pub(crate) fn with_class(
+/// The attribute `value`, which is what the site of a number shows.
+fn push_value(alloc: Global, attributes: &mut Attributes, n: u32) -> Result<(), AllocError>
+    ensures { OnOk result (attributes.new ≡ attributes.old ++ control_attribute Number n) }
+{
+    let mut name = Txt::new(alloc);
+    name.push_word("value")?;
+    let mut pieces = Pieces::new(alloc);
+    pieces.push(Piece::Hole(n))?;
+    attributes.push(name, AttributeValue::Always(pieces))
+}
+
+/// The attribute `checked`, while the site of a number is seen as true.
+fn push_checked(alloc: Global, attributes: &mut Attributes, n: u32) -> Result<(), AllocError>
+    ensures { OnOk result (attributes.new ≡ attributes.old ++ control_attribute Checkbox n) }
+{
+    let mut name = Txt::new(alloc);
+    name.push_word("checked")?;
+    let word = name.copied()?;
+    attributes.push(name, AttributeValue::Flag(word, n))
+}
+
+/// Sets what a control shows, or whether it is checked.
+fn push_control(
+    alloc: Global,
+    attributes: &mut Attributes,
+    control: &Modelled,
+) -> Result<(), AllocError>
+    ensures { OnOk result (attributes.new ≡ attributes.old ++ control_attribute control.now.kind control.now.site) }
+{
+    match control.kind {
+        ControlKind::Text { .. } => push_value(alloc, attributes, control.site),
+        ControlKind::Number => push_value(alloc, attributes, control.site),
+        ControlKind::Checkbox => push_checked(alloc, attributes, control.site),
+    }
+}
+
+/// Sets what a control sets, where the element is one.
+fn with_control(
+    alloc: Global,
+    attributes: Attributes,
+    control: &Option<Modelled>,
+) -> Result<Attributes, AllocError>
+    ensures { IfOk result (λ a. a ≡ attributes ++ control_setting (option_map control_of control.now)) }
+{
+    let mut attributes = attributes;
+    if let Some(control) = control {
+        push_control(alloc, &mut attributes, control)?;
+    }
+    Ok(attributes)
+}
+
+/// The state classes of a control come behind the words of a class.
+fn with_states(class: ClassValue, control: &Option<Modelled>) -> Result<ClassValue, AllocError>
+    ensures { IfOk result (λ c. class_of c ≡ with_states_of (option_map control_of control.now) (class_of class)) }
+{
+    let mut class = class;
+    if let Some(control) = control {
+        class.words.push(control.site)?;
+    }
+    Ok(class)
+}
+
+/// Sets what a control sets, and the class that directives and the control make, after all other attributes.
+pub(crate) fn with_last(
+    alloc: Global,
+    attributes: Attributes,
+    class: ClassValue,
+    control: &Option<Modelled>,
+) -> Result<Attributes, AllocError>
+    ensures { IfOk result (λ a. a ≡ attributes ++ (control_setting (option_map control_of control.now) ++ class_setting (with_states_of (option_map control_of control.now) (class_of class)))) }
+{
+    let attributes = with_control(alloc, attributes, control)?;
+    let class = with_states(class, control)?;
+    with_class(alloc, attributes, class)
+}
+
+/// Sets the class that directives make.
+fn with_class(
     alloc: Global,
     attributes: Attributes,
     class: ClassValue,

@@ -1,5 +1,5 @@
 //! Sites, the watched expressions of a template (guide: Scopes, "`$digest`").
-ghost use Rattle.std.specs.Prelude.{◌≡◌, true, IfOk};
+ghost use Rattle.std.specs.Prelude.{◌≡◌, ◌+◌, true, IfOk};
 ghost use Rattle.ng_parse.specs.ProgramOf.{program as trees};
 ghost use Rattle.ng_view.specs.Purity.{are_pure, all_filters_known};
 
@@ -63,5 +63,15 @@ impl Site {
     {
         let program = self.program.copied(alloc)?;
         Ok(Site::new(self.kind, self.one_time, program))
+    }
+}
+
+/// The number of a site after so many others.
+pub(crate) fn after(by: u32, n: u32) -> Result<u32, Memory>
+    ensures { IfOk result (λ m. m ≡ by + n) }
+{
+    match by.checked_add(n) {
+        None => Err(Memory::Worn),
+        Some(m) => Ok(m),
     }
 }

@@ -1,11 +1,14 @@
-//! Where a directive whose own text is empty has its expression (API: ngSwitch, ngInclude, "Usage").
+//! Which directives of an element are read, and where one whose own text is empty has its expression (API: ngSwitch, ngInclude, "Usage").
 ghost use Rattle.std.specs.Prelude.{◌≡◌, map, option_map, IfOk};
+ghost use Rattle.std.specs.List.{filter};
 ghost use Rattle.std.specs.Map.{lookup};
 ghost use Rattle.std.specs.Str.{bytes_eq};
 ghost use Rattle.ng_html.specs.Seen.{node_of};
 ghost use Rattle.ng_template.specs.Around.{attributes_in, core_source, source_of, sourced, if_empty, worded as worded_of};
+ghost use Rattle.ng_template.specs.Manners.{is_read as is_read_of, picks_read};
 
 use crate::directives::text_of;
+use crate::manners::{any_models, is_read};
 use ng_base::txt::Txt;
 use ng_collect::{CoreDirective, Directive, Pick};
 use ng_html::attrs::{Attr, Attrs};
@@ -111,24 +114,32 @@ fn worded(alloc: Global, attrs: &Attrs, p: &Pick) -> Result<Pick, AllocError>
     })
 }
 
-/// Directives with the attributes that have their texts.
-fn all_worded(alloc: Global, attrs: &Attrs, picks: &[Pick]) -> Result<Vec<Pick>, AllocError>
-    ensures { IfOk result (λ v. v.items ≡ map (worded_of attrs.now) picks.now) }
+/// Directives that are read, with the attributes that have their texts.
+fn all_worded(
+    alloc: Global,
+    attrs: &Attrs,
+    modelled: bool,
+    picks: &[Pick],
+) -> Result<Vec<Pick>, AllocError>
+    ensures { IfOk result (λ v. v.items ≡ map (worded_of attrs.now) (filter (is_read_of modelled) picks.now)) }
 {
     let mut all = Vec::new(alloc);
     for p in picks {
-        all.push(worded(alloc, attrs, p)?)?;
+        if is_read(modelled, p) {
+            all.push(worded(alloc, attrs, p)?)?;
+        }
     }
     Ok(all)
 }
 
-/// Directives of a node with the attributes that have their texts.
+/// Directives of a node that are read, with the attributes that have their texts.
 pub(crate) fn worded_in(alloc: Global, e: &Node, picks: &[Pick]) -> Result<Vec<Pick>, AllocError>
-    ensures { IfOk result (λ v. v.items ≡ map (worded_of (attributes_in (node_of e.now))) picks.now) }
+    ensures { IfOk result (λ v. v.items ≡ map (worded_of (attributes_in (node_of e.now))) (picks_read picks.now)) }
 {
+    let modelled = any_models(picks);
     match e {
-        Node::Element { attrs, .. } => all_worded(alloc, attrs, picks),
-        Node::Text(_) => all_worded(alloc, &Attrs::new(alloc), picks),
-        Node::Comment(_) => all_worded(alloc, &Attrs::new(alloc), picks),
+        Node::Element { attrs, .. } => all_worded(alloc, attrs, modelled, picks),
+        Node::Text(_) => all_worded(alloc, &Attrs::new(alloc), modelled, picks),
+        Node::Comment(_) => all_worded(alloc, &Attrs::new(alloc), modelled, picks),
     }
 }

@@ -62,7 +62,7 @@ instance_on-returns-in_default t c =
     let s = state_of w in
     let p = c.args.path.now in
     let none : linked_at p s.instances ≡ None = linked_seen (templates_of w) p w.instances.entries ∙ ap (option_map (linked_of (templates_of w) p)) (sym c.get.ensures.value ∙ ap option_copied c.in_default.is) in
-    c.nothing.ensures ∙ sym (read_none nothing_linked (instance_join s.watchers s.resting) s.instances p none)
+    c.nothing.ensures ∙ sym (read_none nothing_linked (instance_join s.watchers s.resting s.controls) s.instances p none)
 
 pub instance_on-outlets_in-requires : goal.instance_on-outlets_in-requires
 instance_on-outlets_in-requires t c =
@@ -81,14 +81,14 @@ instance_on-returns t c =
     let go = body_at s p in
     let ordered : IsStrictlySortedBy path_cmp (map_keys s.instances) = subst (λ (ps : List (List ℕ)). IsStrictlySortedBy path_cmp ps) (sym (keys-seen (linked_of (templates_of w)) w.instances.entries)) c.len.ensures.ordered in
     let at : linked_at p s.instances ≡ Some l = found w p i (sym c.get.ensures.value ∙ ap option_copied c.in-Some.is) in
-    let read : instance_at s.watchers s.resting s.instances p ≡ instance_join s.watchers s.resting l (read_bodies go l.page.outlets) = read_ahead nothing_linked (instance_join s.watchers s.resting) s.instances p l ordered at in
+    let read : instance_at s.watchers s.resting s.controls s.instances p ≡ instance_join s.watchers s.resting s.controls l (read_bodies go l.page.outlets) = read_ahead nothing_linked (instance_join s.watchers s.resting s.controls) s.instances p l ordered at in
     let read_groups = λ (os : List OutletState). groups_in os (map instances_from (read_bodies go os)) in
     let many : map (seen_group (fragments_in (templates_of w))) c.in_ok-outlets.outlets.items ≡ read_groups l.page.outlets =
     c.in_ok-outlets.ensures ∙ ap (λ (os : List code_outlet.OutletState). read_groups (map outlet_of os)) c.as_slice.ensures.value in
     let outlets : List Group = map (seen_group (fragments_in (templates_of w))) c.in_ok-outlets.outlets.items in
     instance_made (fragments_in (templates_of w)) (record { origin = i.origin; scope = i.scope; sites = c.in_ok-sites.sites; outlets = c.in_ok-outlets.outlets })
     ∙ (ap (λ (xs : List SiteState). instance_with l.fragment l.page.scope xs (outlets_from outlets)) c.in_ok-sites.ensures
-    ∙ (ap (λ (os : List Group). instance_with l.fragment l.page.scope (site_states s.watchers s.resting l.page) (outlets_from os)) many ∙ sym read))
+    ∙ (ap (λ (os : List Group). instance_with l.fragment l.page.scope (site_states s.watchers s.resting s.controls l.page) (outlets_from os)) many ∙ sym read))
 
 pub outlets_in-loop-outlet-preserved : goal.outlets_in-loop-outlet-preserved
 outlets_in-loop-outlet-preserved t c =

@@ -7,5 +7,5 @@ use Rattle.ng_link.proofs.instance.site_states.Given as goal
 
 abbrev pub invariant-loop-serial : goal.invariant-loop-serial
 invariant-loop-serial l =
-    let state = λ (n : ℕ). site_state (state_of l.works).watchers (state_of l.works).resting l.one.scope.0 (key_on l.path n) in
+    let state = λ (n : ℕ). site_state (state_of l.works).watchers (state_of l.works).resting (state_of l.works).controls l.one.scope.0 (key_on l.path n) in
     map seen_state l.sites.items ++ map state l.serial-iterator ≡ map state (map_keys l.one.spots.entries)

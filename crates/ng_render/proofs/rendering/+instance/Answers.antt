@@ -13,7 +13,7 @@ use Rattle.ng_template.specs.Kept.{templates_of, fragments_in}
 use Rattle.ng_template.specs.Seen.{parts_of}
 use Rattle.ng_template.specs.SiteOf.{site_of}
 use Rattle.ng_template.specs.WholeOf.{whole_of}
-use Rattle.ng_render.specs.OverOf.{group_of, now_over, NamesStand, InstancesStand, OutletsStand}
+use Rattle.ng_render.specs.OverOf.{group_of, kept_over, NamesStand, InstancesStand, OutletsStand}
 use Rattle.ng_render.proofs.Walks.{behind, bodies_list, bodies_walk, walk_turn, walk_unfit, walk_faulted, walk_last, body_stands, bodies_stand, gives_err}
 use Rattle.ng_render.proofs.Bodies.{size_all, size_in, no_fragments, size_out, size_within, sizes_within, instances_out, roles_out, instance_is, sites_stand, filled_by, filled_turn}
 use Rattle.ng_render.proofs.rendering.+instance.Goals as goal
@@ -109,7 +109,7 @@ pub rendered_outlets-loop-k-preserved : goal.rendered_outlets-loop-k-preserved
 rendered_outlets-loop-k-preserved t c =
     let ground = c.args.ground.now in
     let all = fragments_in (templates_of ground.all.now) in
-    let now = now_over c.args.over.now in
+    let now = kept_over c.args.over.now in
     let states = map state_of c.args.over.now.states.now in
     let os = outlets_of c.args.outlets.now in
     let x = c.index-bodies-k.result in

@@ -6,7 +6,7 @@ use Rattle.ng_drawing.specs.InstanceOf.{state_of, instance_of, group_of as bodie
 use Rattle.ng_html.specs.Seen.{forest_of}
 use Rattle.ng_template.specs.FragmentOf.{outlets_of}
 use Rattle.ng_template.specs.Kept.{templates_of, fragments_in}
-use Rattle.ng_render.specs.OverOf.{group_of, now_over}
+use Rattle.ng_render.specs.OverOf.{group_of, kept_over}
 use Rattle.ng_render.proofs.Walks.{behind, bodies_list}
 use Rattle.ng_render.proofs.Bodies.{size, size_all, size_in, no_fragments}
 use Rattle.ng_render.proofs.rendering.+instance.Given as goal
@@ -28,6 +28,6 @@ invariant-rendered_all-loop-body l =
 abbrev pub invariant-rendered_outlets-loop-k : goal.invariant-rendered_outlets-loop-k
 invariant-rendered_outlets-loop-k l =
     map group_of l.groups.items
-    ++ rendering_in l.ground.store.now l.ground.scopes.now (now_over l.over) (map state_of l.over.states.now) (cases_of (outlets_of l.outlets)) (drop l.k (outlets_of l.outlets))
+    ++ rendering_in l.ground.store.now l.ground.scopes.now (kept_over l.over) (map state_of l.over.states.now) (cases_of (outlets_of l.outlets)) (drop l.k (outlets_of l.outlets))
     (outlets_from (map (bodies_of (fragments_in (templates_of l.ground.all.now))) (drop l.k l.bodies)))
-    ≡ rendering_in l.ground.store.now l.ground.scopes.now (now_over l.over) (map state_of l.over.states.now) (cases_of (outlets_of l.outlets)) (outlets_of l.outlets) (outlets_from (map (bodies_of (fragments_in (templates_of l.ground.all.now))) l.bodies))
+    ≡ rendering_in l.ground.store.now l.ground.scopes.now (kept_over l.over) (map state_of l.over.states.now) (cases_of (outlets_of l.outlets)) (outlets_of l.outlets) (outlets_from (map (bodies_of (fragments_in (templates_of l.ground.all.now))) l.bodies))

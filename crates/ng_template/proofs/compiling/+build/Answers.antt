@@ -1,4 +1,4 @@
-use Rattle.std.proofs.Common.{◌≡◌, ◌+◌, None, Some, arith, ap, sym, subst, ◌∙◌, rules, map, drop, Ok, Result}
+use Rattle.std.proofs.Common.{◌≡◌, ◌+◌, None, Some, false, arith, ap, sym, subst, ◌∙◌, rules, map, drop, Ok, Err, Result}
 use Rattle.std.specs.Prelude.{is_some, option_map, unwrap_or}
 use Rattle.ng_base.specs.Meets.{Gives}
 use Rattle.ng_drawing.specs.Template.{Part}
@@ -12,7 +12,7 @@ use Rattle.ng_template.specs.Free.{is_tpl_want}
 use Rattle.ng_template.specs.declared.fault.TplFault.{TplFault}
 use Rattle.ng_template.specs.declared.parts.Part as parts
 use Rattle.ng_template.specs.declared.tpl.Making.{Making}
-use Rattle.ng_template.proofs.Blocks.{alone_is, wrapped_is}
+use Rattle.ng_template.proofs.Blocks.{alone_is, wrapped_is, wrapped_wrong, gives_err}
 use Rattle.ng_template.specs.Seen.{part_of, parts_of}
 use Rattle.ng_template.specs.TemplateOf.{made_of}
 use Rattle.ng_template.proofs.NodeLists.{node_element, onto, compiled_list, compiled-turn, compiled-end}
@@ -73,3 +73,29 @@ part_at-returns-in_ok-part-in-Some t c =
     let asked = ap (λ x. compiled_node defs o x m) is
     ∙ wrapped_is (first_place m.places) (around_node defs (is_some o) n) made o m a found around (blocks_of c.in-Some.others.items) (part_of c.in_ok-part-in-Some.part, made_of c.in_ok-part-in-Some.after) some begun in
     subst (λ r. Gives is_tpl_want (λ (q : parts.Part × Making). (part_of q.0, made_of q.1)) r c.wrap.result) (sym asked) c.wrap.ensures
+
+pub part_at-returns-in_err-part-in-Some : goal.part_at-returns-in_err-part-in-Some
+part_at-returns-in_err-part-in-Some t c =
+    let defs = c.args.r.now in
+    let o : Switch = c.args.outer in
+    let m = made_of c.args.made in
+    let kids : Forest = forest_of c.in-Element.kids in
+    let n : Node = element c.in-Element.name c.in-Element.attrs kids in
+    let is : node_of c.args.node.now ≡ n = ap node_of c.in-Element.is ∙ node_element c.in-Element.name c.in-Element.attrs c.in-Element.kids in
+    let made : Inside → Switch → Made → Result (Part × Made) TplFault = λ i s k. element_made n c.in-Element.name c.in-Element.attrs kids i (λ u j. compiled_forest defs u kids j) s k in
+    let a : Around = around_of c.in_ok-found-in-Element.field-0 in
+    let found = ap (λ x. at_place (first_place m.places) (around_node defs (is_some o) x)) (sym is)
+    ∙ (ap (λ p. at_place p (around_node defs (is_some o) (node_of c.args.node.now))) (sym c.first_of-place.ensures.first)
+    ∙ (ap (λ b. at_place c.first_of-place.result.0 (around_node defs b (node_of c.args.node.now))) (sym c.is_some.ensures) ∙ c.in_ok-found-in-Element.ensures)) in
+    let around : Outermost = outermost_of c.in-Some.outermost in
+    let some : rounds (unwrap_or o 0) a.case a.heads ≡ Some (around, blocks_of c.in-Some.others.items)
+    = sym c.rounds.ensures ∙ ap (option_map (λ r. (outermost_of r.0, blocks_of r.1.items))) c.in-Some.is in
+    let e : TplFault = c.in_err-part-in-Some.field-0.0 in
+    gives_err (λ (q : parts.Part × Making). (part_of q.0, made_of q.1)) (compiled_node defs o (node_of c.args.node.now) m) c.from_residual-in_err-part-in-Some.result e c.from_residual-in_err-part-in-Some.ensures.1
+    (λ (free : is_tpl_want e ≡ false).
+    let inner : element_made (node_of c.args.node.now) c.in-Element.name c.in-Element.attrs kids a.inside (λ u j. compiled_forest defs u kids j) None (made_of c.begun_body-body.result) ≡ Err e
+    = search (rules, c.in_err-part-in-Some.ensures free) in
+    let begun = ap (λ x. element_made x c.in-Element.name c.in-Element.attrs kids a.inside (λ u j. compiled_forest defs u kids j) None (begun_body m)) (sym is)
+    ∙ (ap (λ k. element_made (node_of c.args.node.now) c.in-Element.name c.in-Element.attrs kids a.inside (λ u j. compiled_forest defs u kids j) None k) (sym c.begun_body-body.ensures) ∙ inner) in
+    ap (λ x. compiled_node defs o x m) is
+    ∙ wrapped_wrong (first_place m.places) (around_node defs (is_some o) n) made o m a found around (blocks_of c.in-Some.others.items) e some begun)

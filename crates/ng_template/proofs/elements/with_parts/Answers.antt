@@ -1,8 +1,11 @@
 use Rattle.std.proofs.Common.{◌≡◌, ◌<◌, ◌≤◌, ◌+◌, ◌++◌, ◌∙◌, Err, ap, sym, map, length, arith}
 use Rattle.std.proofs.lemmas.List.{length-map}
+use Rattle.std.specs.Prelude.{option_map}
 use Rattle.ng_interp.specs.Parts.{piece_of}
 use Rattle.ng_template.specs.AttributeOf.{class_of}
-use Rattle.ng_template.specs.Directives.{kind_for}
+use Rattle.ng_template.specs.Directives.{kind_for, acts_with, with_written}
+use Rattle.ng_parse.specs.ProgramOf.{program}
+use Rattle.ng_template.specs.Seen.{acts_of}
 use Rattle.ng_template.specs.Limits.{site_limit}
 use Rattle.ng_template.specs.SiteOf.{site_of}
 use Rattle.ng_template.specs.TemplateOf.{head_of}
@@ -15,7 +18,7 @@ returns-then-len-count-gt-SITE_LIMIT c free =
     let count = c.count_holes-count.ensures.count (kind_for c.args.setting) ∙ ap (λ xs. length (sites_in (kind_for c.args.setting) (map piece_of xs))) c.as_slice.ensures.value in
     let l : site_limit < length (map site_of c.args.element.sites.items) + length (sites_in (kind_for c.args.setting) (map piece_of c.args.parts.items))
     = omega (arith, count, length-map c.args.element.sites.items site_of) in
-    parts_full c.args.pick.now c.args.setting (map piece_of c.args.parts.items) (head_of c.args.element) l ∙ ap Err (sym c.worn.ensures)
+    parts_full c.args.pick.now c.args.setting (map piece_of c.args.parts.items) (with_written (option_map program c.args.program) (head_of c.args.element)) l ∙ ap Err (sym c.worn.ensures)
 
 pub place_parts-requires-clause-fits : goal.place_parts-requires-clause-fits
 place_parts-requires-clause-fits c =
@@ -31,13 +34,14 @@ returns c =
     let fits : length (map site_of c.args.element.sites.items) + length (sites_in (kind_for c.args.setting) (map piece_of c.args.parts.items)) ≤ site_limit = omega (arith, count, size) in
     let named = c.in_ok-pieces.ensures.pieces ∙ ap (λ n. numbered n (map piece_of c.args.parts.items)) raw in
     let kind = ap (λ k. map site_of c.args.element.sites.items ++ sites_in k (map piece_of c.args.parts.items)) c.kind_for.ensures in
-    parts_placed c.args.pick.now c.args.setting (map piece_of c.args.parts.items) (head_of c.args.element) c.len-first.result c.in_ok-pieces.pieces
-    c.set.new.attributes (class_of c.add_to_class.new.class) c.bound_after.result c.switch_after.result c.add_numbers.new.own.items (map site_of c.in_ok-pieces.sites.items) first
+    parts_placed c.args.pick.now c.args.setting (map piece_of c.args.parts.items) (with_written (option_map program c.args.program) (head_of c.args.element)) c.len-first.result c.in_ok-pieces.pieces
+    c.set.new.attributes (class_of c.add_to_class.new.class) c.bound_after.result c.switch_after.result c.add_numbers.new.own.items (acts_of c.with_model.result) (map site_of c.in_ok-pieces.sites.items) first
     named
     c.in_ok-set.ensures
     c.in_ok-add_to_class.ensures
     c.bound_after.ensures
     c.switch_after.ensures
     (c.in_ok-add_numbers.ensures (sites_in (kind_for c.args.setting) (map piece_of c.args.parts.items)) (sym count))
+    (c.with_model.ensures ∙ ap (λ n. acts_with c.args.element.kind n (option_map program c.args.program) (acts_of c.args.element.acts)) first)
     (c.in_ok-pieces.ensures.sites ∙ kind)
     fits

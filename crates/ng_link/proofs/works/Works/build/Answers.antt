@@ -19,11 +19,12 @@ use Rattle.ng_template.specs.declared.acts.Handler.{Handler}
 use Rattle.ng_watch.specs.Table.{Table, watchers_of}
 use Rattle.ng_link.specs.Building.{parent_name, IsStood}
 use Rattle.ng_link.specs.Calls.{outlets_on, linked_on}
+use Rattle.ng_link.specs.Controls.{controlled}
 use Rattle.ng_link.specs.Handlers.{handled}
 use Rattle.ng_link.specs.Placing.{IsPrepared}
 use Rattle.ng_link.specs.Rows.{with_sites, spots_by}
 use Rattle.ng_link.specs.Shape.{keys_in, shape, unfilled, holes, anchors}
-use Rattle.ng_link.specs.State.{handled_of, outlet_of, linked_of, state_of, templates_of}
+use Rattle.ng_link.specs.State.{handled_of, controlled_of, outlet_of, linked_of, state_of, templates_of}
 use Rattle.ng_link.specs.declared.works.Linked as code
 use Rattle.ng_link.specs.declared.works.Works.{Works}
 use Rattle.ng_link.proofs.Undrawn.{outlets_undrawn}
@@ -33,13 +34,13 @@ use Rattle.ng_link.proofs.Links.{many_holes, linked_made}
 use Rattle.ng_link.proofs.Numbers.{whole_count, whole_outlets}
 use Rattle.ng_link.proofs.Serials.{paired_keys, spots_are}
 use Rattle.ng_link.proofs.works.Works.build.Goals as goal
-use Rattle.ng_link.proofs.works.Works.build.Goals.{in-Made-6, in-Kept-6}
+use Rattle.ng_link.proofs.works.Works.build.Goals.{in-Made-7, in-Kept-7}
 
 pub link_nodes-requires-clause-room : goal.link_nodes-requires-clause-room
 link_nodes-requires-clause-room c =
     let f : Fragment = whole_of c.in-Some.whole in
     let known : fragment_for (templates_of c.args.self.now) c.args.origin ≡ Some f = sym c.in_ok-whole.ensures.fragment ∙ ap (option_map whole_of) c.in-Some.is in
-    let parts : parts_of c.parts-2.result.now ≡ f.parts = c.parts-2.ensures ∙ ap (λ (h : Fragment). h.parts) c.fragment-fragment.ensures in
+    let parts : parts_of c.parts-3.result.now ≡ f.parts = c.parts-3.ensures ∙ ap (λ (h : Fragment). h.parts) c.fragment-fragment.ensures in
     subst (λ (ps : Parts). live_count c.args.self.now.dom + nodes ps ≤ node_limit) (sym parts) (c.requires.room f known)
 
 pub returns-clause-built : goal.returns-clause-built
@@ -57,7 +58,7 @@ returns-clause-built c = λ g asked.
     let whole : is_whole bodies f ≡ true = order.1 in
     let numbered = whole_count bodies f whole in
     let m = next_name old.dom in
-    let parts : parts_of c.parts-2.result.now ≡ f.parts = c.parts-2.ensures ∙ ap (λ (h : Fragment). h.parts) is in
+    let parts : parts_of c.parts-3.result.now ≡ f.parts = c.parts-3.ensures ∙ ap (λ (h : Fragment). h.parts) is in
     let are_holes : c.in_ok-nodes.nodes.items ≡ holes m f.parts = c.in_ok-nodes.ensures.holes ∙ ap (holes m) parts in
     let spots : c.in_ok-spots.spots.entries ≡ spots_by serials (holes m f.parts) [] = c.in_ok-spots.ensures.spots ∙ ap (λ (ns : List ℕ). spots_by serials ns []) (c.as_slice-2.ensures.value ∙ are_holes) in
     let as_many : length serials ≡ length (holes m f.parts) = c.requires.count f known ∙ parts_count m f.parts in
@@ -67,12 +68,16 @@ returns-clause-built c = λ g asked.
     c.in_ok-enter_parts.ensures.entered
     ∙ (ap (λ (ps : Parts). handled c.next_name-node.result ps (handled_of c.new-handlers.result.entries)) (c.as_slice.ensures ∙ (c.parts.ensures ∙ ap (λ (h : Fragment). h.parts) is))
     ∙ ap (λ (es : List (ℕ × Vec Handler Global)). handled c.next_name-node.result f.parts (handled_of es)) c.new-handlers.ensures.empty) in
+    let controls : controlled_of c.in_ok-controls.controls.entries ≡ controlled (keys_in path serials) c.next_name-node.result f.parts [] =
+    c.in_ok-controls.ensures
+    ∙ ap (λ (ps : Parts). controlled (keys_in path serials) c.next_name-node.result ps []) (c.as_slice-parts.ensures ∙ (c.parts-2.ensures ∙ ap (λ (h : Fragment). h.parts) is)) in
     let one : code.Linked = record {
       origin = o;
       scope = c.args.scope;
       spots = c.in_ok-spots.spots;
       node = c.next_name-node.result;
       handlers = c.enter_parts.new.table;
+      controls = c.in_ok-controls.controls;
       outlets = c.in_ok-outlets.outlets;
     } in
     let outlets : map outlet_of c.in_ok-outlets.outlets.items ≡ outlets_on (inner_home o) serials f.outlets (anchors c.next_name-node.result f.parts) =
@@ -80,7 +85,7 @@ returns-clause-built c = λ g asked.
     ∙ (ap (λ (h : Home). outlets_on h serials (fragment_of c.fragment-fragment.result.now).outlets (anchors c.next_name-node.result (fragment_of c.fragment-fragment.result.now).parts)) c.inner.ensures
     ∙ ap (λ (h : Fragment). outlets_on (inner_home o) serials h.outlets (anchors c.next_name-node.result h.parts)) is) in
     let made : linked_of all path one ≡ linked_on o c.args.scope.0 path f serials m =
-    linked_made all path serials f one (fragment_or all o f known) keys entered outlets
+    linked_made all path serials f one (fragment_or all o f known) keys entered controls outlets
     ∙ ap (linked_on o c.args.scope.0 path f serials) node in
     let many : length serials ≡ length f.sites = as_many ∙ many_holes f m numbered in
     let undrawn = outlets_undrawn (inner_home o) serials f many bodies whole (anchors m f.parts) in
@@ -104,7 +109,7 @@ returns-clause-built c = λ g asked.
       rows = rows;
       stood = subst S parts c.in_ok-nodes.ensures.stood;
     }) in
-    elim c.match-whole-6.branch [
-      | in-Made-6 w ↦ subst (λ (x : Works). P x g) (sym w.self-is) prepared
-      | in-Kept-6 w ↦ subst (λ (x : Works). P x g) (sym w.self-is) prepared
+    elim c.match-whole-7.branch [
+      | in-Made-7 w ↦ subst (λ (x : Works). P x g) (sym w.self-is) prepared
+      | in-Kept-7 w ↦ subst (λ (x : Works). P x g) (sym w.self-is) prepared
     ]

@@ -21,7 +21,7 @@ read_unless y f (Some x) e = absurd (cc)
 -- the page's instance, where the code's table has it
 module _ (w : Works) where
   abbrev top : Instance
-  top = instance_at (state_of w).watchers (state_of w).resting (state_of w).instances []
+  top = instance_at (state_of w).watchers (state_of w).resting (state_of w).controls (state_of w).instances []
 
   abbrev entry : Option code.Linked
   entry = lookup (is_path []) w.instances.entries
@@ -39,5 +39,5 @@ pub returns : goal.returns
 returns c =
     let w = c.args.self.now in
     let some : is_some (entry w) ≡ true = ap (λ (p : List ℕ). is_some (lookup (is_path p) w.instances.entries)) (sym c.new-root.ensures) ∙ (sym c.contains_key.ensures ∙ c.if-not-contains_key.false) in
-    ap Some (c.in_ok-instance_on.ensures ∙ ap (instance_at (state_of w).watchers (state_of w).resting (state_of w).instances) c.new-root.ensures)
+    ap Some (c.in_ok-instance_on.ensures ∙ ap (instance_at (state_of w).watchers (state_of w).resting (state_of w).controls (state_of w).instances) c.new-root.ensures)
     ∙ sym (read w ∙ read_if (top w) (linked_of (templates_of w) []) (entry w) some)

@@ -1,11 +1,13 @@
 use Rattle.std.proofs.Common.{◌≡◌, ℕ, Option, Some, None, ap, sym, subst, ◌∙◌}
 use Rattle.std.specs.Prelude.{option_map, option_and_then}
 use Rattle.ng_base.specs.Views.{ViewTree}
+use Rattle.ng_control.specs.State.{with_model}
 use Rattle.ng_dom.specs.Document.{next_name}
 use Rattle.ng_value.specs.Snaps.{snap_of}
 use Rattle.ng_watch.specs.Seen.{Watcher}
 use Rattle.ng_watch.specs.Table.{Table, watchers_of, with_kept}
-use Rattle.ng_link.specs.Firing.{WritesAt}
+use Rattle.ng_link.specs.Calls.{keeping_at}
+use Rattle.ng_link.specs.Controls.{Controls}
 use Rattle.ng_link.specs.State.{state_of, looks_of, spot_in}
 use Rattle.ng_link.specs.Standing.{Standing}
 use Rattle.ng_link.specs.declared.works.Works.{Works}
@@ -20,14 +22,18 @@ former_kept (Some w) r e = let same : w.kept ≡ r = cc in sym same
 pub returns-clause-state : goal.returns-clause-state
 returns-clause-state c =
     let s = state_of c.args.self.now in
+    let k = c.args.key.now in
+    let v = snap_of c.args.s in
     let old = c.args.self.now.dom in
     let new = c.show_kept.new.self.dom in
-    let t = with_kept c.args.key.now (Some (snap_of c.args.s)) s.watchers in
+    let cs = c.drop_typed.new.controls.entries in
+    let t = with_kept k (Some v) s.watchers in
     let fires = c.in_ok-show_kept.ensures.fires in
-    let next : next_name new ≡ next_name old = written_next (looks_of (watchers_of c.keep-former.new.self) s.resting) (spot_in c.args.self.now.instances.entries c.args.key.now) old new fires.dom in
+    let next : next_name new ≡ next_name old = written_next (looks_of (watchers_of c.keep-former.new.self) s.resting cs) (spot_in c.args.self.now.instances.entries k) old new fires.dom in
     ap state_of fires.rest
-    ∙ (ap (λ (x : Table). record s { watchers = x; next_node = next_name new }) c.keep-former.ensures.kept
-    ∙ ap (λ (n : ℕ). record s { watchers = t; next_node = n }) next)
+    ∙ (ap (λ (x : Table). record s { watchers = x; controls = cs; next_node = next_name new }) c.keep-former.ensures.kept
+    ∙ (ap (λ (x : Controls). record s { watchers = t; controls = x; next_node = next_name new }) c.drop_typed.ensures
+    ∙ ap (λ (n : ℕ). record (keeping_at k v s) { next_node = n }) next))
 
 pub returns-clause-former : goal.returns-clause-former
 returns-clause-former c = former_kept _ _ c.keep-former.ensures.former
@@ -35,9 +41,8 @@ returns-clause-former c = former_kept _ _ c.keep-former.ensures.former
 pub returns-clause-stands : goal.returns-clause-stands
 returns-clause-stands c =
     let old = c.args.self.now in
-    let new = c.show_kept.new.self in
-    let k = c.args.key.now in
+    let v = snap_of c.args.s in
     let fires = c.in_ok-show_kept.ensures.fires in
-    let W : Table → Type 0 = λ t. WritesAt (looks_of t (state_of old).resting) (spot_in old.instances.entries k) old.dom new.dom in
     λ ts g. let F : Works → Type 0 = λ x. Standing x ts in
-    subst F (sym fires.rest) (kept_stands old c.keep-former.new.self new.dom k (Some (snap_of c.args.s)) c.keep-former.ensures.kept (subst W c.keep-former.ensures.kept fires.dom) ts g)
+    subst F (sym fires.rest)
+    (kept_stands old c.keep-former.new.self c.drop_typed.new.controls c.show_kept.new.self.dom c.args.key.now (Some v) (λ x. with_model x v) c.keep-former.ensures.kept c.drop_typed.ensures fires.dom ts g)

@@ -1,4 +1,4 @@
-use Rattle.std.proofs.Common.{◌≡◌, ℕ, List, Option, ap, refl, sym, subst, ◌∙◌, Some, length, arith}
+use Rattle.std.proofs.Common.{◌≡◌, ℕ, List, [], Option, ap, refl, sym, subst, ◌∙◌, Some, length, arith}
 use Rattle.std.specs.BTreeMap.{insert_entry}
 use Rattle.std.specs.Ordering.{nat_cmp}
 use Rattle.ng_base.specs.Order.{path_cmp}
@@ -12,9 +12,12 @@ use Rattle.ng_drawing.specs.declared.origin.Origin.{Origin}
 use Rattle.ng_template.specs.Kept.{fragment_for}
 use Rattle.ng_link.specs.Building.{IsStood}
 use Rattle.ng_link.specs.Calls.{Place, linked_on, taken_in, placed_under}
+use Rattle.ng_link.specs.Controls.{controlled, controls_begun}
+use Rattle.ng_link.specs.Instances.{Linked}
 use Rattle.ng_link.specs.PlaceOf.{place_of, IsFree}
+use Rattle.ng_link.specs.Shape.{keys_in}
 use Rattle.ng_link.specs.Standing.{IsStanding}
-use Rattle.ng_link.specs.State.{looks_in, instances_of, spot_in, state_of, templates_of}
+use Rattle.ng_link.specs.State.{looks_in, controlled_of, instances_of, spot_in, state_of, templates_of}
 use Rattle.ng_link.specs.declared.works.Linked as code
 use Rattle.ng_link.specs.declared.works.Works.{Works}
 use Rattle.ng_link.proofs.Added.{new_stands}
@@ -47,6 +50,7 @@ returns-clause-state c = λ f known.
     let w : Works = c.args.self.now in
     let all = templates_of w in
     let built : Works = c.build.new.self in
+    let cs = c.begin_controls.new.controls in
     let is = c.note.new.self.instances in
     let os = c.note.new.self.owners in
     let one : code.Linked = c.in_ok-one.one in
@@ -57,17 +61,20 @@ returns-clause-state c = λ f known.
     let serials : List ℕ = c.args.serials.now in
     let p = c.in_ok-one.ensures.built f known in
     let rest : built ≡ record w { dom = built.dom; watchers = built.watchers } = c.build.ensures.rest in
-    let left : c.note.new.self ≡ after w built.watchers built.dom is os = c.note.ensures.rest ∙ ap (λ (x : Works). record x { instances = is; owners = os }) rest in
+    let left : c.note.new.self ≡ after w built.watchers cs built.dom is os = c.note.ensures.rest ∙ ap (λ (x : Works). record x { controls = cs; instances = is; owners = os }) rest in
     let noted : instances_of all is.entries ≡ taken_in place path (instances_of all (insert_entry path_cmp w.instances.entries path one)) =
     c.in_ok-note.ensures.instances all ∙ ap (λ (x : Works). taken_in place path (instances_of all (insert_entry path_cmp x.instances.entries path one))) rest in
     let node : one.node ≡ next_name w.dom = ap (λ l. l.page.node) p.made in
+    let begun : cs.entries ≡ controls_begun (controlled (keys_in path serials) (state_of w).next_node f.parts []) (state_of w).controls =
+    c.in_ok-begin_controls.ensures
+    ∙ (ap (λ (x : Works). controls_begun (controlled_of one.controls.entries) x.controls.entries) rest ∙ ap (λ (l : Linked). controls_begun l.page.controls (state_of w).controls) p.made) in
     let owned : os.entries ≡ insert_entry nat_cmp w.owners.entries (next_name w.dom) path =
     c.in_ok-note.ensures.owners
     ∙ (ap (λ (x : Works). insert_entry nat_cmp x.owners.entries one.node path) rest ∙ ap (λ (n : ℕ). insert_entry nat_cmp w.owners.entries n path) node) in
     let is_path : path ≡ path_at (state_of w).core.scopes scope = c.in_ok-path.ensures ∙ c.path.ensures in
     let object = object_at (state_of w).core.scopes scope in
     ap state_of left
-    ∙ (placed_state w built.watchers built.dom is os one place which scope object path f serials p.rows noted p.made owned (stood_next _ _ _ _ w.dom built.dom p.stood)
+    ∙ (placed_state w built.watchers cs built.dom is os one place which scope object path f serials p.rows begun noted p.made owned (stood_next _ _ _ _ w.dom built.dom p.stood)
     ∙ ap (λ (q : List ℕ). placed_under place q object which scope f serials (state_of w)) is_path)
 
 pub returns-clause-stands : goal.returns-clause-stands
@@ -75,6 +82,7 @@ returns-clause-stands c =
     let w : Works = c.args.self.now in
     let all = templates_of w in
     let built : Works = c.build.new.self in
+    let cs = c.begin_controls.new.controls in
     let is = c.note.new.self.instances in
     let os = c.note.new.self.owners in
     let one : code.Linked = c.in_ok-one.one in
@@ -89,10 +97,13 @@ returns-clause-stands c =
     let p = c.in_ok-one.ensures.built f known in
     let m = next_name w.dom in
     let rest : built ≡ record w { dom = built.dom; watchers = built.watchers } = c.build.ensures.rest in
-    let left : c.note.new.self ≡ after w built.watchers built.dom is os = c.note.ensures.rest ∙ ap (λ (x : Works). record x { instances = is; owners = os }) rest in
+    let left : c.note.new.self ≡ after w built.watchers cs built.dom is os = c.note.ensures.rest ∙ ap (λ (x : Works). record x { controls = cs; instances = is; owners = os }) rest in
     let noted : instances_of all is.entries ≡ taken_in place path (instances_of all (insert_entry path_cmp w.instances.entries path one)) =
     c.in_ok-note.ensures.instances all ∙ ap (λ (x : Works). taken_in place path (instances_of all (insert_entry path_cmp x.instances.entries path one))) rest in
     let is_path : path ≡ path_at (state_of w).core.scopes scope = c.in_ok-path.ensures ∙ c.path.ensures in
+    let begun : cs.entries ≡ controls_begun (controlled (keys_in path serials) m f.parts []) (state_of w).controls =
+    c.in_ok-begin_controls.ensures
+    ∙ (ap (λ (x : Works). controls_begun (controlled_of one.controls.entries) x.controls.entries) rest ∙ ap (λ (l : Linked). controls_begun l.page.controls (state_of w).controls) p.made) in
     let is_free : IsFree place path (state_of w) = subst (λ (q : List ℕ). IsFree place q (state_of w)) (sym is_path) c.requires.free in
     let spotted = λ (k : Key).
     c.in_ok-note.ensures.spots k ∙ (ap (λ (x : Works). spot_in (insert_entry path_cmp x.instances.entries path one) k) rest ∙ spots_noted w.instances.entries path one k) in
@@ -100,6 +111,6 @@ returns-clause-stands c =
     let stood =
     subst (λ (x : Option ℕ × ℕ). IsStood x.0 x.1 (new_stands (linked_on which scope path f serials m)) (nodes f.parts) w.dom built.dom) (c.spot_for-spot.ensures all) p.stood in
     subst IsStanding (sym left)
-    (placed_stands w built.watchers built.dom is os one which scope (object_at (state_of w).core.scopes scope) m path f serials spotted (free_path place path (state_of w) is_free) p.numbered p.outlined
-    (c.requires.objects.below scope c.requires.scope) c.requires.rising c.requires.below count (p.spots ∙ spots_are serials _ c.requires.rising) p.undrawn p.rows place is_free
+    (placed_stands w built.watchers cs built.dom is os one which scope (object_at (state_of w).core.scopes scope) m path f serials spotted (free_path place path (state_of w) is_free) p.numbered p.outlined
+    (c.requires.objects.below scope c.requires.scope) c.requires.rising c.requires.below count (p.spots ∙ spots_are serials _ c.requires.rising) p.undrawn p.rows begun place is_free
     (taken_up all place path one _ w.instances.entries is.entries noted p.made) refl stood c.requires.stands.0 c.requires.stands.1)

@@ -1,0 +1,126 @@
+-- The states of controls, where one changes or some begin, and what is shown then.
+use Rattle.std.proofs.Common.{◌≡◌, ◌+◌, ℕ, Bool, true, false, cond, List, [], ◌∷◌, Option, Some, None, refl, ap, ◌∙◌, sym, map}
+use Rattle.std.specs.BTreeMap.{insert_entry, is_at}
+use Rattle.std.specs.Map.{lookup, set_value}
+use Rattle.std.specs.Ordering.{nat_cmp, match_ordering}
+use Rattle.std.specs.Prelude.{option_map}
+use Rattle.std.specs.declared.cmp.Ordering.{Ordering}
+use Rattle.std.specs.declared.cmp.Ordering.TheVariants.{Less, Equal, Greater}
+use Rattle.ng_base.specs.Views.{ViewTree}
+use Rattle.ng_base.specs.declared.path.Key.{Key}
+use Rattle.ng_control.specs.State.{ControlState, fresh}
+use Rattle.ng_dom.specs.Drawing.{DifferAt}
+use Rattle.ng_drawing.specs.Looks.{seen_by}
+use Rattle.ng_drawing.specs.Template.{Control, Part, Contents, Parts, text_part, comment_part, element_part, anchor_part, children, bound, no_parts, part_then}
+use Rattle.ng_drawing.specs.Nodes.{part_nodes}
+use Rattle.ng_watch.specs.Keys.{key_cmp, is_key}
+use Rattle.ng_watch.specs.Seen.{Watcher}
+use Rattle.ng_watch.specs.Table.{Table, found, with_kept}
+use Rattle.ng_link.specs.Controls.{ControlHere, Controlled, with_control, part_controlled, contents_controlled, controlled, controlled_at, Controls, state_under, controls_begun, control_changed}
+use Rattle.ng_link.specs.Shape.{keys_in}
+use Rattle.ng_link.specs.State.{Resting, kept_or, kept_in, look_of, looks_of, control_of, controlled_of}
+use Rattle.ng_link.specs.declared.works.ControlHere as code
+use Rattle.ng_link.proofs.Keys.{key_is, other_key}
+use Rattle.ng_link.proofs.Tables.{put-other, kept-other}
+
+-- where one changes, another stays
+pub changed-other : (f : ControlState → ControlState) (k q : Key) (cs : Controls) → (q ≡ k → ⊥) → state_under q (control_changed f k cs) ≡ state_under q cs
+changed-other f k q [] ne = refl
+changed-other f k q (e ∷ es) ne = by_test (is_key k e.0) refl (changed-other f k q es ne)
+  where
+    by_test : (b : Bool) → is_key k e.0 ≡ b → state_under q (control_changed f k es) ≡ state_under q es
+        → state_under q (cond b ((e.0, f e.1) ∷ es) (e ∷ control_changed f k es)) ≡ cond (is_key q e.0) (Some e.1) (state_under q es)
+    by_test true is more = let same : k ≡ e.0 = key_is k e.0 is in let apart : is_key q e.0 ≡ false = rw (← same) (other_key q k (λ g. ne (sym g))) in rw apart refl
+    by_test false is more = ap (cond (is_key q e.0) (Some e.1)) more
+
+-- where there is none of a key, nothing changes
+pub unchanged : (f : ControlState → ControlState) (k : Key) (cs : Controls) → state_under k cs ≡ None → control_changed f k cs ≡ cs
+unchanged f k [] none = refl
+unchanged f k (e ∷ es) none = by_test (is_key k e.0) refl (unchanged f k es)
+  where
+    by_test : (b : Bool) → is_key k e.0 ≡ b → (state_under k es ≡ None → control_changed f k es ≡ es) → cond b ((e.0, f e.1) ∷ es) (e ∷ control_changed f k es) ≡ e ∷ es
+    by_test true is more = let two : Some e.1 ≡ None = sym (ap (λ (b : Bool). cond b (Some e.1) (state_under k es)) is) ∙ none in absurd (cc)
+    by_test false is more = ap (λ (xs : Controls). e ∷ xs) (more (sym (ap (λ (b : Bool). cond b (Some e.1) (state_under k es)) is) ∙ none))
+
+-- where there is one, the changed one is put in its place
+pub changed_set : (f : ControlState → ControlState) (k : Key) (cs : Controls) (old new : ControlState) → state_under k cs ≡ Some old → new ≡ f old → set_value (is_key k) cs new ≡ control_changed f k cs
+changed_set f k [] old new at made = refl
+changed_set f k (e ∷ es) old new at made = by_test (is_key k e.0) at (changed_set f k es old new)
+  where
+    by_test : (b : Bool) → cond b (Some e.1) (state_under k es) ≡ Some old → (state_under k es ≡ Some old → new ≡ f old → set_value (is_key k) es new ≡ control_changed f k es)
+        → cond b ((e.0, new) ∷ es) (e ∷ set_value (is_key k) es new) ≡ cond b ((e.0, f e.1) ∷ es) (e ∷ control_changed f k es)
+    by_test true here more = let one : e.1 ≡ old = cc in ap (λ (c : ControlState). (e.0, c) ∷ es) (made ∙ ap f (sym one))
+    by_test false here more = ap (λ (xs : Controls). e ∷ xs) (more here made)
+
+-- what is shown differs at the key of the control at most
+pub control_differs : (f : ControlState → ControlState) (k : Key) (t : Table) (r : Resting) (cs : Controls) → DifferAt k (looks_of t r cs) (looks_of t r (control_changed f k cs))
+control_differs f k t r cs q ne = ap (λ (o : Option ControlState). look_of (seen_by o (kept_in t r q))) (sym (changed-other f k q cs ne))
+
+pub keeping_differs : (f : ControlState → ControlState) (k : Key) (s : Option ViewTree) (t : Table) (r : Resting) (cs : Controls)
+    → DifferAt k (looks_of t r cs) (looks_of (with_kept k s t) r (control_changed f k cs))
+keeping_differs f k s t r cs q ne =
+    ap (λ (o : Option Watcher). look_of (seen_by (state_under q cs) (kept_or o (lookup (is_key q) r)))) (sym (kept-other k q s t ne))
+    ∙ control_differs f k (with_kept k s t) r cs q ne
+
+-- all keys of controls are on a path
+abbrev pub AreOn : List ℕ → Controlled → Type 0
+AreOn p [] = Unit {0}
+AreOn p (e ∷ es) = (e.1.key.path ≡ p) × AreOn p es
+
+put_on : (p : List ℕ) (n : ℕ) (c : ControlHere) (t : Controlled) → c.key.path ≡ p → AreOn p t → AreOn p (insert_entry nat_cmp t n c)
+put_on p n c [] on h = (on, tt)
+put_on p n c (e ∷ es) on h = by_order (nat_cmp n e.0) (put_on p n c es on h.1)
+  where
+    by_order : (o : Ordering) → AreOn p (insert_entry nat_cmp es n c) → AreOn p (match_ordering o ((n, c) ∷ e ∷ es) ((e.0, c) ∷ es) (e ∷ insert_entry nat_cmp es n c))
+    by_order Less more = (on, h)
+    by_order Equal more = (on, h.1)
+    by_order Greater more = (h.0, more)
+
+module _ (p serials : List ℕ) where
+  abbrev keys : ℕ → Key
+  keys = keys_in p serials
+
+  one_on : (n : ℕ) (c : Option Control) (t : Controlled) → AreOn p t → AreOn p (with_control keys n c t)
+  one_on n None t h = h
+  one_on n (Some c) t h = put_on p n _ t refl h
+
+  mutual
+    part_on : (n : ℕ) (x : Part) (t : Controlled) → AreOn p t → AreOn p (part_controlled keys n x t)
+    part_on n (text_part ps) t h = h
+    part_on n (comment_part c) t h = h
+    part_on n (anchor_part o own starts) t h = h
+    part_on n (element_part e own acts ats c) t h = contents_on (n + 1) c (with_control keys n acts.control t) (one_on n acts.control t h)
+
+    contents_on : (n : ℕ) (c : Contents) (t : Controlled) → AreOn p t → AreOn p (contents_controlled keys n c t)
+    contents_on n (children ps) t h = all_on n ps t h
+    contents_on n (bound k) t h = h
+
+    pub all_on : (n : ℕ) (ps : Parts) (t : Controlled) → AreOn p t → AreOn p (controlled keys n ps t)
+    all_on n no_parts t h = h
+    all_on n (part_then x ps) t h = all_on (n + part_nodes x) ps (part_controlled keys n x t) (part_on n x t h)
+
+-- a control of another path stays as it was, where some begin
+pub begun-other : (p : List ℕ) (es : Controlled) (cs : Controls) (q : Key) → AreOn p es → (q.path ≡ p → ⊥) → state_under q (controls_begun es cs) ≡ state_under q cs
+begun-other p [] cs q on ne = refl
+begun-other p (e ∷ es) cs q on ne =
+    begun-other p es (insert_entry key_cmp cs e.1.key (fresh e.1.kind)) q on.1 ne
+    ∙ put-other e.1.key q (fresh e.1.kind) cs (λ same. ne (ap (λ (k : Key). k.path) same ∙ on.0))
+
+-- controls that are entered, as they are kept and as they are seen
+pub entered-seen : (n : ℕ) (es : List (ℕ × code.ControlHere)) → option_map control_of (lookup (is_at (nat_cmp n)) es) ≡ controlled_at n (controlled_of es)
+entered-seen n [] = refl
+entered-seen n (e ∷ es) = by_test (is_at (nat_cmp n) e.0) (entered-seen n es)
+  where
+    by_test : (b : Bool) → option_map control_of (lookup (is_at (nat_cmp n)) es) ≡ controlled_at n (controlled_of es)
+        → option_map control_of (cond b (Some e.1) (lookup (is_at (nat_cmp n)) es)) ≡ cond b (Some (control_of e.1)) (controlled_at n (controlled_of es))
+    by_test true more = refl
+    by_test false more = more
+
+-- those that begin
+abbrev pub begun_of : List code.ControlHere → Controls → Controls
+begun_of [] cs = cs
+begun_of (c ∷ rest) cs = begun_of rest (insert_entry key_cmp cs c.key (fresh c.kind))
+
+pub begun_values : (es : List (ℕ × code.ControlHere)) (cs : Controls) → begun_of (map (λ e. e.1) es) cs ≡ controls_begun (controlled_of es) cs
+begun_values [] cs = refl
+begun_values (e ∷ es) cs = begun_values es (insert_entry key_cmp cs e.1.key (fresh e.1.kind))

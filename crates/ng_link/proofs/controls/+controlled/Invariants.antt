@@ -1,0 +1,27 @@
+use Rattle.std.proofs.Common.{◌≡◌, ◌+◌, ◌*◌, drop, map}
+use Rattle.ng_drawing.specs.Nodes.{part_nodes, content_nodes, nodes}
+use Rattle.ng_drawing.specs.Template.{parts_from}
+use Rattle.ng_template.specs.Seen.{part_of, contents_of}
+use Rattle.ng_link.specs.Controls.{controlled}
+use Rattle.ng_link.specs.Shape.{keys_in}
+use Rattle.ng_link.specs.State.{controlled_of}
+use Rattle.ng_link.proofs.controls.+controlled.Given as goal
+
+abbrev pub invariant-enter_controls-loop-part : goal.invariant-enter_controls-loop-part
+invariant-enter_controls-loop-part l =
+    let keys = keys_in l.path l.serials in
+    let left = parts_from (map part_of (drop l.part-index l.parts)) in
+    let all = parts_from (map part_of l.parts) in
+    record {
+      next : l.next + nodes left ≡ l.n + nodes all;
+      entered : controlled keys l.next left (controlled_of l.table.entries) ≡ controlled keys l.n all (controlled_of l.initial.table.entries);
+    }
+
+abbrev pub decreases-enter_part : goal.decreases-enter_part
+decreases-enter_part l = 3 * part_nodes (part_of l.part.now)
+
+abbrev pub decreases-enter_contents : goal.decreases-enter_contents
+decreases-enter_contents l = 3 * content_nodes (contents_of l.contents.now) + 2
+
+abbrev pub decreases-enter_controls : goal.decreases-enter_controls
+decreases-enter_controls l = 3 * nodes (parts_from (map part_of l.parts.now)) + 1

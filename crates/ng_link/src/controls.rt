@@ -1,0 +1,347 @@
+//! Controls: which node is one, and what it takes (API: ngModel).
+ghost use Rattle.std.specs.Prelude.{◌≡◌, ◌+◌, [], map, is_some, option_map, IfOk, OnOk};
+ghost use Rattle.std.specs.BTreeMap.{insert_entry};
+ghost use Rattle.std.specs.Ordering.{nat_cmp};
+ghost use Rattle.ng_base.specs.declared.value.Value.TheVariants.{Bool};
+ghost use Rattle.ng_control.specs.State.{typed_in, checked_in, after_touch, with_model};
+ghost use Rattle.ng_control.specs.Typed.{TakesText, IsCheckbox};
+ghost use Rattle.ng_dom.specs.Drawing.{Stands};
+ghost use Rattle.ng_drawing.specs.Nodes.{part_nodes, content_nodes, nodes};
+ghost use Rattle.ng_drawing.specs.Template.{parts_from};
+ghost use Rattle.ng_parse.specs.ProgramOf.{program};
+ghost use Rattle.ng_template.specs.Seen.{control_of as template_control, part_of, contents_of};
+ghost use Rattle.ng_value.specs.Snaps.{snap_of};
+ghost use Rattle.ng_link.specs.Calls.{with_control_at};
+ghost use Rattle.ng_link.specs.Controls.{control_here, with_control, part_controlled, contents_controlled, controlled, controls_begun, control_changed, state_under, IsOfKind, read_as, kind_in};
+ghost use Rattle.ng_link.specs.Events.{control_at, kind_at};
+ghost use Rattle.ng_link.specs.Shape.{keys_in};
+ghost use Rattle.ng_link.specs.Standing.{Standing};
+ghost use Rattle.ng_link.specs.State.{control_of, controlled_of, state_of, templates_of};
+
+use crate::copying::{copied_key, key_at};
+use crate::works::{ControlHere, Works};
+use ng_base::fault::Memory;
+use ng_base::path::{Key, Path};
+use ng_base::txt::Txt;
+use ng_base::value::Value;
+use ng_control::{Control, ControlKind};
+use ng_parse::Program;
+use ng_template::{Contents, Modelled, Part};
+use ng_value::snapshot::Snap;
+use std::alloc::Global;
+use std::collections::BTreeMap;
+
+/// Programs again, which are shared.
+fn copied_programs(alloc: Global, programs: &[Program]) -> Result<Vec<Program>, Memory>
+    ensures { IfOk result (λ v. map program v.items ≡ map program programs.now) }
+{
+    let mut copies = Vec::new(alloc);
+    for p in programs {
+        copies.push(p.copied(alloc)?)?;
+    }
+    Ok(copies)
+}
+
+/// The control of an element, with the key of its site.
+fn here(
+    alloc: Global,
+    path: &Path,
+    serials: &[u64],
+    control: &Modelled,
+) -> Result<ControlHere, Memory>
+    ensures { IfOk result (λ c. control_of c ≡ control_here (keys_in path.now serials.now) (template_control control.now)) }
+{
+    Ok(ControlHere {
+        key: key_at(path, serials, control.site as u64)?,
+        kind: control.kind,
+        writes: control.writes.copied(alloc)?,
+        changes: copied_programs(alloc, control.changes.as_slice())?,
+    })
+}
+
+/// A control again, whose programs are shared.
+fn copied_control(alloc: Global, one: &ControlHere) -> Result<ControlHere, Memory>
+    ensures { IfOk result (λ c. control_of c ≡ control_of one.now) }
+{
+    Ok(ControlHere {
+        key: copied_key(&one.key)?,
+        kind: one.kind,
+        writes: one.writes.copied(alloc)?,
+        changes: copied_programs(alloc, one.changes.as_slice())?,
+    })
+}
+
+/// A control is entered under the name of its node.
+fn enter_one(
+    alloc: Global,
+    table: &mut BTreeMap<u64, ControlHere>,
+    path: &Path,
+    serials: &[u64],
+    n: u64,
+    control: &Modelled,
+) -> Result<(), Memory>
+    ensures { OnOk result (controlled_of table.new.entries ≡ insert_entry nat_cmp (controlled_of table.old.entries) n (control_here (keys_in path.now serials.now) (template_control control.now))) }
+{
+    let one = here(alloc, path, serials, control)?;
+    let _ = table.insert(n, one)?;
+    Ok(())
+}
+
+/// The control of an element is entered, if it is one.
+fn enter(
+    alloc: Global,
+    table: &mut BTreeMap<u64, ControlHere>,
+    path: &Path,
+    serials: &[u64],
+    n: u64,
+    control: &Option<Modelled>,
+) -> Result<(), Memory>
+    ensures { OnOk result (controlled_of table.new.entries ≡ with_control (keys_in path.now serials.now) n (option_map template_control control.now) (controlled_of table.old.entries)) }
+{
+    match control {
+        None => Ok(()),
+        Some(control) => enter_one(alloc, table, path, serials, n, control),
+    }
+}
+
+/// The name after one.
+fn after(n: u64) -> Result<u64, Memory>
+    ensures { IfOk result (λ m. m ≡ n + 1) }
+{
+    match n.checked_add(1) {
+        None => Err(Memory::Worn),
+        Some(m) => Ok(m),
+    }
+}
+
+/// The controls of a part are entered. The answer is the name after its nodes.
+#[cycle(controlled)]
+fn enter_part(
+    alloc: Global,
+    table: &mut BTreeMap<u64, ControlHere>,
+    path: &Path,
+    serials: &[u64],
+    n: u64,
+    part: &Part,
+) -> Result<u64, Memory>
+    ensures next { IfOk result (λ m. m ≡ n + part_nodes (part_of part.now)) }
+    ensures entered { OnOk result (controlled_of table.new.entries ≡ part_controlled (keys_in path.now serials.now) n (part_of part.now) (controlled_of table.old.entries)) }
+{
+    match part {
+        Part::Text(_) => after(n),
+        Part::Comment(_) => after(n),
+        Part::Anchor { .. } => after(n),
+        Part::Element { acts, contents, .. } => {
+            enter(alloc, table, path, serials, n, &acts.control)?;
+            enter_contents(alloc, table, path, serials, after(n)?, contents)
+        }
+    }
+}
+
+/// The controls of what an element contains are entered.
+#[cycle(controlled)]
+fn enter_contents(
+    alloc: Global,
+    table: &mut BTreeMap<u64, ControlHere>,
+    path: &Path,
+    serials: &[u64],
+    n: u64,
+    contents: &Contents,
+) -> Result<u64, Memory>
+    ensures next { IfOk result (λ m. m ≡ n + content_nodes (contents_of contents.now)) }
+    ensures entered { OnOk result (controlled_of table.new.entries ≡ contents_controlled (keys_in path.now serials.now) n (contents_of contents.now) (controlled_of table.old.entries)) }
+{
+    match contents {
+        Contents::Children(parts) => {
+            enter_controls(alloc, table, path, serials, n, parts.as_slice())
+        }
+        Contents::Bound(_) => after(n),
+    }
+}
+
+/// The controls of parts are entered, given the name of their first node. The answer is the name after their nodes.
+#[cycle(controlled)]
+fn enter_controls(
+    alloc: Global,
+    table: &mut BTreeMap<u64, ControlHere>,
+    path: &Path,
+    serials: &[u64],
+    n: u64,
+    parts: &[Part],
+) -> Result<u64, Memory>
+    ensures next { IfOk result (λ m. m ≡ n + nodes (parts_from (map part_of parts.now))) }
+    ensures entered { OnOk result (controlled_of table.new.entries ≡ controlled (keys_in path.now serials.now) n (parts_from (map part_of parts.now)) (controlled_of table.old.entries)) }
+{
+    let mut next = n;
+    for part in parts {
+        next = enter_part(alloc, table, path, serials, next, part)?;
+    }
+    Ok(next)
+}
+
+/// The controls of parts, given the name of their first node.
+pub(crate) fn controls_of(
+    alloc: Global,
+    path: &Path,
+    serials: &[u64],
+    n: u64,
+    parts: &[Part],
+) -> Result<BTreeMap<u64, ControlHere>, Memory>
+    ensures { IfOk result (λ t. controlled_of t.entries ≡ controlled (keys_in path.now serials.now) n (parts_from (map part_of parts.now)) []) }
+{
+    let mut table = BTreeMap::new(alloc);
+    enter_controls(alloc, &mut table, path, serials, n, parts)?;
+    Ok(table)
+}
+
+/// Controls that are entered have taken nothing yet.
+#[tactic(auto, using(crate::proofs::ControlStates::begun_values))]
+pub(crate) fn begin_controls(
+    controls: &mut BTreeMap<Key, Control>,
+    alloc: Global,
+    entered: &BTreeMap<u64, ControlHere>,
+) -> Result<(), Memory>
+    ensures { OnOk result (controls.new.entries ≡ controls_begun (controlled_of entered.now.entries) controls.old.entries) }
+{
+    for one in entered.values() {
+        let key = copied_key(&one.key)?;
+        let _ = controls.insert(key, Control::new(alloc, one.kind))?;
+    }
+    Ok(())
+}
+
+/// A control drops what was typed where it was read as another value than its model.
+pub(crate) fn drop_typed(controls: &mut BTreeMap<Key, Control>, key: &Key, s: &Snap)
+    ensures { controls.new.entries ≡ control_changed (λ c. with_model c (snap_of s.now)) key.now controls.old.entries }
+{
+    match controls.get_mut(key) {
+        None => {}
+        Some(control) => control.model(s.view()),
+    }
+}
+
+/// A control takes a text. The answer is what it is read as.
+fn type_in(controls: &mut BTreeMap<Key, Control>, key: &Key, text: Txt) -> Result<Value, Memory>
+    requires { IsOfKind TakesText (state_under key.now controls.old.entries) }
+    ensures value { IfOk result (λ v. v ≡ read_as text (state_under key.now controls.old.entries)) }
+    ensures taken { OnOk result (controls.new.entries ≡ control_changed (λ c. typed_in c text) key.now controls.old.entries) }
+{
+    match controls.get_mut(key) {
+        None => unreachable!(),
+        Some(control) => control.input(text),
+    }
+}
+
+/// A checkbox is checked, or not. The answer is what its model becomes.
+fn check_in(controls: &mut BTreeMap<Key, Control>, key: &Key, on: bool) -> Value
+    requires { IsOfKind IsCheckbox (state_under key.now controls.old.entries) }
+    ensures value { result ≡ Bool on }
+    ensures taken { controls.new.entries ≡ control_changed checked_in key.now controls.old.entries }
+{
+    match controls.get_mut(key) {
+        None => unreachable!(),
+        Some(control) => control.check(on),
+    }
+}
+
+/// A control loses the focus.
+fn touch_in(controls: &mut BTreeMap<Key, Control>, key: &Key)
+    ensures { controls.new.entries ≡ control_changed after_touch key.now controls.old.entries }
+{
+    match controls.get_mut(key) {
+        None => {}
+        Some(control) => control.touch(),
+    }
+}
+
+/// The kind of the control under a key.
+fn kind_under(controls: &BTreeMap<Key, Control>, key: &Key) -> Option<ControlKind>
+    ensures { result ≡ kind_in (state_under key.now controls.now.entries) }
+{
+    match controls.get(key) {
+        None => None,
+        Some(control) => Some(control.kind()),
+    }
+}
+
+impl Works {
+    /// The control that a node is.
+    fn entered_control(&self, n: u64) -> Option<&ControlHere>
+        ensures { option_map (λ c. control_of c.now) result ≡ control_at (state_of self.now) n }
+    {
+        match self.instance_of_node(n) {
+            None => None,
+            Some(one) => one.controls.get(&n),
+        }
+    }
+
+    /// Whether a node is a control.
+    pub fn is_control(&self, n: u64) -> bool
+        ensures { result ≡ is_some (control_at (state_of self.now) n) }
+    {
+        match self.entered_control(n) {
+            None => false,
+            Some(_) => true,
+        }
+    }
+
+    /// The control that a node is, copied.
+    pub fn control_at(&self, n: u64) -> Result<Option<ControlHere>, Memory>
+        ensures { IfOk result (λ c. option_map control_of c ≡ control_at (state_of self.now) n) }
+    {
+        match self.entered_control(n) {
+            None => Ok(None),
+            Some(one) => Ok(Some(copied_control(self.alloc, one)?)),
+        }
+    }
+
+    /// The kind of the control that a node is.
+    pub fn control_kind(&self, n: u64) -> Option<ControlKind>
+        ensures { result ≡ kind_at (state_of self.now) n }
+    {
+        match self.entered_control(n) {
+            None => None,
+            Some(one) => kind_under(&self.controls, &one.key),
+        }
+    }
+
+    /// A text is typed into the control whose model's site has a key, and its node shows it. The answer is what it is read as.
+    pub fn take_text(&mut self, key: &Key, text: Txt) -> Result<Value, Memory>
+        requires { IsOfKind TakesText (state_under key.now (state_of self.old).controls) }
+        ensures value { IfOk result (λ v. v ≡ read_as text (state_under key.now (state_of self.old).controls)) }
+        ensures state { OnOk result (state_of self.new ≡ with_control_at (λ c. typed_in c text) key.now (state_of self.old)) }
+        ensures core { self.new.core ≡ self.old.core }
+        ensures templates { templates_of self.new ≡ templates_of self.old }
+        ensures stands { OnOk result ((ts : Stands) → Standing self.old ts → Standing self.new ts) }
+    {
+        let value = type_in(&mut self.controls, key, text)?;
+        self.show_kept(key)?;
+        Ok(value)
+    }
+
+    /// The checkbox whose model's site has a key is checked, or not. The answer is what its model becomes.
+    pub fn take_check(&mut self, key: &Key, on: bool) -> Result<Value, Memory>
+        requires { IsOfKind IsCheckbox (state_under key.now (state_of self.old).controls) }
+        ensures value { IfOk result (λ v. v ≡ Bool on) }
+        ensures state { OnOk result (state_of self.new ≡ with_control_at checked_in key.now (state_of self.old)) }
+        ensures core { self.new.core ≡ self.old.core }
+        ensures templates { templates_of self.new ≡ templates_of self.old }
+        ensures stands { OnOk result ((ts : Stands) → Standing self.old ts → Standing self.new ts) }
+    {
+        let value = check_in(&mut self.controls, key, on);
+        self.show_kept(key)?;
+        Ok(value)
+    }
+
+    /// The control whose model's site has a key loses the focus.
+    pub fn touch(&mut self, key: &Key) -> Result<(), Memory>
+        ensures state { OnOk result (state_of self.new ≡ with_control_at after_touch key.now (state_of self.old)) }
+        ensures core { self.new.core ≡ self.old.core }
+        ensures templates { templates_of self.new ≡ templates_of self.old }
+        ensures stands { OnOk result ((ts : Stands) → Standing self.old ts → Standing self.new ts) }
+    {
+        touch_in(&mut self.controls, key);
+        self.show_kept(key)?;
+        Ok(())
+    }
+}
