@@ -6,8 +6,8 @@ AngularJS, jsdom and Chromium are those of Debian's packages libjs-angularjs, no
 there is left empty. All columns of one table are of one run, on one machine, in processor time; what else runs there still takes
 room in its caches.
 
-A workload is a page, its data, and commands that are applied one after another: `eval E` here, `$apply(E)` on the root scope there. All run the
-same template, data and expressions. The time of a step is the mean of all commands, the least of N rounds (default 3).
+A workload is a page, its data, and commands that are applied one after another: `eval E` here, `$apply(E)` on the root scope there; or a text that
+is typed into a control: `type #ID TEXT` here, the value of the element and the event `input` there. All run the same template, data and expressions. The time of a step is the mean of all commands, the least of N rounds (default 3).
   ngrun      a step is the processor time of a whole run less that of one without the script, over the number of commands. It is taken
              without the print of the document (one more hole faults, so that each step digests and prints none) and, beside it, with it.
              An opening is a whole run of the program: start, files, parsing and compiling among it.
@@ -67,12 +67,34 @@ def toggled(nodes):
     return f'<div ng-if="on">{inside}</div>', data, ['on = !on'] * 20 + ['on = true']
 
 
+CONTROLS = '<p ng-repeat="r in rows track by r.id"><input id="c{{r.id}}" ng-model="r.n"><b>{{r.n}}</b></p>'
+
+
+def controls(count):
+    return CONTROLS, {'rows': entries(count)}, []
+
+
+def typed_in_one(count):
+    return CONTROLS, {'rows': entries(count)}, [[f'c{count // 2}', f'{k}'] for k in range(1, 101)]
+
+
+def typed_in_all(count):
+    return CONTROLS, {'rows': entries(count)}, [[f'c{k}', f'{count + k}'] for k in range(1, count + 1)]
+
+
+def line(command):
+    """A command as a line of a script."""
+    return 'eval ' + command if isinstance(command, str) else f'type #{command[0]} {json.dumps(command[1])}'
+
+
 # what is measured, whether it is the opening, what makes it, and its size
 WORKLOADS = [(f'opening of {n:,} rows', True, opening, n) for n in (1_000, 10_000, 99_999)]
 WORKLOADS += [('one row pushed to 10,000', False, pushed, 10_000), ('one row removed from the middle of 10,000', False, removed, 10_000)]
 WORKLOADS += [('10,000 rows reversed', False, turned, 10_000), ('10,000 rows replaced', False, replaced, 10_000)]
 WORKLOADS += [(f'one value changed in one of {n:,} rows', False, changed, n) for n in (1_000, 10_000)]
 WORKLOADS += [('ng-if toggled over a body of 1,000 nodes', False, toggled, 1_000)]
+WORKLOADS += [('opening of 1,000 controls', True, controls, 1_000), ('a text typed into one of 1,000 controls', False, typed_in_one, 1_000)]
+WORKLOADS += [('1,000 controls typed into, one after another', False, typed_in_all, 1_000)]
 
 
 def seconds(words, times):
@@ -88,7 +110,7 @@ def seconds(words, times):
 
 def texts(page):
     """The texts of the innermost elements of a printed page, in order; they are numbers, without references."""
-    return '|'.join(text for _, text in re.findall(r'<(\w+)(?: [^<>]*)?>([^<]*)</\1>', page.replace('<br>', '<br></br>')))
+    return '|'.join(text for _, text in re.findall(r'<(\w+)(?: [^<>]*)?>([^<]*)</\1>', re.sub(r'<(br|input)( [^<>]*)?>', r'<\1></\1>', page)))
 
 
 def here(cmd, made, folder, times):
@@ -96,7 +118,7 @@ def here(cmd, made, folder, times):
     template, data, commands = made
     names = [os.path.join(folder, name) for name in ('template', 'quiet', 'app', 'script')]
     # data is given a zero, so that the hole that is added faults
-    contents = (template, template + '{{1 / zero}}', json.dumps({'data': data | {'zero': 0}}), '\n'.join('eval ' + x for x in commands))
+    contents = (template, template + '{{1 / zero}}', json.dumps({'data': data | {'zero': 0}}), '\n'.join(line(x) for x in commands))
     for name, content in zip(names, contents):
         with open(name, 'w', encoding='utf-8') as file:
             file.write(content)

@@ -1,4 +1,5 @@
-// One workload on AngularJS. A job has a template, data and commands: expressions that are applied to the root scope one after another.
+// One workload on AngularJS. A job has a template, data and commands: expressions that are applied to the root scope one after another, and
+// texts that are typed into controls, each a list of a control's id and the text.
 // A round is begin, open, run and end; open compiles, links and digests the page, run applies the commands, end gives what stood at last.
 function workload(angular, document, job) {
   let compile, root, host;
@@ -18,7 +19,10 @@ function workload(angular, document, job) {
       root.$digest();
     },
     run() {
-      for (const command of job.commands) root.$apply(command);
+      for (const command of job.commands) {
+        if (typeof command === 'string') root.$apply(command);
+        else typed(document.getElementById(command[0]), command[1]);
+      }
     },
     end() {
       const shown = seen(host);
@@ -27,6 +31,12 @@ function workload(angular, document, job) {
       return shown;
     },
   };
+}
+
+// A text is put in to a control, as when it is pasted.
+function typed(control, text) {
+  control.value = text;
+  control.dispatchEvent(new control.ownerDocument.defaultView.Event('input'));
 }
 
 // As a page in use is told to: no debug classes, no directives in comments and classes.
