@@ -1,4 +1,4 @@
 pub mod Json
-pub mod Registered
 pub mod Installed
 pub mod Compiled
+pub mod Bound

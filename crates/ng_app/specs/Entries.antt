@@ -38,10 +38,26 @@ is_listener_name n =
     else if bytes_eq n (codes "do") then true
     else false
 
+abbrev pub is_directive_member : List ℕ → Bool
+is_directive_member n =
+    if bytes_eq n (codes "name") then true
+    else if bytes_eq n (codes "restrict") then true
+    else if bytes_eq n (codes "priority") then true
+    else if bytes_eq n (codes "terminal") then true
+    else if bytes_eq n (codes "scope") then true
+    else if bytes_eq n (codes "template") then true
+    else if bytes_eq n (codes "transclude") then true
+    else if bytes_eq n (codes "functions") then true
+    else if bytes_eq n (codes "watch") then true
+    else if bytes_eq n (codes "on") then true
+    else if bytes_eq n (codes "link") then true
+    else false
+
 abbrev pub is_name_of : Form → List ℕ → Bool
 is_name_of form.Function n = is_function_name n
 is_name_of form.Watch n = is_watch_name n
 is_name_of form.Listener n = is_listener_name n
+is_name_of form.Directive n = is_directive_member n
 
 abbrev pub has_form : Form → Members → Bool
 has_form f no_members = true

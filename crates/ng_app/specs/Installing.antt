@@ -1,5 +1,5 @@
 -- What is installed and registered on the root scope before its program runs.
-use Rattle.std.specs.Prelude.{ℕ, List, [], ◌∷◌, ◌++◌, length}
+use Rattle.std.specs.Prelude.{List, [], ◌∷◌, ◌++◌, length}
 use Rattle.ng_core.specs.ScopeCalls.{listens, watches}
 use Rattle.ng_core.specs.State.{State, a_declared, with_funs, with_objects}
 use Rattle.ng_base.specs.declared.value.Value.TheVariants as value

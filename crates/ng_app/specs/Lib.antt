@@ -9,3 +9,5 @@ pub mod Fresh
 pub mod ProgramsOf
 pub mod WrittenOf
 pub mod AppOf
+pub mod Directives
+pub mod EntryOf

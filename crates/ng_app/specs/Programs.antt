@@ -4,7 +4,7 @@ use Rattle.ng_core.specs.Calling.{text_program}
 use Rattle.ng_base.specs.Meets.{◌>>=◌}
 use Rattle.ng_base.specs.declared.fault.Fault.{Fault}
 use Rattle.ng_language.specs.Trees.{Trees}
-use Rattle.ng_language.specs.declared.snapshots.SnapKind.{SnapKind}
+use Rattle.ng_parts.specs.Directing.{Function, Watching, Hearing}
 use Rattle.ng_view.specs.Purity.{are_pure}
 use Rattle.ng_app.specs.Refused.{fault_at}
 use Rattle.ng_app.specs.declared.fault.Member.{Member}
@@ -15,22 +15,17 @@ use Rattle.ng_app.specs.declared.entries.FunctionEntry.{FunctionEntry}
 use Rattle.ng_app.specs.declared.entries.WatchEntry.{WatchEntry}
 use Rattle.ng_app.specs.declared.entries.ListenerEntry.{ListenerEntry}
 
--- a function: its name on the root scope, its parameters, its program
-pub record Declared : Type 0 where
-  pub name : List ℕ
-  pub params : List (List ℕ)
-  pub body : Trees
+-- a function: its name on its scope, its parameters, its program
+abbrev pub Declared : Type 0
+Declared = Function
 
 -- a watch: what is compared, what is watched, and the program that runs where it differs
-pub record Watched : Type 0 where
-  pub kind : SnapKind
-  pub watched : Trees
-  pub body : Trees
+abbrev pub Watched : Type 0
+Watched = Watching
 
 -- a listener: the event, and the program that runs
-pub record Heard : Type 0 where
-  pub name : List ℕ
-  pub body : Trees
+abbrev pub Heard : Type 0
+Heard = Hearing
 
 -- a text spells a program whose filters are there, or it is refused
 abbrev pub or_expression : Member → ℕ → Result Trees Fault → Result Trees AppFault
@@ -40,27 +35,27 @@ or_expression m i (Err f) = Err (fault_at m i kind.Expression)
 abbrev pub program_at : Member → ℕ → List ℕ → Result Trees AppFault
 program_at m i t = or_expression m i (text_program t)
 
-abbrev pub function_read : ℕ → FunctionEntry → Result Declared AppFault
-function_read i f = program_at the.Functions i f.body >>= λ p. Ok (record { name = f.name; params = f.params; body = p })
+abbrev pub function_read : Member → ℕ → FunctionEntry → Result Declared AppFault
+function_read m i f = program_at m i f.body >>= λ p. Ok (record { name = f.name; params = f.params; body = p })
 
 -- what is watched changes nothing
-abbrev pub watch_read : ℕ → WatchEntry → Result Watched AppFault
-watch_read i w =
-    program_at the.Watch i w.watched >>= λ e. program_at the.Watch i w.body >>= λ p.
-    if are_pure e then Ok (record { kind = w.kind; watched = e; body = p }) else Err (fault_at the.Watch i kind.Impure)
+abbrev pub watch_read : Member → ℕ → WatchEntry → Result Watched AppFault
+watch_read m i w =
+    program_at m i w.watched >>= λ e. program_at m i w.body >>= λ p.
+    if are_pure e then Ok (record { kind = w.kind; watched = e; body = p }) else Err (fault_at m i kind.Impure)
 
-abbrev pub listener_read : ℕ → ListenerEntry → Result Heard AppFault
-listener_read i l = program_at the.On i l.body >>= λ p. Ok (record { name = l.name; body = p })
+abbrev pub listener_read : Member → ℕ → ListenerEntry → Result Heard AppFault
+listener_read m i l = program_at m i l.body >>= λ p. Ok (record { name = l.name; body = p })
 
 -- entries after those that are read
 abbrev pub functions_read : List Declared → List FunctionEntry → Result (List Declared) AppFault
 functions_read done [] = Ok done
-functions_read done (f ∷ fs) = function_read (length done) f >>= λ x. functions_read (done ++ x ∷ []) fs
+functions_read done (f ∷ fs) = function_read the.Functions (length done) f >>= λ x. functions_read (done ++ x ∷ []) fs
 
 abbrev pub watches_read : List Watched → List WatchEntry → Result (List Watched) AppFault
 watches_read done [] = Ok done
-watches_read done (w ∷ ws) = watch_read (length done) w >>= λ x. watches_read (done ++ x ∷ []) ws
+watches_read done (w ∷ ws) = watch_read the.Watch (length done) w >>= λ x. watches_read (done ++ x ∷ []) ws
 
 abbrev pub listeners_read : List Heard → List ListenerEntry → Result (List Heard) AppFault
 listeners_read done [] = Ok done
-listeners_read done (l ∷ ls) = listener_read (length done) l >>= λ x. listeners_read (done ++ x ∷ []) ls
+listeners_read done (l ∷ ls) = listener_read the.On (length done) l >>= λ x. listeners_read (done ++ x ∷ []) ls

@@ -1,9 +1,10 @@
 //! The entries of an application's members, as they are written.
-ghost use Rattle.std.specs.Prelude.{◌≡◌, [], codes, Some, None, option_map, IfOk};
+ghost use Rattle.std.specs.Prelude.{◌≡◌, [], Some, None, option_map, IfOk};
 ghost use Rattle.std.specs.Str.{chars};
 ghost use Rattle.serde_json.specs.View.{view, members_view, items_view};
 ghost use Rattle.ng_base.specs.Meets.{Gives};
-ghost use Rattle.ng_app.specs.Entries.{is_function_name, is_watch_name, is_listener_name, is_name_of, has_form, formed, kind_named, kind_of, template_entry, function_entry, watch_entry, listener_entry, templates_after, functions_after, watches_after, listeners_after, template_entries, function_entries, watch_entries, listener_entries, run_entry};
+ghost use Rattle.ng_app.specs.Directives.{accepted, functions_in, watches_in, listeners_in};
+ghost use Rattle.ng_app.specs.Entries.{is_function_name, is_watch_name, is_listener_name, is_directive_member, is_name_of, has_form, formed, kind_named, kind_of, template_entry, function_entry, watch_entry, listener_entry, templates_after, functions_after, watches_after, listeners_after, template_entries, function_entries, watch_entries, listener_entries, run_entry};
 ghost use Rattle.ng_app.specs.Free.{is_app_want};
 
 use crate::fault::{AppFault, AppKind, Member};
@@ -21,6 +22,7 @@ pub enum Form {
     Function,
     Watch,
     Listener,
+    Directive,
 }
 
 /// A template: its name and its text.
@@ -84,6 +86,25 @@ fn is_listener_name(name: &str) -> bool
     }
 }
 
+fn is_directive_member(name: &str) -> bool
+    ensures { result ≡ is_directive_member name.now }
+{
+    match name {
+        "name" => true,
+        "restrict" => true,
+        "priority" => true,
+        "terminal" => true,
+        "scope" => true,
+        "template" => true,
+        "transclude" => true,
+        "functions" => true,
+        "watch" => true,
+        "on" => true,
+        "link" => true,
+        _ => false,
+    }
+}
+
 /// Whether a form has a name.
 fn is_name_of(form: Form, name: &str) -> bool
     ensures { result ≡ is_name_of form name.now }
@@ -92,6 +113,7 @@ fn is_name_of(form: Form, name: &str) -> bool
         Form::Function => is_function_name(name),
         Form::Watch => is_watch_name(name),
         Form::Listener => is_listener_name(name),
+        Form::Directive => is_directive_member(name),
     }
 }
 
@@ -108,7 +130,7 @@ fn has_form(form: Form, members: &Map<String, Json>) -> bool
 }
 
 /// The members of an entry of a form.
-fn formed(form: Form, value: &Json) -> Option<&Map<String, Json>>
+pub(crate) fn formed(form: Form, value: &Json) -> Option<&Map<String, Json>>
     ensures { option_map (λ m. members_view m.now.entries) result ≡ formed form (view value.now) }
 {
     match value {
@@ -277,6 +299,91 @@ fn listeners_from(alloc: Global, items: &[Json]) -> Result<Vec<ListenerEntry>, A
         }
     }
     Ok(entries)
+}
+
+/// The functions of an entry: no answer where one is of another form.
+fn functions_of(
+    alloc: Global,
+    members: &Map<String, Json>,
+) -> Result<Option<Vec<FunctionEntry>>, AllocError>
+    ensures { IfOk result (λ v. option_map (λ es. es.items) v ≡ accepted (functions_after [] (members_view members.now.entries))) }
+{
+    let mut entries = Vec::new(alloc);
+    for (name, value) in members {
+        match function_entry(alloc, name.as_str(), value)? {
+            None => return Ok(None),
+            Some(entry) => entries.push(entry)?,
+        }
+    }
+    Ok(Some(entries))
+}
+
+fn watches_of(alloc: Global, items: &[Json]) -> Result<Option<Vec<WatchEntry>>, AllocError>
+    ensures { IfOk result (λ v. option_map (λ es. es.items) v ≡ accepted (watches_after [] (items_view items.now))) }
+{
+    let mut entries = Vec::new(alloc);
+    for item in items {
+        match watch_entry(alloc, item)? {
+            None => return Ok(None),
+            Some(entry) => entries.push(entry)?,
+        }
+    }
+    Ok(Some(entries))
+}
+
+fn listeners_of(alloc: Global, items: &[Json]) -> Result<Option<Vec<ListenerEntry>>, AllocError>
+    ensures { IfOk result (λ v. option_map (λ es. es.items) v ≡ accepted (listeners_after [] (items_view items.now))) }
+{
+    let mut entries = Vec::new(alloc);
+    for item in items {
+        match listener_entry(alloc, item)? {
+            None => return Ok(None),
+            Some(entry) => entries.push(entry)?,
+        }
+    }
+    Ok(Some(entries))
+}
+
+/// The functions of an entry, which may be missing.
+pub(crate) fn functions_in(
+    alloc: Global,
+    value: Option<&Json>,
+) -> Result<Option<Vec<FunctionEntry>>, AllocError>
+    ensures { IfOk result (λ v. option_map (λ es. es.items) v ≡ functions_in (option_map (λ v. view v.now) value.entry)) }
+{
+    match value {
+        None => Ok(Some(Vec::new(alloc))),
+        Some(Json::Object(members)) => functions_of(alloc, members),
+        Some(_) => Ok(None),
+    }
+}
+
+/// The watches of an entry.
+pub(crate) fn watches_in(
+    alloc: Global,
+    value: Option<&Json>,
+) -> Result<Option<Vec<WatchEntry>>, AllocError>
+    ensures { IfOk result (λ v. option_map (λ es. es.items) v ≡ watches_in (option_map (λ v. view v.now) value.entry)) }
+{
+    match value {
+        None => Ok(Some(Vec::new(alloc))),
+        Some(Json::Array(items)) => watches_of(alloc, items.as_slice()),
+        Some(_) => Ok(None),
+    }
+}
+
+/// The listeners of an entry.
+pub(crate) fn listeners_in(
+    alloc: Global,
+    value: Option<&Json>,
+) -> Result<Option<Vec<ListenerEntry>>, AllocError>
+    ensures { IfOk result (λ v. option_map (λ es. es.items) v ≡ listeners_in (option_map (λ v. view v.now) value.entry)) }
+{
+    match value {
+        None => Ok(Some(Vec::new(alloc))),
+        Some(Json::Array(items)) => listeners_of(alloc, items.as_slice()),
+        Some(_) => Ok(None),
+    }
 }
 
 /// The entries of `templates`.

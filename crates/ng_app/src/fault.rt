@@ -29,7 +29,7 @@ pub enum Member {
     On,
 }
 
-/// Why an application is refused. `Later` is a member that is not built yet.
+/// Why an application is refused.
 #[derive(Clone, Copy, Debug, PartialEq, Eq, Error)]
 pub enum AppKind {
     #[error("Json")]
@@ -54,8 +54,6 @@ pub enum AppKind {
     Expression,
     #[error("Impure")]
     Impure,
-    #[error("Later")]
-    Later,
     #[error("{0}")]
     Memory(Memory),
 }

@@ -1,21 +1,25 @@
 //! What is installed and registered on the root scope before the application's program runs.
 ghost use Rattle.std.specs.Prelude.{◌≡◌, ◌<◌, ◌++◌, length, map, IfOk, OnOk, IsOk};
 ghost use Rattle.ng_core.specs.Frames.{state_of, IsSound};
+ghost use Rattle.ng_app.specs.Directives.{all_unnamed, all_programs};
 ghost use Rattle.ng_app.specs.Templates.{all_named};
-ghost use Rattle.ng_template.specs.Kept.{templates_of};
+ghost use Rattle.ng_compose.specs.Kept.{templates_of};
+ghost use Rattle.ng_compose.specs.DirectivesOf.{directives_of};
 ghost use Rattle.ng_app.specs.Installing.{installs, declares, registers, installs_all, declares_all, registers_all};
-ghost use Rattle.ng_app.specs.ProgramsOf.{partial_of, function_of, watch_of, listener_of};
+ghost use Rattle.ng_parts.specs.ProgramsOf.{function_of, watch_of, listener_of};
+ghost use Rattle.ng_app.specs.ProgramsOf.{partial_of, directive_of};
 
 use crate::app::App;
-use crate::items::{AppFunction, AppListener, AppTemplate, AppWatch};
+use crate::items::{AppDirective, AppTemplate};
 use ng_base::fault::{Fault, Memory};
 use ng_base::name::{FunId, ScopeId};
 use ng_base::value::Value;
 use ng_base::view::View;
+use ng_compose::Templates;
 use ng_core::core_state::{Core, Function};
 use ng_core::scope_calls::{listen, watch_declared};
 use ng_parse::Program;
-use ng_template::Templates;
+use ng_parts::programs::{Function as AppFunction, Listener as AppListener, Watch as AppWatch};
 
 /// Registering asks for memory alone.
 fn registered(end: Result<View, Fault>) -> Result<(), Memory>
@@ -126,11 +130,27 @@ fn register_all(core: &mut Core, listeners: Vec<AppListener>) -> Result<(), Memo
 
 /// Templates are kept by their names.
 fn keep_all(templates: &mut Templates, all: Vec<AppTemplate>) -> Result<(), Memory>
-    ensures { OnOk result (templates_of templates.new ≡ templates_of templates.old ++ all_named (map partial_of all.items)) }
+    ensures templates { OnOk result (templates_of templates.new ≡ templates_of templates.old ++ all_named (map partial_of all.items)) }
+    ensures directives { OnOk result (directives_of templates.new ≡ directives_of templates.old) }
 {
     for one in all {
         let AppTemplate { name, template } = one;
         templates.add(Some(name), template)?;
+    }
+    Ok(())
+}
+
+/// The templates of directives are kept, and their programs.
+fn keep_directives(templates: &mut Templates, all: Vec<AppDirective>) -> Result<(), Memory>
+    ensures templates { OnOk result (templates_of templates.new ≡ templates_of templates.old ++ all_unnamed (map directive_of all.items)) }
+    ensures programs { OnOk result (directives_of templates.new ≡ directives_of templates.old ++ all_programs (map directive_of all.items)) }
+{
+    for one in all {
+        let AppDirective { template, programs } = one;
+        if let Some(template) = template {
+            templates.add(None, template)?;
+        }
+        templates.add_directive(programs)?;
     }
     Ok(())
 }
@@ -140,11 +160,12 @@ impl App {
     ghost use Rattle.ng_app.specs.Installing.{installed};
     ghost use Rattle.ng_parse.specs.ProgramOf.{program as trees_of};
 
-    /// Keeps the templates by their names after those that are there, installs the functions, declares the watches and registers the
-    /// listeners. Gives the core, and the program that runs next.
+    /// Keeps the templates of directives and then those by names after those that are there, and the programs of directives;
+    /// installs the functions, declares the watches and registers the listeners. Gives the core, and the program that runs next.
     pub fn begin(self, templates: &mut Templates) -> Result<(Core, Program), Memory>
         ensures state { IfOk result (λ r. state_of r.0 ≡ installed (facts self)) }
-        ensures templates { OnOk result (templates_of templates.new ≡ templates_of templates.old ++ all_named (facts self).templates) }
+        ensures templates { OnOk result (templates_of templates.new ≡ templates_of templates.old ++ (all_unnamed (facts self).directives ++ all_named (facts self).templates)) }
+        ensures directives { OnOk result (directives_of templates.new ≡ directives_of templates.old ++ all_programs (facts self).directives) }
         ensures run { IfOk result (λ r. trees_of r.1 ≡ (facts self).run) }
         ensures sound { IfOk result (λ r. IsSound r.0) }
         ensures root { IfOk result (λ r. length r.0.scopes ≡ 1) }
@@ -153,6 +174,7 @@ impl App {
         let App {
             core,
             templates: all,
+            directives,
             functions,
             run,
             watches,
@@ -160,6 +182,7 @@ impl App {
             ..
         } = self;
         let mut core = core;
+        keep_directives(templates, directives)?;
         keep_all(templates, all)?;
         install_all(&mut core, functions)?;
         declare_all(&mut core, watches)?;

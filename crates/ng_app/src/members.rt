@@ -2,7 +2,6 @@
 ghost use Rattle.std.specs.Prelude.{◌≡◌, option_map, Some, IfOk};
 ghost use Rattle.serde_json.specs.Find.{get_member};
 ghost use Rattle.serde_json.specs.View.{view, members_view};
-ghost use Rattle.ng_app.specs.App.{has};
 ghost use Rattle.ng_app.specs.Entries.{text_of, text_in};
 ghost use Rattle.ng_app.specs.Refused.{fault as refused, fault_at as refused_at};
 
@@ -27,13 +26,6 @@ pub(crate) fn fault_at(member: Member, item: usize, kind: AppKind) -> AppFault
         item: item as u64,
         kind,
     }
-}
-
-/// Whether a member is there.
-pub(crate) fn is_there(members: &Map<String, Json>, name: &str) -> bool
-    ensures { result ≡ has name.now (members_view members.now.entries) }
-{
-    members.get(name).is_some()
 }
 
 /// The value of a member.

@@ -4,12 +4,11 @@ ghost use Rattle.ng_base.specs.Meets.{Gives};
 ghost use Rattle.ng_parse.specs.ProgramOf.{program as trees_of};
 ghost use Rattle.ng_view.specs.Purity.{all_filters_known};
 ghost use Rattle.ng_app.specs.Free.{is_app_want};
-ghost use Rattle.ng_app.specs.ProgramsOf.{function_of, watch_of, listener_of};
+ghost use Rattle.ng_parts.specs.ProgramsOf.{function_of, watch_of, listener_of};
 ghost use Rattle.ng_app.specs.Programs.{program_at, function_read, watch_read, listener_read, functions_read, watches_read, listeners_read};
 
 use crate::entries::{FunctionEntry, ListenerEntry, WatchEntry};
 use crate::fault::{AppFault, AppKind, Member};
-use crate::items::{AppFunction, AppListener, AppWatch};
 use crate::members::fault_at;
 use ng_base::fault::Fault;
 use ng_base::txt::Txt;
@@ -17,6 +16,7 @@ use ng_base::value::Value;
 use ng_base::view::View;
 use ng_core::reading::program_given;
 use ng_parse::Program;
+use ng_parts::programs::{Function as AppFunction, Listener as AppListener, Watch as AppWatch};
 use ng_view::is_pure;
 use std::alloc::Global;
 
@@ -37,11 +37,17 @@ pub(crate) fn program_at(
     }
 }
 
-fn function_read(alloc: Global, item: usize, entry: FunctionEntry) -> Result<AppFunction, AppFault>
-    ensures { Gives is_app_want function_of (function_read item entry) result }
+/// A function of a member's entry.
+pub(crate) fn function_read(
+    alloc: Global,
+    member: Member,
+    item: usize,
+    entry: FunctionEntry,
+) -> Result<AppFunction, AppFault>
+    ensures { Gives is_app_want function_of (function_read member item entry) result }
 {
     let FunctionEntry { name, params, body } = entry;
-    let program = program_at(alloc, Member::Functions, item, body)?;
+    let program = program_at(alloc, member, item, body)?;
     Ok(AppFunction {
         name,
         params,
@@ -49,16 +55,22 @@ fn function_read(alloc: Global, item: usize, entry: FunctionEntry) -> Result<App
     })
 }
 
-fn watch_read(alloc: Global, item: usize, entry: WatchEntry) -> Result<AppWatch, AppFault>
-    ensures { Gives is_app_want watch_of (watch_read item entry) result }
+/// A watch of a member's entry.
+pub(crate) fn watch_read(
+    alloc: Global,
+    member: Member,
+    item: usize,
+    entry: WatchEntry,
+) -> Result<AppWatch, AppFault>
+    ensures { Gives is_app_want watch_of (watch_read member item entry) result }
 {
     let WatchEntry {
         kind,
         watched,
         body,
     } = entry;
-    let watched = program_at(alloc, Member::Watch, item, watched)?;
-    let listener = program_at(alloc, Member::Watch, item, body)?;
+    let watched = program_at(alloc, member, item, watched)?;
+    let listener = program_at(alloc, member, item, body)?;
     if is_pure(&watched) {
         Ok(AppWatch {
             kind,
@@ -66,15 +78,21 @@ fn watch_read(alloc: Global, item: usize, entry: WatchEntry) -> Result<AppWatch,
             listener,
         })
     } else {
-        Err(fault_at(Member::Watch, item, AppKind::Impure))
+        Err(fault_at(member, item, AppKind::Impure))
     }
 }
 
-fn listener_read(alloc: Global, item: usize, entry: ListenerEntry) -> Result<AppListener, AppFault>
-    ensures { Gives is_app_want listener_of (listener_read item entry) result }
+/// A listener of a member's entry.
+pub(crate) fn listener_read(
+    alloc: Global,
+    member: Member,
+    item: usize,
+    entry: ListenerEntry,
+) -> Result<AppListener, AppFault>
+    ensures { Gives is_app_want listener_of (listener_read member item entry) result }
 {
     let ListenerEntry { name, body } = entry;
-    let program = program_at(alloc, Member::On, item, body)?;
+    let program = program_at(alloc, member, item, body)?;
     Ok(AppListener { name, program })
 }
 
@@ -87,7 +105,7 @@ pub(crate) fn functions_read(
 {
     let mut functions = Vec::new(alloc);
     for entry in entries {
-        let function = function_read(alloc, functions.len(), entry)?;
+        let function = function_read(alloc, Member::Functions, functions.len(), entry)?;
         functions.push(function)?;
     }
     Ok(functions)
@@ -102,7 +120,7 @@ pub(crate) fn watches_read(
 {
     let mut watches = Vec::new(alloc);
     for entry in entries {
-        let watch = watch_read(alloc, watches.len(), entry)?;
+        let watch = watch_read(alloc, Member::Watch, watches.len(), entry)?;
         watches.push(watch)?;
     }
     Ok(watches)
@@ -117,7 +135,7 @@ pub(crate) fn listeners_read(
 {
     let mut listeners = Vec::new(alloc);
     for entry in entries {
-        let listener = listener_read(alloc, listeners.len(), entry)?;
+        let listener = listener_read(alloc, Member::On, listeners.len(), entry)?;
         listeners.push(listener)?;
     }
     Ok(listeners)

@@ -1,28 +1,28 @@
 //! The application file: JSON whose members are read in the one format that there is.
-ghost use Rattle.std.specs.Prelude.{◌≡◌, [], codes, length, Some, None, option_map, is_some, IfOk, Err, MatchResult, true};
-ghost use Rattle.serde_json.specs.Data.{object, no_members};
+ghost use Rattle.std.specs.Prelude.{◌≡◌, codes, Some, None, option_map, IfOk, Err, MatchResult, true};
 ghost use Rattle.serde_json.specs.Find.{as_object, get_member};
 ghost use Rattle.serde_json.specs.View.{view, members_view};
 ghost use Rattle.ng_core.specs.Frames.{state_of};
 ghost use Rattle.ng_base.specs.Meets.{Gives};
-ghost use Rattle.ng_app.specs.App.{member_named, are_known, first_later, is_one as is_one_of, is_format, is_data as is_data_of, data_given, data_fault as data_refused, core_with, written as written_in, facts_with, facts_of_format, facts_of_object, facts_of};
+ghost use Rattle.ng_app.specs.App.{member_named, are_known, is_one as is_one_of, is_format, is_data as is_data_of, data_given, data_fault as data_refused, core_with, written as written_in, facts_with, facts_of_format, facts_of_object, facts_of};
 ghost use Rattle.ng_app.specs.AppOf.{facts};
 ghost use Rattle.ng_app.specs.Free.{is_app_want};
 ghost use Rattle.ng_app.specs.Fresh.{IsFresh};
 ghost use Rattle.ng_app.specs.WrittenOf.{written_of};
 
 use crate::app::App;
+use crate::directives::{DirectiveEntry, directive_entries};
 use crate::entries::{
     FunctionEntry, ListenerEntry, TemplateEntry, WatchEntry, function_entries, listener_entries,
     run_entry, template_entries, watch_entries,
 };
 use crate::fault::{AppFault, AppKind, Member};
-use crate::members::{fault, is_there, member};
+use crate::members::{fault, member};
 use crate::programs::{functions_read, listeners_read, program_at, watches_read};
+use crate::registering::{directive_templates, directives_read, registered};
 use crate::templates::templates_read;
 use ng_base::fault::Memory;
 use ng_base::txt::Txt;
-use ng_collect::Registry;
 use ng_core::core_state::Core;
 use ng_store::json::JsonFault;
 use serde_json::{Map, Value as Json};
@@ -76,17 +76,6 @@ fn has_format(members: &Map<String, Json>) -> bool
     }
 }
 
-/// A member that is there and not built yet.
-fn later_member(members: &Map<String, Json>) -> Option<Member>
-    ensures { result ≡ first_later (members_view members.now.entries) }
-{
-    if is_there(members, "directives") {
-        Some(Member::Directives)
-    } else {
-        None
-    }
-}
-
 /// Why data is refused.
 fn data_fault(refused: JsonFault) -> AppFault
     ensures { result ≡ data_refused refused }
@@ -134,6 +123,7 @@ fn is_data(data_member: Option<&Json>) -> bool
 #[derive(Drop)]
 struct Written {
     templates: Vec<TemplateEntry>,
+    directives: Vec<DirectiveEntry>,
     functions: Vec<FunctionEntry>,
     run: Txt,
     watches: Vec<WatchEntry>,
@@ -145,12 +135,14 @@ fn read_entries(alloc: Global, members: &Map<String, Json>) -> Result<Written, A
     ensures { Gives is_app_want written_of (written_in (members_view members.now.entries)) result }
 {
     let templates = template_entries(alloc, member(members, "templates"))?;
+    let directives = directive_entries(alloc, member(members, "directives"))?;
     let functions = function_entries(alloc, member(members, "functions"))?;
     let run = run_entry(alloc, member(members, "run"))?;
     let watches = watch_entries(alloc, member(members, "watch"))?;
     let listeners = listener_entries(alloc, member(members, "on"))?;
     Ok(Written {
         templates,
+        directives,
         functions,
         run,
         watches,
@@ -158,7 +150,7 @@ fn read_entries(alloc: Global, members: &Map<String, Json>) -> Result<Written, A
     })
 }
 
-/// The data is read, and then the templates and the programs, member by member.
+/// The data is read, then the definitions of directives, and then the templates and the programs, member by member.
 fn read_programs(
     alloc: Global,
     data_member: Option<&Json>,
@@ -168,14 +160,17 @@ fn read_programs(
 {
     let Written {
         templates,
+        directives,
         functions,
         run,
         watches,
         listeners,
     } = entries;
     let core = read_core(alloc, data_member)?;
-    let registry = Registry::new(alloc)?;
+    let (registry, rests) = registered(alloc, directives)?;
     let templates = templates_read(alloc, templates, &registry)?;
+    let own = directive_templates(alloc, &registry)?;
+    let directives = directives_read(alloc, own, rests)?;
     let functions = functions_read(alloc, functions)?;
     let run = program_at(alloc, Member::Run, 0, run)?;
     let watches = watches_read(alloc, watches)?;
@@ -183,6 +178,7 @@ fn read_programs(
     Ok(App {
         core,
         templates,
+        directives,
         functions,
         run,
         watches,
@@ -191,7 +187,7 @@ fn read_programs(
     })
 }
 
-/// The application with these members, which are known and built.
+/// The application with these members, which are known.
 fn read_known(alloc: Global, members: &Map<String, Json>) -> Result<App, AppFault>
     ensures { Gives is_app_want facts (facts_of_format (members_view members.now.entries)) result }
 {
@@ -212,9 +208,6 @@ fn read_members_of(alloc: Global, members: &Map<String, Json>) -> Result<App, Ap
 {
     if !all_known(members) {
         return Err(fault(Member::File, AppKind::Shape));
-    }
-    if let Some(later) = later_member(members) {
-        return Err(fault(later, AppKind::Later));
     }
     read_known(alloc, members)
 }
@@ -248,11 +241,12 @@ fn parsed(alloc: Global, bytes: &[u8]) -> Result<Json, AppFault>
 }
 
 impl App {
-    /// Reads an application file. The refusals come in this order: JSON that is broken; no object, or a member of another name;
-    /// a member that is not built yet; a member that is not of its kind, in the order of the table; a number of the data that is
-    /// not whole or out of range, and more than 1,000,000 objects and arrays; then of `templates`, entry by entry, a text that is no document
-    /// and one that is no template; then of `functions`, `run`, `watch` and `on`, entry
-    /// by entry, a program that is none, and of what is watched one that is not pure.
+    /// Reads an application file. The refusals come in this order: JSON that is broken; no object, or a member of another name; a
+    /// member that is not of its kind, in the order of the table; a number of the data that is not whole or out of range, and
+    /// more than 1,000,000 objects and arrays; of `directives` a name that is none, then a restriction, then a binding; then of
+    /// `templates`, entry by entry, a text that is no document and one that is no template; the same of the templates of
+    /// `directives`, and then their programs; then of `functions`, `run`, `watch` and `on`, entry by entry, a program that is
+    /// none, and of what is watched one that is not pure.
     pub fn read(alloc: Global, bytes: &[u8]) -> Result<App, AppFault>
         ensures { Gives is_app_want facts (facts_of bytes.now) result }
     {

@@ -1,13 +1,13 @@
 //! The templates of an application: what their texts compile to (API: ngInclude).
-ghost use Rattle.std.specs.Prelude.{◌≡◌, [], map, encode_utf8_all, false};
+ghost use Rattle.std.specs.Prelude.{◌≡◌, [], map, encode_utf8_all};
 ghost use Rattle.ng_base.specs.Meets.{Gives};
 ghost use Rattle.ng_html.specs.Reading.{read_bytes};
 ghost use Rattle.ng_html.specs.TreeSeen.{source_of};
 ghost use Rattle.ng_template.specs.Compiles.{compiled};
-ghost use Rattle.ng_template.specs.TemplateOf.{template_of};
+ghost use Rattle.ng_parts.specs.TemplateOf.{template_of};
 ghost use Rattle.ng_app.specs.Free.{is_app_want};
 ghost use Rattle.ng_app.specs.ProgramsOf.{partial_of};
-ghost use Rattle.ng_app.specs.Templates.{markup_fault as markup_refused, as_markup, template_fault as template_refused, as_template, template_read as template_read_at, templates_read as templates_read_of};
+ghost use Rattle.ng_app.specs.Templates.{markup_fault as markup_refused, as_markup, template_fault as template_refused, as_template, text_template as text_template_of, template_read as template_read_at, templates_read as templates_read_of};
 
 use crate::entries::TemplateEntry;
 use crate::fault::{AppFault, AppKind, Member};
@@ -15,59 +15,74 @@ use crate::items::AppTemplate;
 use crate::members::{fault, fault_at};
 use ng_base::txt::Txt;
 use ng_collect::Registry;
+use ng_directives::fault::{TplFault, TplKind};
 use ng_html::fault::{HtmlFault, HtmlKind};
 use ng_html::reading::read;
 use ng_html::source::Source;
+use ng_parts::tpl::Tpl;
 use ng_template::compiling::compile;
-use ng_template::fault::{TplFault, TplKind};
-use ng_template::tpl::Tpl;
 use std::alloc::Global;
 
 /// Why a text is no document.
-fn markup_fault(item: usize, refused: HtmlFault) -> AppFault
-    ensures { result ≡ markup_refused item refused.kind }
+fn markup_fault(member: Member, item: usize, refused: HtmlFault) -> AppFault
+    ensures { result ≡ markup_refused member item refused.kind }
 {
     match refused.kind {
         HtmlKind::Memory(memory) => fault(Member::File, AppKind::Memory(memory)),
-        _ => fault_at(Member::Templates, item, AppKind::Markup),
+        _ => fault_at(member, item, AppKind::Markup),
     }
 }
 
 /// Why a document is no template.
-fn template_fault(item: usize, refused: TplFault) -> AppFault
-    ensures { result ≡ template_refused item refused.kind }
+fn template_fault(member: Member, item: usize, refused: TplFault) -> AppFault
+    ensures { result ≡ template_refused member item refused.kind }
 {
     match refused.kind {
         TplKind::Memory(memory) => fault(Member::File, AppKind::Memory(memory)),
-        TplKind::Later => fault_at(Member::Templates, item, AppKind::Later),
-        _ => fault_at(Member::Templates, item, AppKind::Template),
+        _ => fault_at(member, item, AppKind::Template),
     }
 }
 
 /// The document of the text of an entry.
-fn document_of(alloc: Global, item: usize, text: &Txt) -> Result<Source, AppFault>
-    ensures { Gives is_app_want source_of (as_markup item (read_bytes (encode_utf8_all text.now))) result }
+fn document_of(alloc: Global, member: Member, item: usize, text: &Txt) -> Result<Source, AppFault>
+    ensures { Gives is_app_want source_of (as_markup member item (read_bytes (encode_utf8_all text.now))) result }
 {
     match read(alloc, text.as_str().as_bytes()) {
         Ok(source) => Ok(source),
-        Err(refused) => Err(markup_fault(item, refused)),
+        Err(refused) => Err(markup_fault(member, item, refused)),
     }
 }
 
 /// The template of a document.
 fn template_of_document(
     alloc: Global,
+    member: Member,
     item: usize,
     source: &Source,
     registry: &Registry,
+    slots: bool,
 ) -> Result<Tpl, AppFault>
-    requires { registry.now ≡ [] }
-    ensures { Gives is_app_want template_of (as_template item (compiled (source_of source.now) [] false)) result }
+    ensures { Gives is_app_want template_of (as_template member item (compiled (source_of source.now) registry.now slots)) result }
 {
-    match compile(alloc, source, registry, false) {
+    match compile(alloc, source, registry, slots) {
         Ok(template) => Ok(template),
-        Err(refused) => Err(template_fault(item, refused)),
+        Err(refused) => Err(template_fault(member, item, refused)),
     }
+}
+
+/// The template that a text of an entry compiles to, in which slots may stand or not.
+pub(crate) fn text_template(
+    alloc: Global,
+    member: Member,
+    item: usize,
+    text: &Txt,
+    registry: &Registry,
+    slots: bool,
+) -> Result<Tpl, AppFault>
+    ensures { Gives is_app_want template_of (text_template_of member item registry.now slots text.now) result }
+{
+    let source = document_of(alloc, member, item, text)?;
+    template_of_document(alloc, member, item, &source, registry, slots)
 }
 
 /// The template of an entry.
@@ -77,12 +92,10 @@ fn template_read(
     entry: TemplateEntry,
     registry: &Registry,
 ) -> Result<AppTemplate, AppFault>
-    requires { registry.now ≡ [] }
-    ensures { Gives is_app_want partial_of (template_read_at item entry) result }
+    ensures { Gives is_app_want partial_of (template_read_at registry.now item entry) result }
 {
     let TemplateEntry { name, text } = entry;
-    let source = document_of(alloc, item, &text)?;
-    let template = template_of_document(alloc, item, &source, registry)?;
+    let template = text_template(alloc, Member::Templates, item, &text, registry, false)?;
     Ok(AppTemplate { name, template })
 }
 
@@ -92,8 +105,7 @@ pub(crate) fn templates_read(
     entries: Vec<TemplateEntry>,
     registry: &Registry,
 ) -> Result<Vec<AppTemplate>, AppFault>
-    requires { registry.now ≡ [] }
-    ensures { Gives is_app_want (λ v. map partial_of v.items) (templates_read_of [] entries.items) result }
+    ensures { Gives is_app_want (λ v. map partial_of v.items) (templates_read_of registry.now [] entries.items) result }
 {
     let mut templates = Vec::new(alloc);
     for entry in entries {

@@ -8,12 +8,12 @@ use ng_base::lists::Values;
 use ng_base::locals::Locals;
 use ng_base::name::ScopeId;
 use ng_base::txt::Txt;
+use ng_compose::Templates;
 use ng_core::burying::next_below;
 use ng_core::core_state::Core;
 use ng_core::scope_calls::listen;
 use ng_lex::lex;
 use ng_parse::{Program, parse};
-use ng_template::Templates;
 use std::alloc::Global;
 
 /// An application with a function.

@@ -1,7 +1,7 @@
 -- An element with a template in it (API: ngInclude): the parts of the template become the children of the element. Its sites follow those of
 -- the element, which has no outlets.
-use Rattle.std.specs.Prelude.{ℕ, ◌+◌, Bool, true, false, List, map, length, ◌++◌, Option, None, Some, option_map, if◌then◌else◌}
-use Rattle.ng_drawing.specs.Template.{Piece, word, hole, Hiding, while_true, while_false, PartClass, PartValue, always, unless_empty, flag, classes, PartAttributes, Control, Acts, Part, text_part, comment_part, element_part, anchor_part, Contents, children, bound, Parts, no_parts, part_then, Outlet, Fragment}
+use Rattle.std.specs.Prelude.{ℕ, ◌+◌, Bool, true, false, List, [], map, length, ◌++◌, Option, None, Some, option_map, if◌then◌else◌}
+use Rattle.ng_drawing.specs.Template.{Piece, word, hole, Source, of_text, of_nothing, one_way, two_way, of_call, Binding, Uses, Hiding, while_true, while_false, PartClass, PartValue, always, unless_empty, flag, classes, PartAttributes, Control, Acts, Part, text_part, comment_part, element_part, anchor_part, Contents, children, bound, Parts, no_parts, part_then, Outlet, Fragment}
 
 -- parts after so many sites
 module _ (sites : ℕ) where
@@ -34,8 +34,21 @@ module _ (sites : ℕ) where
   abbrev pub later_control : Control → Control
   later_control c = record { kind = c.kind; site = sites + c.site; writes = c.writes; changes = c.changes }
 
+  abbrev pub later_source : Source → Source
+  later_source (of_text ps) = of_text (later_pieces ps)
+  later_source of_nothing = of_nothing
+  later_source (one_way n) = one_way (sites + n)
+  later_source (two_way n w) = two_way (sites + n) w
+  later_source (of_call p) = of_call p
+
+  abbrev pub later_binding : Binding → Binding
+  later_binding b = record b { source = later_source b.source }
+
+  abbrev pub later_uses : Uses → Uses
+  later_uses u = record u { bindings = map later_binding u.bindings }
+
   abbrev pub later_acts : Acts → Acts
-  later_acts a = record { starts = a.starts; handlers = a.handlers; control = option_map later_control a.control }
+  later_acts a = record a { control = option_map later_control a.control; uses = option_map later_uses a.uses }
 
   abbrev mutual
     pub later_part : Part → Part
@@ -95,6 +108,8 @@ included_in (Some e) f g = record {
   parts = filled_with e (later_parts (length f.sites) g.parts);
   sites = f.sites ++ g.sites;
   outlets = map (later_outlet (length f.sites)) g.outlets;
+  marks = [];
+  spots = [];
 }
 
 abbrev pub included : Fragment → Fragment → Fragment

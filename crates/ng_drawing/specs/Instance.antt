@@ -1,18 +1,19 @@
 -- An instance of a fragment: what a run adds to it. For each site its key, its scope, what it has kept, whether it rests, which is
 -- to say that its scope is destroyed or its one-time binding has ended, and the state of the control whose model it is; and for each outlet the
 -- bodies that fill it.
-use Rattle.std.specs.Prelude.{ℕ, ◌≡◌, Bool, true, false, List, [], ◌∷◌, map, Option, Some, None, Result, Ok, slice_get, slice_index_or, if◌then◌else◌}
+use Rattle.std.specs.Prelude.{ℕ, ◌≡◌, ◌||◌, Bool, true, false, List, [], ◌∷◌, map, Option, Some, None, Result, Ok, slice_get, slice_index_or, if◌then◌else◌}
 use Rattle.std.specs.Option.{option_map_or}
 use Rattle.ng_control.specs.State.{ControlState}
 use Rattle.ng_base.specs.Meets.{◌>>=◌}
 use Rattle.ng_base.specs.Objects.{Object}
-use Rattle.ng_base.specs.Views.{ViewTree, prim, list, views_from}
+use Rattle.ng_base.specs.Views.{ViewTree, prim, list, rec, views_from}
 use Rattle.ng_base.specs.declared.fault.Fault.{Fault}
 use Rattle.ng_base.specs.declared.path.Key.{Key}
 use Rattle.ng_base.specs.declared.value.Value.TheVariants as value
 use Rattle.ng_behaviour.specs.Scopes.{Scope, object_at}
 use Rattle.ng_language.specs.Texts.{show_text, class_words}
 use Rattle.ng_language.specs.Trees.{Trees}
+use Rattle.ng_language.specs.declared.snapshots.SnapKind.{SnapKind}
 use Rattle.ng_language.specs.declared.snapshots.SnapKind.TheVariants as snaps
 use Rattle.ng_markup.specs.Forest.{Forest, no_nodes}
 use Rattle.ng_value.specs.Taken.{taken}
@@ -102,6 +103,12 @@ text_view t = prim (value.Text t)
 abbrev pub word_list : List (List ℕ) → ViewTree
 word_list ws = list (views_from (map text_view ws))
 
+-- both sides of a binding are compared by identity, but a fresh list or record, which has none, by what it holds
+abbrev pub two_way_kind : ViewTree → SnapKind
+two_way_kind (prim v) = snaps.Reference
+two_way_kind (list ts) = snaps.Deep
+two_way_kind (rec fs) = snaps.Deep
+
 -- what a site of a kind keeps of a value (guide: Scopes, "Scope `$watch` Depths")
 abbrev pub snapshot_as : SiteKind → List Object → ViewTree → Result ViewTree Fault
 snapshot_as kinds.Text objects v = show_text objects v >>= λ t. Ok (text_view t)
@@ -109,6 +116,16 @@ snapshot_as kinds.Words objects v = class_words objects v >>= λ ws. Ok (word_li
 snapshot_as kinds.Reference objects v = taken snaps.Reference objects v
 snapshot_as kinds.Collection objects v = taken snaps.Collection objects v
 snapshot_as kinds.Deep objects v = taken snaps.Deep objects v
+snapshot_as kinds.TwoWay objects v = taken snaps.Reference objects v
+
+-- whether a site is that of a two-way binding, from which nothing is drawn
+abbrev pub is_two_way : SiteKind → Bool
+is_two_way kinds.Text = false
+is_two_way kinds.Words = false
+is_two_way kinds.Reference = false
+is_two_way kinds.Collection = false
+is_two_way kinds.Deep = false
+is_two_way kinds.TwoWay = true
 
 -- what a site would keep now over a scope's object. It is closed where its steps don't matter.
 unfoldable pub snapshot_now : List Object → ℕ → Site → Result ViewTree Fault
@@ -117,11 +134,11 @@ snapshot_now objects o x = evaluated_program objects o [] x.program >>= snapshot
 abbrev pub rendered_now : Result ViewTree Fault → Rendered (Option ViewTree)
 rendered_now r = r >>= λ v. shown_as (Some v)
 
--- a site has its value now, and one that rests what it has kept
+-- A site has its value now; one that rests has what it has kept, and so has that of a two-way binding.
 abbrev pub site_now : List Object → List Scope → Option Site → Option SiteState → Rendered (Option ViewTree)
 site_now objects scopes None s = shown_as None
 site_now objects scopes (Some x) None = shown_as None
-site_now objects scopes (Some x) (Some s) = if s.rests then shown_as s.kept else rendered_now (snapshot_now objects (object_at scopes s.scope) x)
+site_now objects scopes (Some x) (Some s) = if s.rests || is_two_way x.kind then shown_as s.kept else rendered_now (snapshot_now objects (object_at scopes s.scope) x)
 
 -- what each site has now, or nothing where it rests unset
 abbrev pub KeptNow : Type 0

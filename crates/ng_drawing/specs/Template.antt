@@ -1,9 +1,10 @@
 -- A compiled template: a tree of parts whose texts and attributes are cut at their holes, and its sites, the expressions
 -- that are watched, numbered in document order (guide: HTML Compiler).
-use Rattle.std.specs.Prelude.{ℕ, Bool, List, [], ◌∷◌, Option, None, slice_get}
+use Rattle.std.specs.Prelude.{ℕ, Bool, false, List, [], ◌∷◌, Option, None, slice_get}
 use Rattle.ng_control.specs.declared.kind.ControlKind.{ControlKind}
 use Rattle.ng_language.specs.Trees.{Trees}
 use Rattle.ng_drawing.specs.declared.kind.SiteKind.{SiteKind}
+use Rattle.ng_drawing.specs.declared.origin.Home.{Home}
 
 -- plain words of a text, or the hole of a site
 pub data Piece : Type 0 where
@@ -44,16 +45,65 @@ pub record Control : Type 0 where
   pub writes : Trees
   pub changes : List Trees
 
+-- Where a property of an isolate scope comes from (API: `$compile`, `scope`): the text of an attribute, or nothing where that is missing; the
+-- value of a site; the value of a site, and back to it by a program, where it can be written to; or a function that runs a program.
+pub data Source : Type 0 where
+  of_text : List Piece → Source
+  of_nothing : Source
+  one_way : ℕ → Source
+  two_way : ℕ → Option Trees → Source
+  of_call : Trees → Source
+
+-- a property of an isolate scope by its name
+pub record Binding : Type 0 where
+  pub name : List ℕ
+  pub source : Source
+
+-- The directives of the application that an element has, by their numbers (guide: Directives, "Creating Directives"): whether one asks for a child
+-- scope; the one that has an isolate scope, with the bindings of that; the template that stands in place of the children, whether it stands on the
+-- isolate scope, and whether it may have the children in it; and the body that these are then.
+pub record Uses : Type 0 where
+  pub directives : List ℕ
+  pub child : Bool
+  pub isolate : Option ℕ
+  pub bindings : List Binding
+  pub template : Option ℕ
+  pub apart : Bool
+  pub passes : Bool
+  pub content : Option ℕ
+
+-- The scope outside a directive's element: one of the instance's, by its number, or one that the instance was given.
+pub data Outside : Type 0 where
+  inside : ℕ → Outside
+  handed : ℕ → Outside
+
+-- The scopes of an element by their numbers in its instance: the one round it, its own, and the isolate one of its directive. An element that is
+-- a slot has children on a scope of their own, which inherits from the one outside; and where a directive is inside too many others nothing is made.
+pub record Scopes : Type 0 where
+  pub outer : ℕ
+  pub own : ℕ
+  pub isolate : ℕ
+  pub slot : Option Outside
+  pub deep : Bool
+
+-- all on the instance's own scope
+abbrev pub one_scope : Scopes
+one_scope = record { outer = 0; own = 0; isolate = 0; slot = None; deep = false }
+
 -- What an element does: programs that run when it is linked; programs that handle events of the document, each with the name
--- of its event (API: ngInit, ngClick); and the control that it is.
+-- of its event (API: ngInit, ngClick); the control that it is; the directives of the application that it has, if it has some; whether it is a slot
+-- for the children that a directive transcludes (API: ngTransclude); and its scopes.
 pub record Acts : Type 0 where
   pub starts : List Trees
   pub handlers : List (List ℕ × Trees)
   pub control : Option Control
+  pub uses : Option Uses
+  pub slot : Bool
+  pub scopes : Scopes
 
--- an element that does nothing
+-- an element without directives that do anything
 abbrev pub no_acts : Acts
-no_acts = record { starts = []; handlers = []; control = None }
+no_acts = record { starts = []; handlers = []; control = None; uses = None; slot = false; scopes = one_scope }
 
 -- An element has its name, the numbers of its own sites in the order of its directives, what it does, its attributes and its
 -- contents: its children, or the text that one of its sites shows (API: ngBind). An anchor stands where a block was: it has the number
@@ -109,11 +159,25 @@ pub record Outlet : Type 0 where
   pub site : ℕ
   pub filling : Filling
 
--- A part of a template that is linked as a whole: its sites and outlets are numbered in document order.
+-- the scopes of a site by their numbers in its instance: the one that its key stands on, and the one that its expression is evaluated on
+pub record SiteScopes : Type 0 where
+  pub under : ℕ
+  pub over : ℕ
+
+-- of an outlet: where its bodies come from, the scope round them, and the scopes outside the directives whose children may be in them
+pub record OutletScope : Type 0 where
+  pub home : Home
+  pub scope : ℕ
+  pub outsides : List Outside
+
+-- A part of a template that is linked as a whole: its sites and outlets are numbered in document order. Where directives of the application
+-- have scopes of their own in it, it is said for each site and each outlet which; else all is on the one scope of the instance.
 pub record Fragment : Type 0 where
   pub parts : Parts
   pub sites : List Site
   pub outlets : List Outlet
+  pub marks : List SiteScopes
+  pub spots : List OutletScope
 
 -- A template: its own fragment, and those of its blocks' bodies, each after those in it
 pub record Template : Type 0 where
@@ -121,7 +185,7 @@ pub record Template : Type 0 where
   pub bodies : List Fragment
 
 abbrev pub no_fragment : Fragment
-no_fragment = record { parts = no_parts; sites = []; outlets = [] }
+no_fragment = record { parts = no_parts; sites = []; outlets = []; marks = []; spots = [] }
 
 -- the fragment of a number: 0 is the template's own, and its bodies follow
 abbrev pub fragment_at : Template → ℕ → Option Fragment

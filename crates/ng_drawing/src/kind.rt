@@ -1,7 +1,7 @@
 //! Kinds of sites.
 
 /// What a watcher keeps of the value of a site: the text that it shows, its class words, the value itself, its items or named
-/// values, or all of it (guide: Scopes, "Scope `$watch` Depths").
+/// values, or all of it (guide: Scopes, "Scope `$watch` Depths"); or, of a two-way binding, the side that changed (API: `$compile`, `scope`).
 #[derive(Clone, Copy, Debug, PartialEq, Eq, Drop)]
 pub enum SiteKind {
     Text,
@@ -9,4 +9,5 @@ pub enum SiteKind {
     Reference,
     Collection,
     Deep,
+    TwoWay,
 }

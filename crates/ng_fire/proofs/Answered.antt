@@ -1,6 +1,6 @@
 -- What is known of a call that answered Ok, and of what is there.
 use Rattle.std.proofs.Common.{◌≡◌, ◌∙◌, ◌<◌, ◌+◌, ℕ, zero, suc, List, [], ◌∷◌, length, drop, get_or, Option, Some, None, refl, ap, sym, subst, true, arith}
-use Rattle.std.specs.Prelude.{Result, Ok, Err, IfErr, IfSome, OnErr, IsSome, OnOk, is_ok}
+use Rattle.std.specs.Prelude.{Result, Ok, Err, IfErr, IfOk, IfSome, OnErr, IsSome, OnOk, is_ok}
 
 pub on_ok : {T E : Type 0} {A : Type 0} (r : Result T E) (v : T) → r ≡ Ok v → OnOk r A → A
 on_ok (Ok x) v e a = a
@@ -38,3 +38,19 @@ dropped_more (y ∷ ys) (suc k) x l e = dropped_more ys k x (omega (arith, l)) e
 
 pub dropped : {X : Type 0} (xs : List X) (k : ℕ) (x : X) → k < length xs → x ≡ get_or xs k x → drop k xs ≡ x ∷ drop (k + 1) xs
 dropped xs k x l e = dropped_more xs k x l e ∙ ap (λ (n : ℕ). x ∷ drop n xs) (let one : suc k ≡ k + 1 = omega arith in one)
+
+pub ok_has : {T E : Type 0} (P : T → Type 0) (r : Result T E) (v : T) → IfOk r P → r ≡ Ok v → P v
+ok_has P (Ok x) v h e = let same : x ≡ v = cc in subst P same h
+ok_has P (Err f) v h e = absurd (cc)
+
+pub if_both : {T E : Type 0} {P Q R : T → Type 0} (r : Result T E) → IfOk r P → IfOk r Q → ((v : T) → P v → Q v → R v) → IfOk r R
+if_both (Ok v) h k f = f v h k
+if_both (Err e) h k f = tt
+
+pub if_on : {T E : Type 0} {P Q : T → Type 0} {A : Type 0} (r : Result T E) → IfOk r P → OnOk r A → ((v : T) → P v → A → Q v) → IfOk r Q
+if_on (Ok v) h a f = f v h a
+if_on (Err e) h a f = tt
+
+pub on_all : {T E X : Type 0} (A : X → Type 0) (r : Result T E) → ((x : X) → OnOk r (A x)) → OnOk r ((x : X) → A x)
+on_all A (Ok v) f = f
+on_all A (Err e) f = tt

@@ -9,9 +9,8 @@ use Rattle.std.specs.declared.cmp.Ordering.{Ordering}
 use Rattle.std.specs.declared.cmp.Ordering.TheVariants.{Less, Equal, Greater}
 use Rattle.ng_base.specs.Views.{ViewTree}
 use Rattle.ng_base.specs.declared.path.Key.{Key}
-use Rattle.ng_fire.specs.Whole.{KeptStands, ListenersStand, RowStands, RowsStand}
+use Rattle.ng_fire.specs.Whole.{KeptStands, ListenersStand, RowStands}
 use Rattle.ng_link.proofs.Keys.{key_is}
-use Rattle.ng_link.specs.Instances.{Instances, is_site}
 use Rattle.ng_link.specs.State.{Listening, Declared}
 use Rattle.ng_watch.specs.Keys.{key_cmp, is_key}
 use Rattle.ng_watch.specs.Seen.{Watching, Watcher}
@@ -53,26 +52,30 @@ row_more : (m n : ℕ) → m ≤ n → (b : Bool) (s : Option ViewTree) → RowS
 row_more m n le true s h = tt
 row_more m n le false s h = kept_more m n le s h
 
-pub rows_more : (m n : ℕ) → m ≤ n → (is : Instances) (t : Table) → RowsStand m is t → RowsStand n is t
-rows_more m n le is [] h = tt
-rows_more m n le is (e ∷ es) h = (row_more m n le (is_site is e.0) e.1.kept h.0, rows_more m n le is es h.1)
+-- rows of a table, where it is known which keys are those of sites
+abbrev pub RowsBy : ℕ → (Key → Bool) → Table → Type 0
+RowsBy n site t = AllByRecursion (λ (e : Key × Watcher). RowStands n (site e.0) e.1.kept) t
+
+pub rows_more : (m n : ℕ) → m ≤ n → (site : Key → Bool) (t : Table) → RowsBy m site t → RowsBy n site t
+rows_more m n le site [] h = tt
+rows_more m n le site (e ∷ es) h = (row_more m n le (site e.0) e.1.kept h.0, rows_more m n le site es h.1)
 
 -- where no site is lost
 row_wider : (n : ℕ) (b c : Bool) (s : Option ViewTree) → (b ≡ true → c ≡ true) → RowStands n b s → RowStands n c s
 row_wider n b true s more h = tt
-row_wider n true false s more h = absurd (let no : false ≡ true = more refl in cc)
+row_wider n true false s more h = absurd (let two : false ≡ true = more refl in cc)
 row_wider n false false s more h = h
 
-pub rows_wider : (n : ℕ) (old new : Instances) (t : Table) → ((k : Key) → is_site old k ≡ true → is_site new k ≡ true) → RowsStand n old t → RowsStand n new t
+pub rows_wider : (n : ℕ) (old new : Key → Bool) (t : Table) → ((k : Key) → old k ≡ true → new k ≡ true) → RowsBy n old t → RowsBy n new t
 rows_wider n old new [] more h = tt
-rows_wider n old new (e ∷ es) more h = (row_wider n (is_site old e.0) (is_site new e.0) e.1.kept (more e.0) h.0, rows_wider n old new es more h.1)
+rows_wider n old new (e ∷ es) more h = (row_wider n (old e.0) (new e.0) e.1.kept (more e.0) h.0, rows_wider n old new es more h.1)
 
 -- where the keys that pass a test stay sites
-pub rows_filtered : (n : ℕ) (old new : Instances) (test : Key → Bool) (t : Table) → ((k : Key) → test k ≡ true → is_site new k ≡ is_site old k) → RowsStand n old t → RowsStand n new (filter (λ (e : Key × Watcher). test e.0) t)
+pub rows_filtered : (n : ℕ) (old new : Key → Bool) (test : Key → Bool) (t : Table) → ((k : Key) → test k ≡ true → new k ≡ old k) → RowsBy n old t → RowsBy n new (filter (λ (e : Key × Watcher). test e.0) t)
 rows_filtered n old new test [] same h = tt
 rows_filtered n old new test (e ∷ es) same h = by_test (test e.0) refl (rows_filtered n old new test es same h.1)
   where
-    by_test : (b : Bool) → test e.0 ≡ b → RowsStand n new (filter (λ (x : Key × Watcher). test x.0) es) → RowsStand n new (cond b (e ∷ filter (λ (x : Key × Watcher). test x.0) es) (filter (λ (x : Key × Watcher). test x.0) es))
+    by_test : (b : Bool) → test e.0 ≡ b → RowsBy n new (filter (λ (x : Key × Watcher). test x.0) es) → RowsBy n new (cond b (e ∷ filter (λ (x : Key × Watcher). test x.0) es) (filter (λ (x : Key × Watcher). test x.0) es))
     by_test true stays more = (subst (λ (b : Bool). RowStands n b e.1.kept) (sym (same e.0 stays)) h.0, more)
     by_test false stays more = more
 
@@ -82,29 +85,29 @@ row_unset n true = tt
 row_unset n false = tt
 
 -- a watch more, which has kept nothing
-pub rows_watched : (n : ℕ) (is : Instances) (k : Key) (w : Watching) (t : Table) → RowsStand n is t → RowsStand n is (with_watch k w t)
-rows_watched n is k w t h = all_inserted (λ (e : Key × Watcher). RowStands n (is_site is e.0) e.1.kept) key_cmp t k (record { watch = w; kept = None }) h (λ q. row_unset n (is_site is q))
+pub rows_watched : (n : ℕ) (site : Key → Bool) (k : Key) (w : Watching) (t : Table) → RowsBy n site t → RowsBy n site (with_watch k w t)
+rows_watched n site k w t h = all_inserted (λ (e : Key × Watcher). RowStands n (site e.0) e.1.kept) key_cmp t k (record { watch = w; kept = None }) h (λ q. row_unset n (site q))
 
 -- the watcher of a key keeps a snapshot, or none
-pub rows_keeping : (n : ℕ) (is : Instances) (k : Key) (s : Option ViewTree) (t : Table) → RowStands n (is_site is k) s → RowsStand n is t → RowsStand n is (with_kept k s t)
-rows_keeping n is k s [] one h = tt
-rows_keeping n is k s (e ∷ es) one h = by_test (is_key k e.0) refl (rows_keeping n is k s es one h.1)
+pub rows_keeping : (n : ℕ) (site : Key → Bool) (k : Key) (s : Option ViewTree) (t : Table) → RowStands n (site k) s → RowsBy n site t → RowsBy n site (with_kept k s t)
+rows_keeping n site k s [] one h = tt
+rows_keeping n site k s (e ∷ es) one h = by_test (is_key k e.0) refl (rows_keeping n site k s es one h.1)
   where
-    by_test : (b : Bool) → is_key k e.0 ≡ b → RowsStand n is (with_kept k s es) → RowsStand n is (cond b ((e.0, keeping s e.1) ∷ es) (e ∷ with_kept k s es))
-    by_test true same more = (subst (λ (q : Key). RowStands n (is_site is q) s) (key_is k e.0 same) one, h.1)
+    by_test : (b : Bool) → is_key k e.0 ≡ b → RowsBy n site (with_kept k s es) → RowsBy n site (cond b ((e.0, keeping s e.1) ∷ es) (e ∷ with_kept k s es))
+    by_test true same more = (subst (λ (q : Key). RowStands n (site q) s) (key_is k e.0 same) one, h.1)
     by_test false same more = (h.0, more)
 
-pub rows_unset : (n : ℕ) (is : Instances) (k : Key) (t : Table) → RowsStand n is t → RowsStand n is (with_kept k None t)
-rows_unset n is k t h = rows_keeping n is k None t (row_unset n (is_site is k)) h
+pub rows_unset : (n : ℕ) (site : Key → Bool) (k : Key) (t : Table) → RowsBy n site t → RowsBy n site (with_kept k None t)
+rows_unset n site k t h = rows_keeping n site k None t (row_unset n (site k)) h
 
 -- what the watcher of a key that is no site's has kept stands
-pub rows_found : (n : ℕ) (is : Instances) (k : Key) (t : Table) → is_site is k ≡ false → RowsStand n is t → KeptStands n (kept_at k t)
-rows_found n is k [] off h = tt
-rows_found n is k (e ∷ es) off h = by_test (is_key k e.0) refl (rows_found n is k es off h.1)
+pub rows_found : (n : ℕ) (site : Key → Bool) (k : Key) (t : Table) → site k ≡ false → RowsBy n site t → KeptStands n (kept_at k t)
+rows_found n site k [] off h = tt
+rows_found n site k (e ∷ es) off h = by_test (is_key k e.0) refl (rows_found n site k es off h.1)
   where
     by_test : (b : Bool) → is_key k e.0 ≡ b → KeptStands n (kept_at k es) → KeptStands n (option_and_then (λ (w : Watcher). w.kept) (cond b (Some e.1) (found k es)))
     by_test true same more =
-        let out : is_site is e.0 ≡ false = subst (λ (q : Key). is_site is q ≡ false) (key_is k e.0 same) off in
+        let out : site e.0 ≡ false = subst (λ (q : Key). site q ≡ false) (key_is k e.0 same) off in
         subst (λ (b : Bool). RowStands n b e.1.kept) out h.0
     by_test false same more = more
 

@@ -1,5 +1,5 @@
 -- What a fire runs.
-use Rattle.std.proofs.Common.{◌≡◌, ◌∙◌, ◌<◌, ℕ, Bool, true, false, List, length, Option, Some, None, refl, ap, subst, if◌then◌else◌}
+use Rattle.std.proofs.Common.{◌≡◌, ◌∙◌, ◌<◌, ℕ, Bool, true, false, List, length, Option, Some, None, refl, ap, subst, sym, if◌then◌else◌}
 use Rattle.std.specs.Prelude.{Ok, Err, option_map}
 use Rattle.std.specs.Map.{lookup}
 use Rattle.std.specs.Option.{ForSome}
@@ -16,11 +16,14 @@ use Rattle.ng_fire.proofs.Entries.{listener_found}
 use Rattle.ng_fire.proofs.Runs.{asked_rises}
 use Rattle.ng_fire.proofs.RisingPrograms.{bind-rises, stores-rises}
 use Rattle.ng_fire.proofs.Snapshots.{dirty_stands, faulted}
-use Rattle.ng_fire.specs.Fires.{fire_run, former_value, listener_at, listener_locals, listener_run, run_with, value_at, value_of}
+use Rattle.ng_fire.specs.Blocks.{Firing}
+use Rattle.ng_fire.specs.Fires.{adds_by, fire_adds, fire_of_site, fire_run, fired, fired_by, former_value, listener_at, listener_locals, listener_run, run_with, value_at, value_of}
 use Rattle.ng_fire.specs.Runs.{asked_first}
+use Rattle.ng_fire.specs.SiteFires.{site_fired}
 use Rattle.ng_fire.specs.Whole.{ListenersStand}
 use Rattle.ng_language.specs.Objects.{AreObjects}
 use Rattle.ng_language.specs.Views.{ViewStands}
+use Rattle.ng_link.specs.Calls.{keeping_at}
 use Rattle.ng_link.specs.Instances.{is_site}
 use Rattle.ng_link.specs.State.{State, Listening}
 use Rattle.ng_watch.specs.Keys.{is_key}
@@ -54,7 +57,7 @@ dirty_found objects a (Some w) x v now e d ws q s =
 -- the program of a key
 
 pub listener_scope : (n : ℕ) (s : State) (k : Key) (l : Listening) → ListenersStand n s.declared → listener_at s k ≡ Some l → l.scope < n
-listener_scope n s k l h e = by (is_site s.instances k) e
+listener_scope n s k l h e = by (is_site s.inner s.instances k) e
   where
     by : (b : Bool) → (if b then None else lookup (is_key k) s.declared) ≡ Some l → l.scope < n
     by true e = absurd (cc)
@@ -69,12 +72,24 @@ run_is s k l former v el ef ev =
 pub none_is : (s : State) (k : Key) → listener_at s k ≡ None → fire_run k s ≡ None
 none_is s k e = ap (λ (x : Option Listening). run_with x (kept_at k s.watchers) (value_at s k) s.core) e
 
-pub site_none : (s : State) (k : Key) → is_site s.instances k ≡ true → listener_at s k ≡ None
-site_none s k e = by (is_site s.instances k) e
+pub site_none : (s : State) (k : Key) → is_site s.inner s.instances k ≡ true → listener_at s k ≡ None
+site_none s k e = by (is_site s.inner s.instances k) e
   where
     by : (b : Bool) → b ≡ true → (if b then None else lookup (is_key k) s.declared) ≡ None
     by true e = refl
     by false e = absurd (cc)
+
+-- the fire of a site
+
+pub fired_site : (k : Key) (v : ViewTree) (s : State) (g : Firing) → is_site s.inner s.instances k ≡ true → g ≡ site_fired k v (value_at s k) (kept_at k s.watchers) (keeping_at k v s) → fire_of_site g ≡ fired k v s
+fired_site k v s g site e =
+    let f : Firing = site_fired k v (value_at s k) (kept_at k s.watchers) (keeping_at k v s) in
+    ap fire_of_site e ∙ sym (ap (λ (b : Bool). if b then fire_of_site f else fired_by (fire_run k s) (keeping_at k v s)) site)
+
+pub adds_site : (k : Key) (v : ViewTree) (s : State) (g : Firing) → is_site s.inner s.instances k ≡ true → g ≡ site_fired k v (value_at s k) (kept_at k s.watchers) (keeping_at k v s) → g.added ≡ fire_adds k v s
+adds_site k v s g site e =
+    let f : Firing = site_fired k v (value_at s k) (kept_at k s.watchers) (keeping_at k v s) in
+    ap (λ (h : Firing). h.added) e ∙ sym (ap (λ (b : Bool). if b then f.added else adds_by (fire_run k s)) site)
 
 -- a fire lowers no number of registration, and changes no path
 

@@ -9,7 +9,7 @@ use Rattle.ng_fire.specs.Inputs.{write_run}
 use Rattle.ng_fire.specs.Runs.{back, program_run}
 use Rattle.ng_language.specs.Trees.{Trees}
 use Rattle.ng_members.specs.Leaves.{Local}
-use Rattle.ng_template.specs.Writing.{input_name}
+use Rattle.ng_directives.specs.Writing.{input_name}
 
 same_locals : (n c : State) → n.locals ≡ c.locals → with_locals c.locals n ≡ n
 same_locals n c e = ap (λ ls. with_locals ls n) (sym e)

@@ -1,20 +1,20 @@
 -- What is linked on other paths stays as rows go, are put in order, and are made.
-use Rattle.std.proofs.Common.{◌≡◌, ◌∙◌, ◌+◌, ◌<◌, ◌≤◌, ◌++◌, ℕ, Bool, true, false, List, [], ◌∷◌, slice_get, Option, Some, None, refl, ap, sym, subst, arith, eqb, if◌then◌else◌}
-use Rattle.std.specs.Prelude.{◌&&◌, not}
-use Rattle.std.proofs.lemmas.Bool.{eqb-true}
+use Rattle.std.proofs.Common.{◌≡◌, ◌∙◌, ◌+◌, ◌<◌, ◌≤◌, ◌++◌, ℕ, Bool, true, false, cond, true≢false, List, [], ◌∷◌, slice_get, Option, Some, None, refl, ap, sym, subst, arith, inl, inr, ◌⊎◌}
+use Rattle.std.specs.List.{AllByRecursion}
+use Rattle.std.specs.Prelude.{not}
 use Rattle.ng_base.specs.declared.path.Key.{Key}
 use Rattle.ng_drawing.specs.Roles.{Role}
-use Rattle.ng_fire.proofs.RowsTaken.{counted_more, one_of, one_there}
-use Rattle.ng_fire.proofs.Served.{all_at, held_below}
+use Rattle.ng_fire.proofs.InnerPaths.{not_true}
+use Rattle.ng_fire.proofs.RowsTaken.{one_of}
+use Rattle.ng_fire.proofs.Served.{all_at, held_below, not_begun}
 use Rattle.ng_fire.specs.Repeats.{bodies_or, rows_at}
-use Rattle.ng_fire.specs.RepeatsOf.{AreRowsAt}
 use Rattle.ng_fire.specs.Serving.{OthersStay, RestStays}
 use Rattle.ng_link.proofs.Lookups.{changed_other, inserted_other, kept_found}
-use Rattle.ng_link.proofs.Paths.{longer, not_path, other_path}
+use Rattle.ng_link.proofs.Paths.{begins_itself, not_path, other_path, same_path}
 use Rattle.ng_link.specs.Calls.{unlinked_at}
 use Rattle.ng_link.specs.Instances.{Body, OutletState, Linked, Instances, is_path, linked_at, outlets_changed, body_added, body_gone, unlinked, with_instance}
 use Rattle.ng_link.specs.PlaceOf.{outlet_of_linked}
-use Rattle.ng_link.specs.Standing.{body_count, IsPlaced, ArePlaced}
+use Rattle.ng_link.specs.Standing.{AreHeld, IsBelow, IsHeldIn, body_count, IsPlaced, ArePlaced}
 use Rattle.ng_link.specs.State.{State}
 use Rattle.ng_watch.specs.Keys.{begins}
 
@@ -27,77 +27,86 @@ pub others_then : (holder : List ℕ) (old mid new : Instances) → OthersStay h
 others_then holder old mid new h k = λ q l off at. k q l off (h q l off at)
 
 pub rest_none : (holder : List ℕ) (is : Instances) → RestStays holder [] is is
-rest_none holder is = λ q n e none. refl
+rest_none holder is = λ q below none. refl
+
+all_split : (q : List ℕ) (xs ys : List Body) → AllByRecursion (λ (b : Body). begins b.path q ≡ false) (xs ++ ys) → AllByRecursion (λ (b : Body). begins b.path q ≡ false) xs × AllByRecursion (λ (b : Body). begins b.path q ≡ false) ys
+all_split q [] ys h = (tt, h)
+all_split q (x ∷ xs) ys h = let more = all_split q xs ys h.1 in ((h.0, more.0), more.1)
 
 pub rest_more : (holder : List ℕ) (xs ys : List Body) (old mid new : Instances) → RestStays holder ys old mid → RestStays holder xs mid new → RestStays holder (xs ++ ys) old new
-rest_more holder xs ys old mid new h k = λ q n e none.
-    (let all = counted_more q xs ys in
-    k q n e (omega (arith, none, all)) ∙ h q n e (omega (arith, none, all)))
+rest_more holder xs ys old mid new h k = λ q below none. (let two = all_split q xs ys none in k q below two.0 ∙ h q below two.1)
 
 -- ---- a row goes
 
--- paths of one length that begin with one another are one
-same_start : (h : List ℕ) (m n : ℕ) → begins (h ++ m ∷ []) (h ++ n ∷ []) ≡ true → m ≡ n
-same_start [] m n e = by (eqb m n) refl e
-  where
-    by : (b : Bool) → eqb m n ≡ b → (b && true) ≡ true → m ≡ n
-    by true is e = eqb-true m n is
-    by false is e = absurd (cc)
-same_start (x ∷ h) m n e = by (eqb x x) (same_start h m n) e
-  where
-    by : (b : Bool) → (begins (h ++ m ∷ []) (h ++ n ∷ []) ≡ true → m ≡ n) → (b && begins (h ++ m ∷ []) (h ++ n ∷ [])) ≡ true → m ≡ n
-    by true more e = more e
-    by false more e = absurd (cc)
+below_apart : (holder q : List ℕ) → IsBelow holder q → is_path q holder ≡ false
+below_apart holder q below = other_path q holder (λ (same : q ≡ holder). true≢false (sym (begins_itself holder) ∙ (ap (λ (r : List ℕ). begins r holder) (sym same) ∙ not_begun holder q below)))
 
-beside : (h p q : List ℕ) (m n : ℕ) → p ≡ h ++ m ∷ [] → q ≡ h ++ n ∷ [] → is_path q p ≡ false → not (begins p q) ≡ true
-beside h p q m n at is off = by (begins p q) refl
-  where
-    by : (b : Bool) → begins p q ≡ b → not b ≡ true
-    by true inside =
-        let one : m ≡ n = same_start h m n (ap (λ (r : List ℕ). begins (h ++ m ∷ []) r) (sym is) ∙ (ap (λ (r : List ℕ). begins r q) (sym at) ∙ inside)) in
-        absurd (not_path q p off (is ∙ (ap (λ (k : ℕ). h ++ k ∷ []) (sym one) ∙ sym at)))
-    by false apart = refl
-
-pub inside_other : (h q : List ℕ) (n : ℕ) → q ≡ h ++ n ∷ [] → is_path q h ≡ false
-inside_other h q n e = other_path q h (λ same. longer h n (sym same ∙ e))
-
-none_of : (q : List ℕ) (b : Body) → body_count q (b ∷ []) ≡ 0 → is_path q b.path ≡ false
-none_of q b e = by (is_path q b.path) refl e
-  where
-    by : (t : Bool) → is_path q b.path ≡ t → (if t then 1 else 0) + 0 ≡ 0 → t ≡ false
-    by true is e = absurd (omega (arith, e))
-    by false is e = refl
+pub inside_other : (holder q : List ℕ) → IsBelow holder q → is_path q holder ≡ false
+inside_other holder q below = below_apart holder q below
 
 module _ (places : Key → Option ℕ) (next : ℕ) (holder : List ℕ) (o : ℕ) (is : Instances) (placed : ArePlaced places next is) (q : List ℕ) where
-  -- a row's path is that of its holder and one number more, and no other row is on it
-  pub row_inside : 0 < body_count q (rows_at holder o is) → (n : ℕ) × (q ≡ holder ++ n ∷ []) × (body_count q (rows_at holder o is) ≤ 1)
+  -- a row's path is below that of its holder, which holds it, and no other row is on it
+  pub row_inside : 0 < body_count q (rows_at holder o is) → IsBelow holder q × IsHeldIn holder q is × (body_count q (rows_at holder o is) ≤ 1)
   row_inside lt = by (linked_at holder is) refl lt
     where
       by_get : (l : Linked) → linked_at holder is ≡ Some l → (x : Option OutletState) → slice_get l.page.outlets o ≡ x → 0 < body_count q (bodies_or x)
-          → (n : ℕ) × (q ≡ holder ++ n ∷ []) × (body_count q (bodies_or x) ≤ 1)
+          → IsBelow holder q × IsHeldIn holder q is × (body_count q (bodies_or x) ≤ 1)
       by_get l at None get lt = absurd (omega (arith, lt))
       by_get l at (Some x) get lt =
           let one : IsPlaced places next holder l = all_at (IsPlaced places next) is holder l placed at in
           let few = one_of q o l.page.outlets x get in
           let most = one.once q in
-          let below = held_below holder q l.page.outlets one.bodies (omega (arith, lt, few)) in
-          (below.0, below.1, omega (arith, few, most))
+          (held_below holder q l.page.outlets one.bodies (omega (arith, lt, few)), (l, at, omega (arith, lt, few)), omega (arith, few, most))
 
       by : (m : Option Linked) → linked_at holder is ≡ m → 0 < body_count q (bodies_or (outlet_of_linked o m))
-          → (n : ℕ) × (q ≡ holder ++ n ∷ []) × (body_count q (bodies_or (outlet_of_linked o m)) ≤ 1)
+          → IsBelow holder q × IsHeldIn holder q is × (body_count q (bodies_or (outlet_of_linked o m)) ≤ 1)
       by None at lt = absurd (omega (arith, lt))
       by (Some l) at lt = by_get l at (slice_get l.page.outlets o) refl lt
 
--- what is beside a row stays where that goes
-pub row_rest : (holder : List ℕ) (b : Body) (m : ℕ) (is : Instances) → b.path ≡ holder ++ m ∷ [] → RestStays holder (b ∷ []) is (unlinked holder b.path is)
-row_rest holder b m is at = λ q n e none.
-    kept_found (λ (r : List ℕ). not (begins b.path r)) (outlets_changed holder (body_gone b.path) is) q (beside holder b.path q m n at e (none_of q b none))
-    ∙ changed_other holder (body_gone b.path) is q (inside_other holder q n e)
+-- what is not below a row stays where that goes
+pub row_rest : (holder : List ℕ) (b : Body) (is : Instances) → RestStays holder (b ∷ []) is (unlinked holder b.path is)
+row_rest holder b is = λ q below none.
+    kept_found (λ (r : List ℕ). not (begins b.path r)) (outlets_changed holder (body_gone b.path) is) q (ap not none.0)
+    ∙ changed_other holder (body_gone b.path) is q (below_apart holder q below)
 
-pub one_rest : (places : Key → Option ℕ) (next : ℕ) (holder : List ℕ) (o : ℕ) (b : Body) (t u : State) → ArePlaced places next t.instances → AreRowsAt holder o (b ∷ []) t.instances → u ≡ unlinked_at holder b.path t → RestStays holder (b ∷ []) t.instances u.instances
-one_rest places next holder o b t u placed asked is =
-    let inside = row_inside places next holder o t.instances placed b.path (one_there places next holder o b t placed asked) in
-    subst (λ (x : Instances). RestStays holder (b ∷ []) t.instances x) (sym (ap (λ (x : State). x.instances) is)) (row_rest holder b inside.0 t.instances inside.1)
+pub one_rest : (holder : List ℕ) (b : Body) (t u : State) → u ≡ unlinked_at holder b.path t → RestStays holder (b ∷ []) t.instances u.instances
+one_rest holder b t u is =
+    subst (λ (x : Instances). RestStays holder (b ∷ []) t.instances x) (sym (ap (λ (x : State). x.instances) is)) (row_rest holder b t.instances)
+
+-- ---- rows that go, and those that are kept
+
+-- a body that an instance holds is not below another of them
+pub apart_held : (is : Instances) → AreHeld is → (holder p q : List ℕ) → IsHeldIn holder q is → IsHeldIn holder p is → IsBelow holder p → is_path q p ≡ false → begins p q ≡ false
+apart_held is held holder p q here there below apart = not_true (begins p q) never
+  where
+    never : begins p q ≡ true → ⊥
+    never e = by (held.nearest holder q p here (held.linked holder p there) e)
+      where
+        by : (p ≡ q) ⊎ (begins p holder ≡ true) → ⊥
+        by (inl same) = not_path q p apart (sym same)
+        by (inr round) = true≢false (sym round ∙ not_begun holder p below)
+
+-- where no row on a path goes, none that goes is one with whose path it begins
+pub none_round : (is : Instances) → AreHeld is → (holder q : List ℕ) → IsHeldIn holder q is → (bs : List Body) → ((b : Body) → 0 < body_count b.path bs → IsHeldIn holder b.path is × IsBelow holder b.path) → body_count q bs ≡ 0 → AllByRecursion (λ (b : Body). begins b.path q ≡ false) bs
+none_round is held holder q here [] those none = tt
+none_round is held holder q here (b ∷ bs) those none = (first, none_round is held holder q here bs rest (omega (arith, none)))
+  where
+    itself : cond {A = ℕ} (is_path b.path b.path) 1 0 ≡ 1
+    itself = ap (λ (x : Bool). cond {A = ℕ} x 1 0) (same_path b.path)
+
+    off : (t : Bool) → is_path q b.path ≡ t → t ≡ false
+    off true e =
+        let one : cond {A = ℕ} (is_path q b.path) 1 0 ≡ 1 = ap (λ (x : Bool). cond {A = ℕ} x 1 0) e in
+        absurd (omega (arith, one, none))
+    off false e = refl
+
+    first : begins b.path q ≡ false
+    first =
+        let there = those b (omega (arith, itself)) in
+        apart_held is held holder b.path q here there.0 there.1 (off (is_path q b.path) refl)
+
+    rest : (c : Body) → 0 < body_count c.path bs → IsHeldIn holder c.path is × IsBelow holder c.path
+    rest c lt = those c (omega (arith, lt))
 
 -- ---- an instance comes
 

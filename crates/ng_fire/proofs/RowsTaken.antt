@@ -8,33 +8,35 @@ use Rattle.ng_behaviour.specs.Scopes.{Scope}
 use Rattle.ng_fire.proofs.Once.{sum_at}
 use Rattle.ng_fire.proofs.Entries.{rows_wider}
 use Rattle.ng_fire.proofs.KeptRows.{at_row, gone_count}
-use Rattle.ng_fire.proofs.Placed.{OutletsHave, site_changed}
-use Rattle.ng_fire.proofs.Served.{all_at, gone_bodies, held_below, not_begun, scope_with, unlinked_serves}
+use Rattle.ng_base.specs.declared.name.ScopeId.{ScopeId}
+use Rattle.ng_fire.proofs.InnerPaths.{site_changed}
+use Rattle.ng_fire.proofs.Placed.{OutletsHave, has_with, outlets_arranged, scope_changed, stands_with}
+use Rattle.ng_fire.proofs.Served.{all_at, at_still, gone_bodies, held_below, not_begun, scope_with, unlinked_serves}
 use Rattle.ng_fire.proofs.Wholes.{Stays, stays_of, whole_by}
 use Rattle.ng_fire.specs.Blocks.{Firing, ended}
 use Rattle.ng_fire.specs.Repeats.{Row, all_ended, bodies_at, body_at, bodies_or, kept_rows, rows_at, rows_taken}
 use Rattle.ng_fire.specs.RepeatsOf.{AreRowsAt, HaveGone, IsSpot, KeptOrGone}
-use Rattle.ng_fire.specs.Serving.{outlets_in, outlet_count, Keeps, Serves}
-use Rattle.ng_fire.specs.Whole.{HasScope, IsWhole}
+use Rattle.ng_fire.specs.Serving.{bare, bare_outlets, outlets_in, Keeps, Serves}
+use Rattle.ng_fire.specs.Whole.{HasBody, HasScope, IsWhole, OutletStands}
 use Rattle.ng_fire.specs.declared.repeats.Spot.{Spot}
 use Rattle.ng_link.proofs.Lookups.{changed_all, changed_here, kept_found}
 use Rattle.ng_link.proofs.Paths.{path_is, same_path}
 use Rattle.ng_link.specs.Arranging.{IsRearranged}
 use Rattle.ng_link.specs.Calls.{arranged_at, unlinked_at}
 use Rattle.ng_link.specs.Events.{scope_in}
-use Rattle.ng_link.specs.Instances.{Body, OutletState, Linked, Instances, is_path, linked_at, with_outlets, outlets_changed, bodies_arranged, without_body, body_gone, unlinked}
+use Rattle.ng_link.specs.Instances.{Body, OutletState, Linked, Instances, is_path, is_site, linked_at, with_outlets, outlets_changed, bodies_arranged, without_body, body_gone, unlinked}
 use Rattle.ng_link.specs.PlaceOf.{outlet_of_linked}
 use Rattle.ng_link.specs.Standing.{body_count, held_count, IsPlaced, ArePlaced, IsHeldIn, IsStanding}
 use Rattle.ng_link.specs.State.{State, body_of, state_of}
 use Rattle.ng_link.specs.declared.works.Works.{Works}
 use Rattle.ng_link.specs.declared.works.Body as code
-use Rattle.ng_template.specs.Kept.{Named, fragment_for}
+use Rattle.ng_compose.specs.Kept.{Named, fragment_for}
 use Rattle.ng_watch.specs.Keys.{begins}
 
 -- ---- an instance stays
 
 pub keeps_same : (holder : List ℕ) (old new : Instances) → new ≡ old → Keeps holder old new
-keeps_same holder old new e = record { scope = ap (λ (is : Instances). scope_in (linked_at holder is)) e; outlets = ap (outlet_count holder) e }
+keeps_same holder old new e = record { scope = ap (λ (is : Instances). scope_in (linked_at holder is)) e; outlets = ap (bare_outlets holder) e }
 
 pub keeps_then : (holder : List ℕ) (old mid new : Instances) → Keeps holder old mid → Keeps holder mid new → Keeps holder old new
 keeps_then holder old mid new h k = record { scope = k.scope ∙ h.scope; outlets = k.outlets ∙ h.outlets }
@@ -45,7 +47,7 @@ serves_keeps holder bs old new h = record { scope = h.scope; outlets = h.outlets
 -- a spot stays one where its outlet does
 pub spot_stays : (all now : List Named) (old new : Instances) (s : Spot) → now ≡ all → Keeps s.holder.now old new → IsSpot all old s → IsSpot now new s
 spot_stays all now old new s same keeps h = record {
-  outlet = (let lt = h.outlet in let count = keeps.outlets in omega (arith, lt, count));
+  outlet = at_still s.holder.now old new s.outlet s.scope.0 (map (λ (n : ScopeId). n.0) s.outsides.now) keeps.outlets h.outlet;
   body = subst (λ (ts : List Named). IsSome (fragment_for ts s.origin)) (sym same) h.body;
 }
 
@@ -94,7 +96,7 @@ module _ (places : Key → Option ℕ) (next : ℕ) (holder : List ℕ) (o : ℕ
     here =
         let few = one_of b.path o l.page.outlets x get in
         let below = held_below holder b.path l.page.outlets one.bodies (omega (arith, lt, few)) in
-        let apart : begins b.path holder ≡ false = ap (λ (p : List ℕ). begins p holder) below.1 ∙ not_begun holder below.0 in
+        let apart : begins b.path holder ≡ false = not_begun holder b.path below in
         kept_found (λ (q : List ℕ). not (begins b.path q)) (outlets_changed holder (body_gone b.path) is) holder (ap not apart)
         ∙ (changed_here holder (body_gone b.path) is ∙ ap (option_map (with_outlets (body_gone b.path))) at)
 
@@ -219,32 +221,29 @@ module _ (places : Key → Option ℕ) (next : ℕ) (holder : List ℕ) (o : ℕ
 
 -- ---- rows are put in order
 
-arranged_length : (n : ℕ) (bs : List Body) (os : List OutletState) → length (bodies_arranged n bs os) ≡ length os
-arranged_length n bs [] = refl
-arranged_length zero bs (o ∷ os) = refl
-arranged_length (suc n) bs (o ∷ os) = ap suc (arranged_length n bs os)
+arranged_bare : (n : ℕ) (bs : List Body) (os : List OutletState) → map bare (bodies_arranged n bs os) ≡ map bare os
+arranged_bare n bs [] = refl
+arranged_bare zero bs (o ∷ os) = refl
+arranged_bare (suc n) bs (o ∷ os) = ap (λ (xs : List OutletState). bare o ∷ xs) (arranged_bare n bs os)
 
 pub arranged_keeps : (holder : List ℕ) (o : ℕ) (bs : List Body) (is : Instances) → Keeps holder is (outlets_changed holder (bodies_arranged o bs) is)
 arranged_keeps holder o bs is = record {
   scope = ap scope_in (changed_here holder (bodies_arranged o bs) is) ∙ scope_with (bodies_arranged o bs) (linked_at holder is);
-  outlets = ap (λ (m : Option Linked). length (outlets_in m)) (changed_here holder (bodies_arranged o bs) is) ∙ by (linked_at holder is);
+  outlets = ap (λ (m : Option Linked). map bare (outlets_in m)) (changed_here holder (bodies_arranged o bs) is) ∙ by (linked_at holder is);
 }
   where
-    by : (m : Option Linked) → length (outlets_in (option_map (with_outlets (bodies_arranged o bs)) m)) ≡ length (outlets_in m)
+    by : (m : Option Linked) → map bare (outlets_in (option_map (with_outlets (bodies_arranged o bs)) m)) ≡ map bare (outlets_in m)
     by None = refl
-    by (Some l) = arranged_length o bs l.page.outlets
-
-have_arranged : (all : List Named) (bs : List Body) (n : ℕ) (os : List OutletState) → OutletsHave all os → OutletsHave all (bodies_arranged n bs os)
-have_arranged all bs n [] h = tt
-have_arranged all bs zero (o ∷ os) h = (h.0, h.1)
-have_arranged all bs (suc n) (o ∷ os) h = (h.0, have_arranged all bs n os h.1)
+    by (Some l) = arranged_bare o bs l.page.outlets
 
 pub arranged_stays : (scopes : List Scope) (objects : ℕ) (holder : List ℕ) (o : ℕ) (bs : List Body) (s : State) → Stays scopes objects s → Stays scopes objects (arranged_at holder o bs s)
 arranged_stays scopes objects holder o bs s h = record {
   listeners = h.listeners;
-  rows = rows_wider objects s.instances (outlets_changed holder (bodies_arranged o bs) s.instances) s.watchers (λ k site. site_changed holder (bodies_arranged o bs) s.instances k ∙ site) h.rows;
-  scopes = changed_all holder (bodies_arranged o bs) (λ (e : List ℕ × Linked). HasScope scopes e.0 e.1) s.instances (λ l at one. record { scope = one.scope; path = one.path }) h.scopes;
-  bodies = changed_all holder (bodies_arranged o bs) (λ (e : List ℕ × Linked). OutletsHave s.templates e.1.page.outlets) s.instances (λ l at one. have_arranged s.templates bs o l.page.outlets one) h.bodies;
+  rows = rows_wider objects (is_site s.inner s.instances) (is_site s.inner (outlets_changed holder (bodies_arranged o bs) s.instances)) s.watchers (λ k site. site_changed s.inner holder (bodies_arranged o bs) s.instances k ∙ site) h.rows;
+  scopes = changed_all holder (bodies_arranged o bs) (λ (e : List ℕ × Linked). HasScope scopes s.inner e.0 e.1) s.instances
+      (λ l at one. scope_changed scopes s.inner holder (bodies_arranged o bs) l (outlets_arranged (OutletStands scopes s.inner holder) (stands_with scopes s.inner holder) o bs l.page.outlets) one) h.scopes;
+  bodies = changed_all holder (bodies_arranged o bs) (λ (e : List ℕ × Linked). OutletsHave s.templates e.1.page.outlets) s.instances
+      (λ l at one. outlets_arranged (λ (x : OutletState). HasBody s.templates x.home.template.0 x.filling) (has_with s.templates) o bs l.page.outlets one) h.bodies;
 }
 
 -- works of which the rows of an outlet are put in order are whole

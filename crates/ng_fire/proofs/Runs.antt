@@ -16,7 +16,7 @@ use Rattle.ng_fire.proofs.Rising.{mark, Rises}
 use Rattle.ng_fire.proofs.RisingPrograms.{does-rises, statements-rises, destroys-rises}
 use Rattle.ng_fire.specs.Inputs.{write_run}
 use Rattle.ng_fire.specs.Runs.{asked_first, program_run, destroyed}
-use Rattle.ng_template.specs.Writing.{input_name}
+use Rattle.ng_directives.specs.Writing.{input_name}
 
 value_state : (s : State) (o : Result ViewTree Fault) → (as_value_run (s, o)).0 ≡ s
 value_state s (Ok v) = refl

@@ -1,29 +1,30 @@
 -- What the fire of a block leaves of the instance that its site is in, and of the outlets that are due after one.
-use Rattle.std.proofs.Common.{◌≡◌, ◌∙◌, ◌+◌, ◌<◌, ◌≤◌, ℕ, zero, suc, Bool, true, false, cond, List, [], ◌∷◌, ◌++◌, length, Option, Some, None, refl, ap, sym, subst, arith, if◌then◌else◌}
+use Rattle.std.proofs.Common.{◌≡◌, ◌∙◌, ◌+◌, ◌<◌, ◌≤◌, ℕ, zero, suc, Bool, true, false, cond, List, [], ◌∷◌, ◌++◌, map, length, length-append, append_assoc, Option, Some, None, refl, ap, sym, subst, arith, if◌then◌else◌}
 use Rattle.std.specs.List.{AllByRecursion, filter}
-use Rattle.std.specs.Prelude.{not, option_map}
+use Rattle.std.specs.Prelude.{IsSome, not, option_map, slice_get}
 use Rattle.std.proofs.lemmas.Bool.{eq-eqb}
 use Rattle.std.specs.Prelude.{◌&&◌}
 use Rattle.ng_base.specs.declared.path.Key.{Key}
 use Rattle.ng_drawing.specs.Roles.{Role}
-use Rattle.ng_fire.specs.Serving.{outlets_in, outlet_count, bodies_held, AreHeldBy, IsThere, due_count, AreDue, Serves}
+use Rattle.ng_fire.proofs.Answered.{there}
+use Rattle.ng_fire.specs.Serving.{outlets_in, bare, bare_outlets, bodies_held, AreHeldBy, IsAt, IsThere, due_count, AreDue, Serves}
 use Rattle.ng_fire.specs.Whole.{HasBody, HaveBodies}
 use Rattle.ng_link.proofs.Lookups.{changed_here, inserted_other, kept_found}
 use Rattle.ng_link.proofs.Paths.{path_is, same_path, other_path}
 use Rattle.ng_link.proofs.BodiesAt.{added_more}
 use Rattle.ng_link.specs.Due.{Due, due_at, due_from, all_due}
 use Rattle.ng_link.specs.Events.{scope_in}
-use Rattle.ng_link.specs.Instances.{Body, OutletState, Linked, Instances, is_path, linked_at, is_filled_by, with_outlets, outlets_changed, body_added, body_gone, unlinked, with_instance}
-use Rattle.ng_link.specs.Standing.{IsIn, AreIn, body_count, held_count, IsPlaced, ArePlaced, IsHeldIn}
-use Rattle.ng_template.specs.Kept.{Named}
-use Rattle.ng_watch.specs.Keys.{begins}
+use Rattle.ng_link.specs.Instances.{Body, OutletState, Linked, Instances, key_in, is_path, linked_at, is_filled_by, with_outlets, outlets_changed, body_added, body_gone, unlinked, with_instance}
+use Rattle.ng_link.specs.Standing.{IsBelow, IsIn, AreIn, body_count, held_count, IsPlaced, ArePlaced, IsHeldIn}
+use Rattle.ng_compose.specs.Kept.{Named}
+use Rattle.ng_watch.specs.Keys.{begins, is_key}
 
 -- ---- what is left, one after another
 
 pub serves_same : (holder : List ℕ) (bs : List Body) (old new : Instances) → new ≡ old → Serves holder bs old new
 serves_same holder bs old new e = record {
   scope = ap (λ (is : Instances). scope_in (linked_at holder is)) e;
-  outlets = ap (outlet_count holder) e;
+  outlets = ap (bare_outlets holder) e;
   bodies = λ q. (let h : bodies_held holder q new ≡ bodies_held holder q old = ap (bodies_held holder q) e in omega (arith, h));
 }
 
@@ -55,15 +56,22 @@ held_first holder b bs is held =
 
 -- ---- the outlets that are due
 
+found_behind : (before : List OutletState) (x : OutletState) (xs : List OutletState) → option_map {U = ℕ × List ℕ} (λ (y : OutletState). (y.scope, y.outsides)) (slice_get (map bare (before ++ x ∷ xs)) (length before)) ≡ Some (x.scope, x.outsides)
+found_behind [] x xs = refl
+found_behind (y ∷ ys) x xs = found_behind ys x xs
+
 pub due_one : (all : List Named) (holder : List ℕ) (is : Instances) (d : Due) (ds : List Due) → AreDue all holder is (d ∷ ds) → AreDue all holder is (d ∷ [])
 due_one all holder is d ds h = record { there = (h.there.0, tt); bodies = λ q. (let many = h.bodies q in omega (arith, many)) }
 
 pub due_held : (all : List Named) (holder : List ℕ) (is : Instances) (d : Due) (ds : List Due) → AreDue all holder is (d ∷ ds) → AreHeldBy holder d.bodies is
 due_held all holder is d ds h = λ q. (let many = h.bodies q in omega (arith, many))
 
-pub there_still : (all : List Named) (holder : List ℕ) (old new : Instances) (ds : List Due) → outlet_count holder new ≡ outlet_count holder old → AllByRecursion (IsThere all holder old) ds → AllByRecursion (IsThere all holder new) ds
+pub at_still : (holder : List ℕ) (old new : Instances) (o scope : ℕ) (outsides : List ℕ) → bare_outlets holder new ≡ bare_outlets holder old → IsAt holder old o scope outsides → IsAt holder new o scope outsides
+at_still holder old new o scope outsides e h = ap (λ (os : List OutletState). option_map {U = ℕ × List ℕ} (λ (x : OutletState). (x.scope, x.outsides)) (slice_get os o)) e ∙ h
+
+pub there_still : (all : List Named) (holder : List ℕ) (old new : Instances) (ds : List Due) → bare_outlets holder new ≡ bare_outlets holder old → AllByRecursion (IsThere all holder old) ds → AllByRecursion (IsThere all holder new) ds
 there_still all holder old new [] e h = tt
-there_still all holder old new (d ∷ ds) e h = (record { outlet = (let lt = h.0.outlet in omega (arith, lt, e)); body = h.0.body }, there_still all holder old new ds e h.1)
+there_still all holder old new (d ∷ ds) e h = (record { outlet = at_still holder old new d.outlet d.scope d.outsides e h.0.outlet; body = h.0.body }, there_still all holder old new ds e h.1)
 
 pub due_rest : (all : List Named) (holder : List ℕ) (old new : Instances) (d : Due) (ds : List Due) → AreDue all holder old (d ∷ ds) → Serves holder d.bodies old new → AreDue all holder new ds
 due_rest all holder old new d ds h s = record {
@@ -82,12 +90,18 @@ all_at P (e ∷ es) p l h at = by (is_path p e.0) refl (all_at P es p l h.1) at
     by false off more at = more at
 
 module _ (all : List Named) (holder : List ℕ) (is : Instances) (serial : ℕ) where
-  due_there : (o : ℕ) (xs : List OutletState) → o + length xs ≤ outlet_count holder is → AllByRecursion (λ (x : OutletState). HasBody all x.home.template.0 x.filling) xs → AllByRecursion (IsThere all holder is) (due_from serial o xs)
-  due_there o [] le h = tt
-  due_there o (x ∷ xs) le h = by (is_filled_by serial x) (due_there (o + 1) xs (omega (arith, le)) h.1)
+  -- the outlets from one on
+  due_there : (before xs : List OutletState) → outlets_in (linked_at holder is) ≡ before ++ xs → AllByRecursion (λ (x : OutletState). HasBody all x.home.template.0 x.filling) xs → AllByRecursion (IsThere all holder is) (due_from serial (length before) xs)
+  due_there before [] e h = tt
+  due_there before (x ∷ xs) e h =
+      by (is_filled_by serial x)
+      (subst (λ (n : ℕ). AllByRecursion (IsThere all holder is) (due_from serial n xs)) (length-append before (x ∷ [])) (due_there (before ++ x ∷ []) xs (e ∙ sym (append_assoc before (x ∷ []) xs)) h.1))
     where
-      by : (b : Bool) → AllByRecursion (IsThere all holder is) (due_from serial (o + 1) xs) → AllByRecursion (IsThere all holder is) (if b then due_at o x ∷ due_from serial (o + 1) xs else due_from serial (o + 1) xs)
-      by true more = (record { outlet = omega (arith, le); body = h.0 }, more)
+      here : IsAt holder is (length before) x.scope x.outsides
+      here = ap (λ (os : List OutletState). option_map {U = ℕ × List ℕ} (λ (y : OutletState). (y.scope, y.outsides)) (slice_get (map bare os) (length before))) e ∙ found_behind before x xs
+
+      by : (b : Bool) → AllByRecursion (IsThere all holder is) (due_from serial (length before + 1) xs) → AllByRecursion (IsThere all holder is) (if b then due_at (length before) x ∷ due_from serial (length before + 1) xs else due_from serial (length before + 1) xs)
+      by true more = (record { outlet = here; body = h.0 }, more)
       by false more = more
 
   due_counted : (q : List ℕ) (o : ℕ) (xs : List OutletState) → due_count q (due_from serial o xs) ≤ held_count q xs
@@ -98,37 +112,58 @@ module _ (all : List Named) (holder : List ℕ) (is : Instances) (serial : ℕ) 
       by true more = omega (arith, more)
       by false more = omega (arith, more)
 
-  pub all_are_due : HaveBodies all is → AreDue all holder is (all_due serial (linked_at holder is))
+  none_due : AreDue all holder is []
+  none_due = record { there = tt; bodies = λ q. omega arith }
+
+module _ (all : List Named) (holder : List ℕ) (is : Instances) (k : Key) where
+  pub all_are_due : HaveBodies all is → AreDue all holder is (all_due k (linked_at holder is))
   all_are_due h = by (linked_at holder is) refl
     where
-      by : (m : Option Linked) → linked_at holder is ≡ m → AreDue all holder is (all_due serial m)
-      by None e = record { there = tt; bodies = λ q. omega arith }
-      by (Some l) e =
-          let count : outlet_count holder is ≡ length l.page.outlets = ap (λ (m : Option Linked). length (outlets_in m)) e in
-          record {
-            there = due_there 0 l.page.outlets (omega (arith, count)) (all_at (λ (p : List ℕ) (m : Linked). AllByRecursion (λ (x : OutletState). HasBody all x.home.template.0 x.filling) m.page.outlets) is holder l h e);
-            bodies = λ q. (let held : bodies_held holder q is ≡ held_count q l.page.outlets = ap (λ (m : Option Linked). held_count q (outlets_in m)) e in let le = due_counted q 0 l.page.outlets in omega (arith, held, le));
+      by : (m : Option Linked) → linked_at holder is ≡ m → AreDue all holder is (all_due k m)
+      by None e = none_due all holder is k.serial.0
+      by (Some l) e = by_key (is_key k (key_in l.page k.serial.0))
+        where
+          those : AreDue all holder is (due_from k.serial.0 0 l.page.outlets)
+          those = record {
+            there = due_there all holder is k.serial.0 [] l.page.outlets (ap outlets_in e) (all_at (λ (p : List ℕ) (m : Linked). AllByRecursion (λ (x : OutletState). HasBody all x.home.template.0 x.filling) m.page.outlets) is holder l h e);
+            bodies = λ q. (let held : bodies_held holder q is ≡ held_count q l.page.outlets = ap (λ (m : Option Linked). held_count q (outlets_in m)) e in let le = due_counted all holder is k.serial.0 q 0 l.page.outlets in omega (arith, held, le));
           }
+
+          by_key : (b : Bool) → AreDue all holder is (if b then due_from k.serial.0 0 l.page.outlets else [])
+          by_key true = those
+          by_key false = none_due all holder is k.serial.0
+
+-- an outlet that is there is one of what is linked
+pub at_linked : (holder : List ℕ) (is : Instances) (o scope : ℕ) (outsides : List ℕ) → IsAt holder is o scope outsides → IsSome (linked_at holder is)
+at_linked holder is o scope outsides h = by (linked_at holder is) h
+  where
+    by : (m : Option Linked) → option_map {U = ℕ × List ℕ} (λ (x : OutletState). (x.scope, x.outsides)) (slice_get (map bare (outlets_in m)) o) ≡ Some (scope, outsides) → IsSome m
+    by None h = absurd (cc)
+    by (Some l) h = refl
 
 -- ---- a body goes
 
-pub not_begun : (p : List ℕ) (n : ℕ) → begins (p ++ n ∷ []) p ≡ false
-not_begun [] n = refl
-not_begun (x ∷ xs) n = ap (λ (b : Bool). b && begins (xs ++ n ∷ []) xs) (eq-eqb x x refl) ∙ not_begun xs n
+not_begun_by : (p b : List ℕ) (n : ℕ) → begins (p ++ (b ++ n ∷ [])) p ≡ false
+not_begun_by [] [] n = refl
+not_begun_by [] (x ∷ b) n = refl
+not_begun_by (x ∷ xs) b n = ap (λ (c : Bool). c && begins (xs ++ (b ++ n ∷ [])) xs) (eq-eqb x x refl) ∙ not_begun_by xs b n
 
-body_in : (p q : List ℕ) (bs : List Body) → AllByRecursion (IsIn p) bs → 0 < body_count q bs → (n : ℕ) × (q ≡ p ++ n ∷ [])
+pub not_begun : (p q : List ℕ) → IsBelow p q → begins q p ≡ false
+not_begun p q h = ap (λ (r : List ℕ). begins r p) h.1.1 ∙ not_begun_by p h.0 h.1.0
+
+body_in : (p q : List ℕ) (bs : List Body) → AllByRecursion (IsIn p) bs → 0 < body_count q bs → IsBelow p q
 body_in p q [] h lt = absurd (omega (arith, lt))
 body_in p q (b ∷ bs) h lt = by (is_path q b.path) refl (body_in p q bs h.1) lt
   where
-    by : (t : Bool) → is_path q b.path ≡ t → (0 < body_count q bs → (n : ℕ) × (q ≡ p ++ n ∷ [])) → 0 < (if t then 1 else 0) + body_count q bs → (n : ℕ) × (q ≡ p ++ n ∷ [])
-    by true e more lt = (h.0.0, path_is q b.path e ∙ h.0.1)
+    by : (t : Bool) → is_path q b.path ≡ t → (0 < body_count q bs → IsBelow p q) → 0 < (if t then 1 else 0) + body_count q bs → IsBelow p q
+    by true e more lt = subst (IsBelow p) (sym (path_is q b.path e)) h.0
     by false e more lt = more (omega (arith, lt))
 
-pub held_below : (p q : List ℕ) (os : List OutletState) → AreIn p os → 0 < held_count q os → (n : ℕ) × (q ≡ p ++ n ∷ [])
+pub held_below : (p q : List ℕ) (os : List OutletState) → AreIn p os → 0 < held_count q os → IsBelow p q
 held_below p q [] h lt = absurd (omega (arith, lt))
 held_below p q (o ∷ os) h lt = by (body_count q o.bodies) refl (held_below p q os h.1)
   where
-    by : (n : ℕ) → body_count q o.bodies ≡ n → (0 < held_count q os → (m : ℕ) × (q ≡ p ++ m ∷ [])) → (m : ℕ) × (q ≡ p ++ m ∷ [])
+    by : (n : ℕ) → body_count q o.bodies ≡ n → (0 < held_count q os → IsBelow p q) → IsBelow p q
     by zero e more = more (omega (arith, lt, e))
     by (suc n) e more = body_in p q o.bodies h.0 (omega (arith, e))
 
@@ -141,8 +176,8 @@ gone_bodies p q (b ∷ bs) off = by (is_path p b.path) refl (gone_bodies p q bs 
 
     by : (t : Bool) → is_path p b.path ≡ t → body_count q others ≡ body_count q bs → body_count q (cond (not t) (b ∷ others) others) ≡ (if is_path q b.path then 1 else 0) + body_count q bs
     by true e more =
-        let no : is_path q b.path ≡ false = ap (is_path q) (sym (path_is p b.path e)) ∙ off in
-        let none : (let n : ℕ = if is_path q b.path then 1 else 0 in n ≡ 0) = ap (λ (t : Bool). (let n : ℕ = if t then 1 else 0 in n)) no in
+        let off_it : is_path q b.path ≡ false = ap (is_path q) (sym (path_is p b.path e)) ∙ off in
+        let none : (let n : ℕ = if is_path q b.path then 1 else 0 in n ≡ 0) = ap (λ (t : Bool). (let n : ℕ = if t then 1 else 0 in n)) off_it in
         omega (arith, more, none)
     by false e more = omega (arith, more)
 
@@ -150,9 +185,9 @@ gone_held : (p q : List ℕ) (os : List OutletState) → is_path q p ≡ false �
 gone_held p q [] off = refl
 gone_held p q (o ∷ os) off = let one = gone_bodies p q o.bodies off in let more = gone_held p q os off in omega (arith, one, more)
 
-gone_length : (p : List ℕ) (os : List OutletState) → length (body_gone p os) ≡ length os
-gone_length p [] = refl
-gone_length p (o ∷ os) = ap suc (gone_length p os)
+gone_bare : (p : List ℕ) (os : List OutletState) → map bare (body_gone p os) ≡ map bare os
+gone_bare p [] = refl
+gone_bare p (o ∷ os) = ap (λ (xs : List OutletState). bare o ∷ xs) (gone_bare p os)
 
 pub scope_with : (f : List OutletState → List OutletState) (o : Option Linked) → scope_in (option_map (with_outlets f) o) ≡ scope_in o
 scope_with f None = refl
@@ -165,13 +200,13 @@ unlinked_serves places next holder b is placed held = by held.0 held.1 held.2
     by l at lt =
         let one : IsPlaced places next holder l = all_at (IsPlaced places next) is holder l placed at in
         let below = held_below holder b.path l.page.outlets one.bodies lt in
-        let apart : begins b.path holder ≡ false = ap (λ (p : List ℕ). begins p holder) below.1 ∙ not_begun holder below.0 in
+        let apart : begins b.path holder ≡ false = not_begun holder b.path below in
         let here : linked_at holder (unlinked holder b.path is) ≡ option_map (with_outlets (body_gone b.path)) (Some l) =
         kept_found (λ (q : List ℕ). not (begins b.path q)) (outlets_changed holder (body_gone b.path) is) holder (ap not apart)
         ∙ (changed_here holder (body_gone b.path) is ∙ ap (option_map (with_outlets (body_gone b.path))) at) in
         record {
           scope = ap scope_in here ∙ sym (ap scope_in at);
-          outlets = ap (λ (m : Option Linked). length (outlets_in m)) here ∙ (gone_length b.path l.page.outlets ∙ sym (ap (λ (m : Option Linked). length (outlets_in m)) at));
+          outlets = ap (λ (m : Option Linked). map bare (outlets_in m)) here ∙ (gone_bare b.path l.page.outlets ∙ sym (ap (λ (m : Option Linked). map bare (outlets_in m)) at));
           bodies = λ q.
               (let now : bodies_held holder q (unlinked holder b.path is) ≡ held_count q (body_gone b.path l.page.outlets) = ap (λ (m : Option Linked). held_count q (outlets_in m)) here in
               let was : bodies_held holder q is ≡ held_count q l.page.outlets = ap (λ (m : Option Linked). held_count q (outlets_in m)) at in
@@ -185,26 +220,26 @@ unlinked_serves places next holder b is placed held = by held.0 held.1 held.2
 
 -- ---- a body comes
 
-added_length : (n i : ℕ) (b : Body) (os : List OutletState) → length (body_added n i b os) ≡ length os
-added_length n i b [] = refl
-added_length zero i b (o ∷ os) = refl
-added_length (suc n) i b (o ∷ os) = ap suc (added_length n i b os)
+added_bare : (n i : ℕ) (b : Body) (os : List OutletState) → map bare (body_added n i b os) ≡ map bare os
+added_bare n i b [] = refl
+added_bare zero i b (o ∷ os) = refl
+added_bare (suc n) i b (o ∷ os) = ap (λ (xs : List OutletState). bare o ∷ xs) (added_bare n i b os)
 
-pub taken_serves : (holder : List ℕ) (o i : ℕ) (role : Role) (p : List ℕ) (m : Linked) (is : Instances) → o < outlet_count holder is → linked_at p is ≡ None → Serves holder [] is (outlets_changed holder (body_added o i (record { path = p; role = role })) (with_instance p m is))
+pub taken_serves : (holder : List ℕ) (o i : ℕ) (role : Role) (p : List ℕ) (m : Linked) (is : Instances) → IsSome (linked_at holder is) → linked_at p is ≡ None → Serves holder [] is (outlets_changed holder (body_added o i (record { path = p; role = role })) (with_instance p m is))
 taken_serves holder o i role p m is lt free = by (linked_at holder is) refl
   where
     added : List OutletState → List OutletState
     added = body_added o i (record { path = p; role = role })
 
     by : (x : Option Linked) → linked_at holder is ≡ x → Serves holder [] is (outlets_changed holder added (with_instance p m is))
-    by None e = absurd (let none : outlet_count holder is ≡ 0 = ap (λ (x : Option Linked). length (outlets_in x)) e in omega (arith, lt, none))
+    by None e = absurd (let l = there (linked_at holder is) lt in let two : Some l.0 ≡ None = sym l.1 ∙ e in cc)
     by (Some l) e =
         let off : is_path holder p ≡ false = other_path holder p (λ same. let two : Some l ≡ None = sym e ∙ (ap (λ (q : List ℕ). linked_at q is) same ∙ free) in cc) in
         let here : linked_at holder (outlets_changed holder added (with_instance p m is)) ≡ Some (with_outlets added l) =
         changed_here holder added (with_instance p m is) ∙ ap (option_map (with_outlets added)) (inserted_other p m is holder off ∙ e) in
         record {
           scope = ap scope_in here ∙ sym (ap scope_in e);
-          outlets = ap (λ (x : Option Linked). length (outlets_in x)) here ∙ (added_length o i (record { path = p; role = role }) l.page.outlets ∙ sym (ap (λ (x : Option Linked). length (outlets_in x)) e));
+          outlets = ap (λ (x : Option Linked). map bare (outlets_in x)) here ∙ (added_bare o i (record { path = p; role = role }) l.page.outlets ∙ sym (ap (λ (x : Option Linked). map bare (outlets_in x)) e));
           bodies = λ q.
               (let now : bodies_held holder q (outlets_changed holder added (with_instance p m is)) ≡ held_count q (added l.page.outlets) = ap (λ (x : Option Linked). held_count q (outlets_in x)) here in
               let was : bodies_held holder q is ≡ held_count q l.page.outlets = ap (λ (x : Option Linked). held_count q (outlets_in x)) e in

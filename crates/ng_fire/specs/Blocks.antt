@@ -1,7 +1,7 @@
 -- What the fire of a site does that fills outlets (API: ngIf, ngSwitch, ngInclude, ngRepeat). First the scopes of bodies that are not to stay are
 -- destroyed, each before its body is gone. Then, where a body is called for that doesn't stand, a child scope is made and the body is linked
 -- on it, up to the first fault.
-use Rattle.std.specs.Prelude.{ℕ, ◌||◌, ◌&&◌, not, ◌++◌, Bool, true, false, List, [], ◌∷◌, length, nat_lt, Some, Result, Ok, Err, if◌then◌else◌}
+use Rattle.std.specs.Prelude.{ℕ, ◌||◌, ◌&&◌, not, ◌++◌, Bool, true, false, List, [], ◌∷◌, length, nat_lt, Option, None, Some, Result, Ok, Err, if◌then◌else◌}
 use Rattle.ng_core.specs.Burying.{buried}
 use Rattle.ng_core.specs.State as act
 use Rattle.ng_core.specs.State.{Run, with_fault, with_objects, with_scopes}
@@ -15,13 +15,12 @@ use Rattle.ng_drawing.specs.Looks.{is_kept_true}
 use Rattle.ng_drawing.specs.Origins.{is_too_deep}
 use Rattle.ng_drawing.specs.Template.{Fragment, Filling, body_if, on_case, for_each, by_name}
 use Rattle.ng_drawing.specs.declared.origin.Origin.{Origin}
-use Rattle.ng_template.specs.Kept.{fragments_in}
+use Rattle.ng_compose.specs.Kept.{fragments_in}
 use Rattle.ng_link.specs.Calls.{Place, with_core, unlinked_at}
 use Rattle.ng_link.specs.Events.{scope_in}
 use Rattle.ng_link.specs.Due.{Due}
 use Rattle.ng_link.specs.Instances.{Body, linked_at}
-use Rattle.ng_link.specs.Shape.{linked}
-use Rattle.ng_link.specs.State.{State, live_nodes}
+use Rattle.ng_link.specs.State.{State}
 use Rattle.ng_fire.specs.Changes.{changed}
 use Rattle.ng_fire.specs.Links.{Linking, begins_linking, adds, link_at}
 use Rattle.ng_fire.specs.Runs.{followed, destroy_run}
@@ -75,32 +74,36 @@ abbrev pub discarded : ℕ → State → State
 discarded scope s = changed (with_core (buried scope s.core) s)
 
 -- a body is linked on its scope; a fault of that makes the scope one that was made in vain
-abbrev pub linked_then : ℕ → Result (Unit {0}) Fault → Linking → Firing → Firing
-linked_then scope (Ok u) l g = record g { state = l.state; added = g.added || l.added }
-linked_then scope (Err e) l g = faulted_with e (record g { state = discarded scope l.state; added = g.added || l.added })
+abbrev pub linked_then : ℕ → Option Fault → Linking → Firing → Firing
+linked_then scope None l g = record g { state = l.state; added = g.added || l.added }
+linked_then scope (Some e) l g = faulted_with e (record g { state = discarded scope l.state; added = g.added || l.added })
 
 -- names of a scope are set, whatever they are
 abbrev pub told_on : ℕ → List Local → act.State → act.State
 told_on scope names c = with_objects (with_names c.objects (object_at c.scopes scope) names) c
 
-abbrev pub body_linked : Place → Origin → Fragment → ℕ → State → Firing → Firing
-body_linked place which f child s g = linked_then child (linked (live_nodes s) f.parts) (link_at place which child f s) g
+abbrev pub linked_by : ℕ → Linking → Firing → Firing
+linked_by child l g = linked_then child l.fault l g
+
+abbrev pub body_linked : Place → Origin → Fragment → ℕ → List ℕ → State → Firing → Firing
+body_linked place which f child outsides s g = linked_by child (link_at place which child outsides f s) g
 
 -- A template that is included where no more may be is a fault before the first step.
-abbrev pub body_on : Place → Origin → Fragment → ℕ → State → Firing → Firing
-body_on place which f child s g = if is_too_deep which then linked_then child (Err Depth) (begins_linking s) g else body_linked place which f child s g
+abbrev pub body_on : Place → Origin → Fragment → ℕ → List ℕ → State → Firing → Firing
+body_on place which f child outsides s g = if is_too_deep which then linked_then child (Some Depth) (begins_linking child outsides s) g else body_linked place which f child outsides s g
 
 -- a body is made at a place, on the child scope where there is one, once that has been told some names
-abbrev pub body_made : Place → List Local → Origin → Fragment → act.State → Result ℕ Fault → Firing → Firing
-body_made place names which f c (Err e) g = faulted_with e g
-body_made place names which f c (Ok child) g = body_on place which f child (with_core (told_on child names c) g.state) g
+abbrev pub body_made : Place → List ℕ → List Local → Origin → Fragment → act.State → Result ℕ Fault → Firing → Firing
+body_made place outsides names which f c (Err e) g = faulted_with e g
+body_made place outsides names which f c (Ok child) g = body_on place which f child outsides (with_core (told_on child names c) g.state) g
 
--- the body of a fragment is made at a place of an instance that stands on a scope
-abbrev pub filled : Place → ℕ → List Local → Origin → Firing → Firing
-filled place scope names which g = by (child_run scope g.state.core)
+-- the body of a fragment is made at a place round which is a scope, where the slots in it are given something by directives of which these are the
+-- scopes outside
+abbrev pub filled : Place → ℕ → List ℕ → List Local → Origin → Firing → Firing
+filled place scope outsides names which g = by (child_run scope g.state.core)
   where
     by : Run ℕ → Firing
-    by r = body_made place names which (fragments_in g.state.templates which) r.0 r.1 g
+    by r = body_made place outsides names which (fragments_in g.state.templates which) r.0 r.1 g
 
 abbrev pub has_bodies : List Body → Bool
 has_bodies [] = false

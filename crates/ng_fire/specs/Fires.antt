@@ -52,7 +52,7 @@ value_at s k = value_of s (found k s.watchers)
 
 -- the program of the declared watch of a key; the site of a template has none, and only shows what it keeps
 abbrev pub listener_at : State → Key → Option Listening
-listener_at s k = if is_site s.instances k then None else lookup (is_key k) s.declared
+listener_at s k = if is_site s.inner s.instances k then None else lookup (is_key k) s.declared
 
 -- the test of a watcher was dirty, and this is the snapshot of now
 abbrev pub IsDirtyWith : ViewTree → State → Key → Type 0
@@ -84,9 +84,9 @@ fire_of_site g = (g.state, g.faulted)
 
 abbrev pub fired : Key → ViewTree → State → State × Bool
 fired k now s =
-    if is_site s.instances k then fire_of_site (site_fired k now (keeping_at k now s))
+    if is_site s.inner s.instances k then fire_of_site (site_fired k now (value_at s k) (kept_at k s.watchers) (keeping_at k now s))
     else fired_by (fire_run k s) (keeping_at k now s)
 
 -- whether the fire leaves a watcher more
 abbrev pub fire_adds : Key → ViewTree → State → Bool
-fire_adds k now s = if is_site s.instances k then (site_fired k now (keeping_at k now s)).added else adds_by (fire_run k s)
+fire_adds k now s = if is_site s.inner s.instances k then (site_fired k now (value_at s k) (kept_at k s.watchers) (keeping_at k now s)).added else adds_by (fire_run k s)

@@ -8,7 +8,7 @@ use Rattle.ng_core.specs.State.{Run}
 use Rattle.ng_fire.specs.Runs.{back, followed, program_run}
 use Rattle.ng_language.specs.Trees.{Trees}
 use Rattle.ng_link.specs.State.{State}
-use Rattle.ng_template.specs.Writing.{input_name}
+use Rattle.ng_directives.specs.Writing.{input_name}
 
 -- the program that writes a model runs on a scope, while no body and no event is open, with what was put in as its local
 unfoldable pub write_run : ℕ → Trees → Value → act.State → Run Value

@@ -14,3 +14,7 @@ pub mod Fires
 pub mod Settling
 pub mod Whole
 pub mod Serving
+pub mod Attending
+pub mod AttendingOf
+pub mod LinkBindings
+pub mod Bindings

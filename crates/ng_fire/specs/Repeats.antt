@@ -135,24 +135,24 @@ row_kept p names f = record {
 abbrev pub counted_row : ℕ → Firing → Filled
 counted_row n g = record { firing = g; count = if g.faulted then n else suc n }
 
-abbrev pub row_made : List ℕ → ℕ → ℕ → Origin → Role → List Local → Filled → Filled
-row_made holder scope o which role names f =
-    if f.firing.faulted then f else counted_row f.count (filled (in_outlet holder o f.count role) scope names which f.firing)
+abbrev pub row_made : List ℕ → ℕ → List ℕ → ℕ → Origin → Role → List Local → Filled → Filled
+row_made holder scope outsides o which role names f =
+    if f.firing.faulted then f else counted_row f.count (filled (in_outlet holder o f.count role) scope outsides names which f.firing)
 
-abbrev pub row_fired : List ℕ → ℕ → ℕ → Origin → Row → List Local → Option (List ℕ) → Filled → Filled
-row_fired holder scope o which r names (Some p) f = row_kept p names f
-row_fired holder scope o which r names None f = row_made holder scope o which (role_for r) names f
+abbrev pub row_fired : List ℕ → ℕ → List ℕ → ℕ → Origin → Row → List Local → Option (List ℕ) → Filled → Filled
+row_fired holder scope outsides o which r names (Some p) f = row_kept p names f
+row_fired holder scope outsides o which r names None f = row_made holder scope outsides o which (role_for r) names f
 
 -- rows, of which the first has this place, among so many entries
-abbrev pub rows_fired : List ℕ → ℕ → ℕ → Origin → Repeated → ℕ → ℕ → List Row → Filled → Filled
-rows_fired holder scope o which w count i [] f = f
-rows_fired holder scope o which w count i (r ∷ rs) f =
-    rows_fired holder scope o which w count (suc i) rs (row_fired holder scope o which r (row_names w count i r.item) r.from f)
+abbrev pub rows_fired : List ℕ → ℕ → List ℕ → ℕ → Origin → Repeated → ℕ → ℕ → List Row → Filled → Filled
+rows_fired holder scope outsides o which w count i [] f = f
+rows_fired holder scope outsides o which w count i (r ∷ rs) f =
+    rows_fired holder scope outsides o which w count (suc i) rs (row_fired holder scope outsides o which r (row_names w count i r.item) r.from f)
 
 -- the rows that go, and those that are called for
-abbrev pub rows_changed : List ℕ → ℕ → ℕ → Origin → Repeated → List Body → List Row → Firing → Firing
-rows_changed holder scope o which w gone rs g =
-    (rows_fired holder scope o which w (length rs) 0 rs (filled_to 0 (rows_arranged holder o (kept_rows rs) (rows_gone holder gone g)))).firing
+abbrev pub rows_changed : List ℕ → ℕ → List ℕ → ℕ → Origin → Repeated → List Body → List Row → Firing → Firing
+rows_changed holder scope outsides o which w gone rs g =
+    (rows_fired holder scope outsides o which w (length rs) 0 rs (filled_to 0 (rows_arranged holder o (kept_rows rs) (rows_gone holder gone g)))).firing
 
 abbrev pub plan_fault : PlanFault → Fault
 plan_fault plans.Dupes = faults.Dupes
@@ -162,14 +162,14 @@ abbrev pub as_fault : Result Plan PlanFault → Result Plan Fault
 as_fault (Ok p) = Ok p
 as_fault (Err e) = Err (plan_fault e)
 
-abbrev pub by_plan : List ℕ → ℕ → ℕ → Origin → Repeated → List Body → List Item → List TrackKey → Result Plan Fault → Firing → Firing
-by_plan holder scope o which w bs xs ks (Err e) g = faulted_with e g
-by_plan holder scope o which w bs xs ks (Ok p) g = rows_changed holder scope o which w (bodies_at bs p.gone) (rows_from bs xs ks p.from) g
+abbrev pub by_plan : List ℕ → ℕ → List ℕ → ℕ → Origin → Repeated → List Body → List Item → List TrackKey → Result Plan Fault → Firing → Firing
+by_plan holder scope outsides o which w bs xs ks (Err e) g = faulted_with e g
+by_plan holder scope outsides o which w bs xs ks (Ok p) g = rows_changed holder scope outsides o which w (bodies_at bs p.gone) (rows_from bs xs ks p.from) g
 
 -- two entries of one track key are a fault, and so is what a track expression meets: all stays as it was
-abbrev pub by_keys : List ℕ → ℕ → ℕ → Origin → Repeated → List Body → List Item → Result (List TrackKey) Fault → Firing → Firing
-by_keys holder scope o which w bs xs (Err e) g = faulted_with e g
-by_keys holder scope o which w bs xs (Ok ks) g = by_plan holder scope o which w bs xs ks (as_fault (planned (keys_of bs) ks)) g
+abbrev pub by_keys : List ℕ → ℕ → List ℕ → ℕ → Origin → Repeated → List Body → List Item → Result (List TrackKey) Fault → Firing → Firing
+by_keys holder scope outsides o which w bs xs (Err e) g = faulted_with e g
+by_keys holder scope outsides o which w bs xs (Ok ks) g = by_plan holder scope outsides o which w bs xs ks (as_fault (planned (keys_of bs) ks)) g
 
 -- the rows that stand in an outlet
 abbrev pub bodies_or : Option OutletState → List Body
@@ -179,14 +179,14 @@ bodies_or (Some x) = x.bodies
 abbrev pub rows_at : List ℕ → ℕ → Instances → List Body
 rows_at holder o is = bodies_or (outlet_of_linked o (linked_at holder is))
 
-abbrev pub by_items : List ℕ → ℕ → ℕ → Origin → Repeated → Result (List Item) Fault → Firing → Firing
-by_items holder scope o which w (Err e) g = faulted_with e g
-by_items holder scope o which w (Ok xs) g =
-    by_keys holder scope o which w (rows_at holder o g.state.instances) xs (track_keys g.state.core.objects (object_at g.state.core.scopes scope) w 0 [] xs) g
+abbrev pub by_items : List ℕ → ℕ → List ℕ → ℕ → Origin → Repeated → Result (List Item) Fault → Firing → Firing
+by_items holder scope outsides o which w (Err e) g = faulted_with e g
+by_items holder scope outsides o which w (Ok xs) g =
+    by_keys holder scope outsides o which w (rows_at holder o g.state.instances) xs (track_keys g.state.core.objects (object_at g.state.core.scopes scope) w 0 [] xs) g
 
 -- The rows of an outlet of an instance on a scope become those that a value calls for. They are made of a fragment.
-abbrev pub repeat_fired : List ℕ → ℕ → ViewTree → ℕ → Origin → Repeated → Firing → Firing
-repeat_fired holder scope v o which w g = by (items_made (entries_in v) [] g.state.core)
+abbrev pub repeat_fired : List ℕ → ℕ → List ℕ → ViewTree → ℕ → Origin → Repeated → Firing → Firing
+repeat_fired holder scope outsides v o which w g = by (items_made (entries_in v) [] g.state.core)
   where
     by : Run (List Item) → Firing
-    by r = by_items holder scope o which w r.1 (with_state (with_core r.0 g.state) g)
+    by r = by_items holder scope outsides o which w r.1 (with_state (with_core r.0 g.state) g)

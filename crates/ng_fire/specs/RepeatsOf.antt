@@ -1,9 +1,9 @@
 -- What the rows of a repeat in the code stand for.
-use Rattle.std.specs.Prelude.{ℕ, ◌≡◌, ◌+◌, ◌<◌, ◌≤◌, List, map, codes, IsSome}
+use Rattle.std.specs.Prelude.{ℕ, ◌≡◌, ◌+◌, ◌≤◌, List, map, codes, IsSome}
 use Rattle.std.specs.List.{AllByRecursion}
 use Rattle.ng_base.specs.Objects.{StandsAmong}
 use Rattle.ng_fire.specs.Repeats.{Row, bodies_at, kept_rows, rows_at}
-use Rattle.ng_fire.specs.Serving.{outlet_count}
+use Rattle.ng_fire.specs.Serving.{IsAt}
 use Rattle.ng_fire.specs.Tracking.{index_name}
 use Rattle.ng_fire.specs.TrackingOf.{item_of}
 use Rattle.ng_fire.specs.declared.rows.PlaceNames.{PlaceNames}
@@ -11,7 +11,7 @@ use Rattle.ng_fire.specs.declared.repeats.Spot.{Spot}
 use Rattle.ng_fire.specs.declared.rows.Row as code
 use Rattle.ng_link.specs.Instances.{Body, Instances}
 use Rattle.ng_link.specs.Standing.{body_count}
-use Rattle.ng_template.specs.Kept.{Named, fragment_for}
+use Rattle.ng_compose.specs.Kept.{Named, fragment_for}
 
 abbrev pub row_of : code.Row → Row
 row_of r = record { item = item_of r.item; key = r.key; from = r.from }
@@ -32,9 +32,9 @@ pub record AreNames (n : PlaceNames) : Type 0 where
 abbrev pub RowsOfStand : ℕ → List Row → Type 0
 RowsOfStand count rs = AllByRecursion (λ (r : Row). StandsAmong count r.item.value) rs
 
--- an outlet is there, and so is the fragment that its rows are made of
+-- an outlet is there with its scopes, and so is the fragment that its rows are made of
 pub record IsSpot (all : List Named) (is : Instances) (s : Spot) : Type 0 where
-  pub outlet : s.outlet < outlet_count s.holder.now is
+  pub outlet : IsAt s.holder.now is s.outlet s.scope.0 (map (λ n. n.0) s.outsides.now)
   pub body : IsSome (fragment_for all s.origin)
 
 -- each row that stands is kept or gone

@@ -1,34 +1,33 @@
 //! The fire of a site that fills outlets (API: ngIf, ngSwitch, ngInclude, ngRepeat): bodies go, and bodies are made.
-ghost use Rattle.std.specs.Prelude.{[], ◌∷◌, ◌≡◌, ◌<◌, ◌≤◌, length, map, None, Some, IsSome, IfSome, IfOk, OnOk};
+ghost use Rattle.std.specs.Prelude.{[], ◌∷◌, ◌≡◌, ◌<◌, ◌≤◌, length, map, Some, IsSome, IfOk, OnOk};
 ghost use Rattle.ng_core.specs.Frames as cores;
 ghost use Rattle.ng_core.specs.Frames.{IsSound};
 ghost use Rattle.ng_behaviour.specs.Scopes.{path_at};
 ghost use Rattle.std.specs.List.{AllByRecursion};
-ghost use Rattle.ng_drawing.specs.Roles.{a_body};
 ghost use Rattle.ng_drawing.specs.RolesOf.{role_of};
 ghost use Rattle.ng_drawing.specs.Template.{Fragment};
-ghost use Rattle.ng_fire.specs.Blocks.{begins_firing, child_run, ended, gone, all_gone, body_linked, body_on, filled, outlet_emptied, outlets_emptied, cases_due, discarded, faulted_with};
+ghost use Rattle.ng_fire.specs.Blocks.{begins_firing, ended, gone, all_gone, body_linked, body_on, filled, outlet_emptied, outlets_emptied, cases_due, discarded, faulted_with};
 ghost use Rattle.ng_fire.specs.SiteFires.{body_filled, template_filled, named_filled, outlet_filled, outlets_filled, outlets_fired};
-ghost use Rattle.ng_fire.specs.FiringOf.{firing, child_made};
+ghost use Rattle.ng_fire.specs.FiringOf.{firing};
 ghost use Rattle.ng_fire.specs.Runs.{destroyed};
-ghost use Rattle.ng_fire.specs.Serving.{outlet_count, IsThere, AreHeldBy, AreDue, Keeps, Serves};
+ghost use Rattle.ng_fire.specs.LinkingOf.{AreBelow};
+ghost use Rattle.ng_fire.specs.Serving.{IsAt, IsThere, AreHeldBy, AreDue, Keeps, Serves};
 ghost use Rattle.ng_fire.specs.Whole.{IsWhole};
 ghost use Rattle.ng_language.specs.Views.{ViewStands};
-ghost use Rattle.ng_link.specs.Calls.{with_core, in_outlet};
+ghost use Rattle.ng_link.specs.Calls.{in_outlet};
 ghost use Rattle.ng_link.specs.Due.{due_of};
-ghost use Rattle.ng_link.specs.Events.{scope_in};
-ghost use Rattle.ng_link.specs.Instances.{linked_at};
 ghost use Rattle.ng_link.specs.PlaceOf.{place_of, IsFree};
-ghost use Rattle.ng_link.specs.Standing.{IsIn, IsHeld};
+ghost use Rattle.ng_link.specs.Standing.{IsHeld};
 ghost use Rattle.ng_link.specs.State.{body_of as body_in, state_of, templates_of};
-ghost use Rattle.ng_template.specs.Kept.{named_from, fragment_in, fragment_for};
+ghost use Rattle.ng_compose.specs.Kept.{named_from, fragment_in, fragment_for};
 ghost use Rattle.ng_value.specs.Snaps.{snap_of};
 
 use crate::changing::apply_changes;
 use crate::choosing::{body_of, comes, goes};
-use crate::following::Followed;
-use crate::linking::{Built, link_at};
+use crate::following::{Followed, hand_over};
+use crate::linking::link_at;
 use crate::repeats::{Spot, fire_repeat};
+use crate::scoping::make_child;
 use ng_act::running::destroy;
 use ng_base::fault::{Fault, Memory};
 use ng_base::name::ScopeId;
@@ -39,11 +38,10 @@ use ng_core::core_state::Core;
 use ng_drawing::cases::kept_as_text;
 use ng_drawing::origin::Origin;
 use ng_drawing::roles::Role;
-use ng_link::filling::Due;
+use ng_link::filling::{Due, copied_scopes};
 use ng_link::linking::Place;
 use ng_link::works::{Body, Works};
-use ng_store::store::StoreFault;
-use ng_template::Filling;
+use ng_parts::Filling;
 use ng_value::snapshot::Snap;
 use std::alloc::Global;
 
@@ -132,7 +130,7 @@ pub(crate) fn fault(works: &mut Works, f: Fault, told: &mut Followed)
     ensures whole { IsWhole works.new }
     ensures templates { templates_of works.new ≡ templates_of works.old }
 {
-    works.hand_over(f);
+    hand_over(works, f);
     told.faulted = true;
 }
 
@@ -150,50 +148,32 @@ fn discard(works: &mut Works, alloc: Global, scope: ScopeId) -> Result<(), Memor
     Ok(())
 }
 
-/// A child of a scope, unless the store is full (guide: Scopes, "Scope Hierarchies"). Its path is the scope's and one number more, and no
-/// instance stands on it.
-pub(crate) fn make_child(works: &mut Works, scope: ScopeId) -> Result<Option<ScopeId>, Memory>
-    requires whole { IsWhole works.old }
-    requires scope { scope.0 < length works.old.core.scopes }
-    ensures run { IfOk result (λ c. child_run scope.0 (state_of works.old).core ≡ child_made c (state_of works.new).core) }
-    ensures state { state_of works.new ≡ with_core (state_of works.new).core (state_of works.old) }
-    ensures free { IfOk result (λ c. IfSome c (λ s. (s.0 < length works.new.core.scopes) × IsIn (path_at works.old.core.scopes scope.0) (record { path = path_at works.new.core.scopes s.0; role = a_body }) × (linked_at (path_at works.new.core.scopes s.0) (state_of works.new).instances ≡ None))) }
-    ensures grown { OnOk result (length works.old.core.store ≤ length works.new.core.store) }
-    ensures whole { OnOk result (IsWhole works.new) }
-    ensures templates { templates_of works.new ≡ templates_of works.old }
-{
-    works.core.scopes.sound();
-    let made = works.core.scopes.new_child(&mut works.core.store, scope);
-    match made {
-        Ok(child) => Ok(Some(child)),
-        Err(StoreFault::Memory(memory)) => Err(memory),
-        Err(StoreFault::Full) => Ok(None),
-    }
-}
-
 /// A body is linked on its scope. Where its nodes find no room, the scope was made in vain.
 fn link_within(
     works: &mut Works,
     alloc: Global,
     place: &Place,
-    origin: Origin,
+    origin: &Origin,
     child: ScopeId,
+    outsides: &[ScopeId],
     told: &mut Followed,
 ) -> Result<(), Memory>
     requires whole { IsWhole works.old }
-    requires template { IsSome (fragment_for (templates_of works.old) origin) }
+    requires template { IsSome (fragment_for (templates_of works.old) origin.now) }
     requires scope { child.0 < length works.old.core.scopes }
+    requires outsides { AreBelow (length works.old.core.scopes) (map (λ s. s.0) outsides.now) }
     requires free { IsFree (place_of place.now) (path_at works.old.core.scopes child.0) (state_of works.old) }
-    ensures fired { OnOk result ((f : Fragment) → fragment_for (templates_of works.old) origin ≡ Some f → firing works.new told.new ≡ body_linked (place_of place.now) origin f child.0 (state_of works.old) (firing works.old told.old)) }
+    ensures fired { OnOk result ((f : Fragment) → fragment_for (templates_of works.old) origin.now ≡ Some f → firing works.new told.new ≡ body_linked (place_of place.now) origin.now f child.0 (map (λ s. s.0) outsides.now) (state_of works.old) (firing works.old told.old)) }
     ensures grown { OnOk result (length works.old.core.store ≤ length works.new.core.store) }
     ensures whole { OnOk result (IsWhole works.new) }
     ensures templates { templates_of works.new ≡ templates_of works.old }
 {
-    let Built { added, room } = link_at(works, alloc, place, origin, child)?;
-    told.added = told.added || added;
-    if !room {
+    let given = copied_scopes(alloc, outsides)?;
+    let built = link_at(works, alloc, place, origin, child, given)?;
+    told.added = told.added || built.added;
+    if let Some(f) = built.fault {
         discard(works, alloc, child)?;
-        fault(works, Fault::NodeLimit, told);
+        fault(works, f, told);
     }
     Ok(())
 }
@@ -204,15 +184,17 @@ pub(crate) fn link_body(
     works: &mut Works,
     alloc: Global,
     place: &Place,
-    origin: Origin,
+    origin: &Origin,
     child: ScopeId,
+    outsides: &[ScopeId],
     told: &mut Followed,
 ) -> Result<(), Memory>
     requires whole { IsWhole works.old }
-    requires template { IsSome (fragment_for (templates_of works.old) origin) }
+    requires template { IsSome (fragment_for (templates_of works.old) origin.now) }
     requires scope { child.0 < length works.old.core.scopes }
+    requires outsides { AreBelow (length works.old.core.scopes) (map (λ s. s.0) outsides.now) }
     requires free { IsFree (place_of place.now) (path_at works.old.core.scopes child.0) (state_of works.old) }
-    ensures fired { OnOk result ((f : Fragment) → fragment_for (templates_of works.old) origin ≡ Some f → firing works.new told.new ≡ body_on (place_of place.now) origin f child.0 (state_of works.old) (firing works.old told.old)) }
+    ensures fired { OnOk result ((f : Fragment) → fragment_for (templates_of works.old) origin.now ≡ Some f → firing works.new told.new ≡ body_on (place_of place.now) origin.now f child.0 (map (λ s. s.0) outsides.now) (state_of works.old) (firing works.old told.old)) }
     ensures grown { OnOk result (length works.old.core.store ≤ length works.new.core.store) }
     ensures whole { OnOk result (IsWhole works.new) }
     ensures templates { templates_of works.new ≡ templates_of works.old }
@@ -222,7 +204,7 @@ pub(crate) fn link_body(
         fault(works, Fault::Depth, told);
         return Ok(());
     }
-    link_within(works, alloc, place, origin, child, told)
+    link_within(works, alloc, place, origin, child, outsides, told)
 }
 
 /// A body is made in an outlet of an instance, which stands for this.
@@ -230,29 +212,36 @@ fn make_body(
     works: &mut Works,
     alloc: Global,
     holder: &Path,
-    outlet: usize,
+    due: &Due,
     role: Role,
-    origin: Origin,
+    origin: &Origin,
     told: &mut Followed,
 ) -> Result<(), Memory>
     requires whole { IsWhole works.old }
-    requires outlet { outlet < outlet_count holder.now (state_of works.old).instances }
-    requires template { IsSome (fragment_for (templates_of works.old) origin) }
-    ensures fired { OnOk result (firing works.new told.new ≡ filled (in_outlet holder.now outlet 0 (role_of role)) (scope_in (linked_at holder.now (state_of works.old).instances)) [] origin (firing works.old told.old)) }
+    requires outlet { IsAt holder.now (state_of works.old).instances due.now.outlet due.now.scope.0 (map (λ s. s.0) due.now.outsides.items) }
+    requires template { IsSome (fragment_for (templates_of works.old) origin.now) }
+    ensures fired { OnOk result (firing works.new told.new ≡ filled (in_outlet holder.now due.now.outlet 0 (role_of role)) due.now.scope.0 (map (λ s. s.0) due.now.outsides.items) [] origin.now (firing works.old told.old)) }
     ensures serves { OnOk result (Serves holder.now [] (state_of works.old).instances (state_of works.new).instances) }
     ensures grown { OnOk result (length works.old.core.store ≤ length works.new.core.store) }
     ensures whole { OnOk result (IsWhole works.new) }
     ensures templates { templates_of works.new ≡ templates_of works.old }
 {
-    let scope = works.scope_on(holder);
     let place = Place::Outlet {
         holder: holder.copied()?,
-        outlet,
+        outlet: due.outlet,
         at: 0,
         role,
     };
-    match make_child(works, scope)? {
-        Some(child) => link_body(works, alloc, &place, origin, child, told),
+    match make_child(works, due.scope)? {
+        Some(child) => link_body(
+            works,
+            alloc,
+            &place,
+            origin,
+            child,
+            due.outsides.as_slice(),
+            told,
+        ),
         None => {
             fault(works, Fault::StoreFull, told);
             Ok(())
@@ -296,7 +285,6 @@ fn empty_outlets(
     requires due { AreDue (templates_of works.old) holder.now (state_of works.old).instances (map due_of all.now) }
     ensures fired { OnOk result (firing works.new told.new ≡ outlets_emptied holder.now (snap_of value.now) (map due_of all.now) (firing works.old told.old)) }
     ensures there { OnOk result (AllByRecursion (IsThere (templates_of works.new) holder.now (state_of works.new).instances) (map due_of all.now)) }
-    ensures scope { OnOk result (scope_in (linked_at holder.now (state_of works.new).instances) ≡ scope_in (linked_at holder.now (state_of works.old).instances)) }
     ensures grown { OnOk result (length works.old.core.store ≤ length works.new.core.store) }
     ensures whole { OnOk result (IsWhole works.new) }
     ensures templates { templates_of works.new ≡ templates_of works.old }
@@ -319,7 +307,7 @@ fn fill_body(
 ) -> Result<(), Memory>
     requires whole { IsWhole works.old }
     requires there { IsThere (templates_of works.old) holder.now (state_of works.old).instances (due_of due.now) }
-    ensures fired { OnOk result (firing works.new told.new ≡ body_filled holder.now (scope_in (linked_at holder.now (state_of works.old).instances)) (cases_due (map due_of all.now)) (snap_of value.now) (due_of due.now) (firing works.old told.old)) }
+    ensures fired { OnOk result (firing works.new told.new ≡ body_filled holder.now (cases_due (map due_of all.now)) (snap_of value.now) (due_of due.now) (firing works.old told.old)) }
     ensures serves { OnOk result (Serves holder.now [] (state_of works.old).instances (state_of works.new).instances) }
     ensures grown { OnOk result (length works.old.core.store ≤ length works.new.core.store) }
     ensures whole { OnOk result (IsWhole works.new) }
@@ -328,8 +316,8 @@ fn fill_body(
     if told.faulted || !comes(alloc, all, value, due)? {
         return Ok(());
     }
-    let origin = Origin::plain(due.home, body_of(&due.filling));
-    make_body(works, alloc, holder, due.outlet, Role::Body, origin, told)
+    let origin = Origin::plain(due.home.copied(alloc)?, body_of(&due.filling));
+    make_body(works, alloc, holder, due, Role::Body, &origin, told)
 }
 
 /// A body is made with the template of a name in it, if the application has one.
@@ -343,9 +331,9 @@ fn include_template(
     told: &mut Followed,
 ) -> Result<(), Memory>
     requires whole { IsWhole works.old }
-    requires outlet { due.now.outlet < outlet_count holder.now (state_of works.old).instances }
+    requires outlet { IsAt holder.now (state_of works.old).instances due.now.outlet due.now.scope.0 (map (λ s. s.0) due.now.outsides.items) }
     requires body { IsSome (fragment_in (templates_of works.old) due.now.home.template.0 body) }
-    ensures fired { OnOk result (firing works.new told.new ≡ template_filled holder.now (scope_in (linked_at holder.now (state_of works.old).instances)) (due_of due.now) body name (named_from 0 name (templates_of works.old)) (firing works.old told.old)) }
+    ensures fired { OnOk result (firing works.new told.new ≡ template_filled holder.now (due_of due.now) body name (named_from 0 name (templates_of works.old)) (firing works.old told.old)) }
     ensures serves { OnOk result (Serves holder.now [] (state_of works.old).instances (state_of works.new).instances) }
     ensures grown { OnOk result (length works.old.core.store ≤ length works.new.core.store) }
     ensures whole { OnOk result (IsWhole works.new) }
@@ -356,19 +344,11 @@ fn include_template(
         return Ok(());
     };
     let origin = Origin {
-        home: due.home,
+        home: due.home.copied(alloc)?,
         fragment: body,
         included: Some(template),
     };
-    make_body(
-        works,
-        alloc,
-        holder,
-        due.outlet,
-        Role::Named(name),
-        origin,
-        told,
-    )
+    make_body(works, alloc, holder, due, Role::Named(name), &origin, told)
 }
 
 /// The body of an inclusion is made where it is to be, unless one before it faulted.
@@ -383,9 +363,9 @@ fn fill_named(
     told: &mut Followed,
 ) -> Result<(), Memory>
     requires whole { IsWhole works.old }
-    requires outlet { due.now.outlet < outlet_count holder.now (state_of works.old).instances }
+    requires outlet { IsAt holder.now (state_of works.old).instances due.now.outlet due.now.scope.0 (map (λ s. s.0) due.now.outsides.items) }
     requires body { IsSome (fragment_in (templates_of works.old) due.now.home.template.0 body) }
-    ensures fired { OnOk result (firing works.new told.new ≡ named_filled holder.now (scope_in (linked_at holder.now (state_of works.old).instances)) (cases_due (map due_of all.now)) (snap_of value.now) (due_of due.now) body (firing works.old told.old)) }
+    ensures fired { OnOk result (firing works.new told.new ≡ named_filled holder.now (cases_due (map due_of all.now)) (snap_of value.now) (due_of due.now) body (firing works.old told.old)) }
     ensures serves { OnOk result (Serves holder.now [] (state_of works.old).instances (state_of works.new).instances) }
     ensures grown { OnOk result (length works.old.core.store ≤ length works.new.core.store) }
     ensures whole { OnOk result (IsWhole works.new) }
@@ -414,7 +394,7 @@ fn fill_outlet(
     requires whole { IsWhole works.old }
     requires there { IsThere (templates_of works.old) holder.now (state_of works.old).instances (due_of due.now) }
     requires value { ViewStands (length works.old.core.store) (snap_of value.now) }
-    ensures fired { OnOk result (firing works.new told.new ≡ outlet_filled holder.now (scope_in (linked_at holder.now (state_of works.old).instances)) (cases_due (map due_of all.now)) (snap_of value.now) (due_of due.now) (firing works.old told.old)) }
+    ensures fired { OnOk result (firing works.new told.new ≡ outlet_filled holder.now (cases_due (map due_of all.now)) (snap_of value.now) (due_of due.now) (firing works.old told.old)) }
     ensures keeps { OnOk result (Keeps holder.now (state_of works.old).instances (state_of works.new).instances) }
     ensures grown { OnOk result (length works.old.core.store ≤ length works.new.core.store) }
     ensures whole { OnOk result (IsWhole works.new) }
@@ -430,7 +410,9 @@ fn fill_outlet(
             let spot = Spot {
                 holder,
                 outlet: due.outlet,
-                origin: Origin::plain(due.home, *body),
+                origin: Origin::plain(due.home.copied(alloc)?, *body),
+                scope: due.scope,
+                outsides: due.outsides.as_slice(),
             };
             fire_repeat(works, alloc, &spot, repeated, value.view(), told)
         }
@@ -450,7 +432,7 @@ fn fill_outlets(
     requires whole { IsWhole works.old }
     requires there { AllByRecursion (IsThere (templates_of works.old) holder.now (state_of works.old).instances) (map due_of all.now) }
     requires value { ViewStands (length works.old.core.store) (snap_of value.now) }
-    ensures fired { OnOk result (firing works.new told.new ≡ outlets_filled holder.now (scope_in (linked_at holder.now (state_of works.old).instances)) (cases_due (map due_of all.now)) (snap_of value.now) (map due_of all.now) (firing works.old told.old)) }
+    ensures fired { OnOk result (firing works.new told.new ≡ outlets_filled holder.now (cases_due (map due_of all.now)) (snap_of value.now) (map due_of all.now) (firing works.old told.old)) }
     ensures whole { OnOk result (IsWhole works.new) }
     ensures templates { templates_of works.new ≡ templates_of works.old }
 {
@@ -471,7 +453,7 @@ pub(crate) fn fire_outlets(
     requires whole { IsWhole works.old }
     requires due { AreDue (templates_of works.old) holder.now (state_of works.old).instances (map due_of all.now) }
     requires value { ViewStands (length works.old.core.store) (snap_of value.now) }
-    ensures fired { IfOk result (λ f. firing works.new f ≡ outlets_fired holder.now (scope_in (linked_at holder.now (state_of works.old).instances)) (snap_of value.now) (map due_of all.now) (begins_firing (state_of works.old))) }
+    ensures fired { IfOk result (λ f. firing works.new f ≡ outlets_fired holder.now (snap_of value.now) (map due_of all.now) (begins_firing (state_of works.old))) }
     ensures whole { OnOk result (IsWhole works.new) }
     ensures templates { templates_of works.new ≡ templates_of works.old }
 {

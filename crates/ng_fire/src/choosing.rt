@@ -5,13 +5,13 @@ ghost use Rattle.ng_blocks.specs.Switching.{matches};
 ghost use Rattle.ng_drawing.specs.Cases.{case_in, is_chosen as is_chosen_of, calls_for as calls_for_of};
 ghost use Rattle.ng_fire.specs.Blocks.{goes as goes_at, cases_due, body_of as body_of_filling, comes as comes_at};
 ghost use Rattle.ng_link.specs.Due.{due_of};
-ghost use Rattle.ng_template.specs.FragmentOf.{filling_of};
+ghost use Rattle.ng_parts.specs.FragmentOf.{filling_of};
 ghost use Rattle.ng_value.specs.Snaps.{snap_of};
 
 use ng_base::txt::Txt;
 use ng_drawing::cases::{has_text, kept_as_text};
 use ng_link::filling::Due;
-use ng_template::Filling;
+use ng_parts::Filling;
 use ng_value::operators::truthy;
 use ng_value::snapshot::Snap;
 use std::alloc::{AllocError, Global};

@@ -1,22 +1,25 @@
 //! The fire of a watcher.
-ghost use Rattle.std.specs.Prelude.{◌≡◌, ◌<◌, length, map, false, true, Some, option_map, IsSome, IfOk, OnOk};
+ghost use Rattle.std.specs.Prelude.{◌≡◌, ◌<◌, [], length, map, false, true, None, Some, option_map, IsSome, IfOk, OnOk};
 ghost use Rattle.ng_base.specs.Faults.{is_memory};
 ghost use Rattle.ng_base.specs.Meets.{Gives};
 ghost use Rattle.ng_base.specs.ViewOf.{view_of};
 ghost use Rattle.ng_base.specs.Views.{ViewTree};
 ghost use Rattle.ng_fire.specs.Fires.{fired, fired_by, fire_adds, adds_by, listener_at, listener_run, value_at, IsDirtyWith};
+ghost use Rattle.ng_fire.specs.FiringOf.{firing};
+ghost use Rattle.ng_fire.specs.SiteFires.{site_fired};
 ghost use Rattle.ng_fire.specs.Whole.{IsWhole, KeptStands};
 ghost use Rattle.ng_language.specs.Views.{ViewStands};
 ghost use Rattle.ng_link.specs.Calls.{keeping_at};
 ghost use Rattle.ng_link.specs.State.{state_of, templates_of, listening_of};
 ghost use Rattle.ng_link.specs.Due.{due_of, all_due};
-ghost use Rattle.ng_link.specs.Instances.{linked_at, is_site};
+ghost use Rattle.ng_link.specs.Instances.{bound_for, linked_for, is_site};
 ghost use Rattle.ng_value.specs.Snaps.{snap_of};
 ghost use Rattle.ng_watch.specs.Now.{value_now};
 ghost use Rattle.ng_watch.specs.Seen.{watching_of};
 ghost use Rattle.ng_watch.specs.Table.{found, kept_at};
 
 use crate::blocks::fire_outlets;
+use crate::bound_fires::{bound_of, fire_bound};
 use crate::following::{Followed, follow};
 use crate::listening::run_listener;
 use ng_base::fault::{Fault, Memory};
@@ -44,7 +47,7 @@ fn value_now(alloc: Global, store: &Store, watch: &Watch) -> Result<View, Fault>
 }
 
 /// The value of a watcher whose test was dirty.
-fn dirty_value(alloc: Global, works: &Works, key: &Key) -> Result<View, Memory>
+pub(crate) fn dirty_value(alloc: Global, works: &Works, key: &Key) -> Result<View, Memory>
     requires whole { IsWhole works.now }
     requires there { IsSome (found key.now (state_of works.now).watchers) }
     requires dirty { (now : ViewTree) × IsDirtyWith now (state_of works.now) key.now }
@@ -81,7 +84,7 @@ fn keep_declared(works: &mut Works, key: &Key, snapshot: Snap) -> Result<Option<
     requires whole { IsWhole works.old }
     requires there { IsSome (found key.now (state_of works.old).watchers) }
     requires stands { ViewStands (length works.old.core.store) (snap_of snapshot) }
-    requires declared { is_site (state_of works.old).instances key.now ≡ false }
+    requires declared { is_site (state_of works.old).inner (state_of works.old).instances key.now ≡ false }
     ensures state { OnOk result (state_of works.new ≡ keeping_at key.now (snap_of snapshot) (state_of works.old)) }
     ensures former { IfOk result (λ f. option_map snap_of f ≡ kept_at key.now (state_of works.old).watchers) }
     ensures stands { IfOk result (λ f. KeptStands (length works.old.core.store) (option_map snap_of f)) }
@@ -96,7 +99,7 @@ fn keep_declared(works: &mut Works, key: &Key, snapshot: Snap) -> Result<Option<
 fn keep_site(works: &mut Works, key: &Key, snapshot: Snap) -> Result<(), Memory>
     requires whole { IsWhole works.old }
     requires there { IsSome (found key.now (state_of works.old).watchers) }
-    requires site { is_site (state_of works.old).instances key.now ≡ true }
+    requires site { is_site (state_of works.old).inner (state_of works.old).instances key.now ≡ true }
     ensures state { OnOk result (state_of works.new ≡ keeping_at key.now (snap_of snapshot) (state_of works.old)) }
     ensures core { works.new.core ≡ works.old.core }
     ensures whole { OnOk result (IsWhole works.new) }
@@ -113,7 +116,7 @@ fn copy_of(alloc: Global, snapshot: &Snap) -> Result<Snap, Memory>
     Ok(Snap::of_view(copied(alloc, snapshot.view())?))
 }
 
-/// The fire of a site that fills outlets: it keeps the snapshot, and they get what the value calls for.
+/// The outlets of an instance that a value calls for, once the site that fills them has kept it.
 fn fire_filling(
     works: &mut Works,
     alloc: Global,
@@ -124,20 +127,61 @@ fn fire_filling(
     requires whole { IsWhole works.old }
     requires there { IsSome (found key.now (state_of works.old).watchers) }
     requires dirty { IsDirtyWith (snap_of snapshot) (state_of works.old) key.now }
-    requires site { is_site (state_of works.old).instances key.now ≡ true }
-    requires due { map due_of all.now ≡ all_due key.now.serial.0 (linked_at key.now.path (state_of works.old).instances) }
-    ensures state { IfOk result (λ f. (state_of works.new, f.faulted) ≡ fired key.now (snap_of snapshot) (state_of works.old)) }
-    ensures added { IfOk result (λ f. f.added ≡ fire_adds key.now (snap_of snapshot) (state_of works.old)) }
+    requires site { is_site (state_of works.old).inner (state_of works.old).instances key.now ≡ true }
+    requires due { map due_of all.now ≡ all_due key.now (linked_for (state_of works.old).inner key.now.path (state_of works.old).instances) }
+    requires unbound { bound_for (state_of works.old).inner (state_of works.old).instances key.now ≡ None }
+    ensures fired { IfOk result (λ f. firing works.new f ≡ site_fired key.now (snap_of snapshot) (value_at (state_of works.old) key.now) (kept_at key.now (state_of works.old).watchers) (keeping_at key.now (snap_of snapshot) (state_of works.old))) }
     ensures whole { OnOk result (IsWhole works.new) }
     ensures templates { templates_of works.new ≡ templates_of works.old }
 {
     let value = copy_of(alloc, &snapshot)?;
     let _ = dirty_value(alloc, works, key)?;
     keep_site(works, key, snapshot)?;
-    fire_outlets(works, alloc, &key.path, all, &value)
+    let holder = works.instance_path(&key.path).copied()?;
+    fire_outlets(works, alloc, &holder, all, &value)
 }
 
-/// The fire of a site: it keeps the snapshot and shows it, and each outlet that it fills gets what the value calls for.
+/// The fire of a site that is no binding's and fills no outlet: it keeps the snapshot and shows it.
+fn fire_shown(works: &mut Works, key: &Key, snapshot: Snap) -> Result<Followed, Memory>
+    requires whole { IsWhole works.old }
+    requires there { IsSome (found key.now (state_of works.old).watchers) }
+    requires site { is_site (state_of works.old).inner (state_of works.old).instances key.now ≡ true }
+    requires none { all_due key.now (linked_for (state_of works.old).inner key.now.path (state_of works.old).instances) ≡ [] }
+    requires unbound { bound_for (state_of works.old).inner (state_of works.old).instances key.now ≡ None }
+    ensures fired { IfOk result (λ f. firing works.new f ≡ site_fired key.now (snap_of snapshot) (value_at (state_of works.old) key.now) (kept_at key.now (state_of works.old).watchers) (keeping_at key.now (snap_of snapshot) (state_of works.old))) }
+    ensures whole { OnOk result (IsWhole works.new) }
+    ensures templates { templates_of works.new ≡ templates_of works.old }
+{
+    keep_site(works, key, snapshot)?;
+    Ok(quiet())
+}
+
+/// The fire of a site that is no binding's: it keeps the snapshot and shows it, and each outlet that it fills gets what the value calls for.
+fn fire_unbound(
+    works: &mut Works,
+    alloc: Global,
+    key: &Key,
+    snapshot: Snap,
+) -> Result<Followed, Memory>
+    requires whole { IsWhole works.old }
+    requires there { IsSome (found key.now (state_of works.old).watchers) }
+    requires dirty { IsDirtyWith (snap_of snapshot) (state_of works.old) key.now }
+    requires site { is_site (state_of works.old).inner (state_of works.old).instances key.now ≡ true }
+    requires unbound { bound_for (state_of works.old).inner (state_of works.old).instances key.now ≡ None }
+    ensures fired { IfOk result (λ f. firing works.new f ≡ site_fired key.now (snap_of snapshot) (value_at (state_of works.old) key.now) (kept_at key.now (state_of works.old).watchers) (keeping_at key.now (snap_of snapshot) (state_of works.old))) }
+    ensures whole { OnOk result (IsWhole works.new) }
+    ensures templates { templates_of works.new ≡ templates_of works.old }
+{
+    let all = works.filled_outlets(key)?;
+    if all.is_empty() {
+        fire_shown(works, key, snapshot)
+    } else {
+        fire_filling(works, alloc, key, snapshot, all.as_slice())
+    }
+}
+
+/// The fire of a site: it keeps the snapshot and shows it; what the binding that it is one of asks for is written; and each outlet that it fills gets
+/// what the value calls for.
 fn fire_drawn(
     works: &mut Works,
     alloc: Global,
@@ -147,18 +191,16 @@ fn fire_drawn(
     requires whole { IsWhole works.old }
     requires there { IsSome (found key.now (state_of works.old).watchers) }
     requires dirty { IsDirtyWith (snap_of snapshot) (state_of works.old) key.now }
-    requires site { is_site (state_of works.old).instances key.now ≡ true }
-    ensures state { IfOk result (λ f. (state_of works.new, f.faulted) ≡ fired key.now (snap_of snapshot) (state_of works.old)) }
-    ensures added { IfOk result (λ f. f.added ≡ fire_adds key.now (snap_of snapshot) (state_of works.old)) }
+    requires site { is_site (state_of works.old).inner (state_of works.old).instances key.now ≡ true }
+    ensures fired { IfOk result (λ f. firing works.new f ≡ site_fired key.now (snap_of snapshot) (value_at (state_of works.old) key.now) (kept_at key.now (state_of works.old).watchers) (keeping_at key.now (snap_of snapshot) (state_of works.old))) }
     ensures whole { OnOk result (IsWhole works.new) }
     ensures templates { templates_of works.new ≡ templates_of works.old }
 {
-    let all = works.filled_outlets(key)?;
-    if all.is_empty() {
-        keep_site(works, key, snapshot)?;
-        return Ok(quiet());
+    let found = bound_of(works, alloc, key)?;
+    match found {
+        None => fire_unbound(works, alloc, key, snapshot),
+        Some(bound) => fire_bound(works, alloc, key, snapshot, &bound),
     }
-    fire_filling(works, alloc, key, snapshot, all.as_slice())
 }
 
 /// The program of a declared watch runs, and what comes after it is done.
@@ -192,7 +234,7 @@ fn fire_declared(
     requires whole { IsWhole works.old }
     requires there { IsSome (found key.now (state_of works.old).watchers) }
     requires dirty { IsDirtyWith (snap_of snapshot) (state_of works.old) key.now }
-    requires declared { is_site (state_of works.old).instances key.now ≡ false }
+    requires declared { is_site (state_of works.old).inner (state_of works.old).instances key.now ≡ false }
     ensures state { IfOk result (λ f. (state_of works.new, f.faulted) ≡ fired key.now (snap_of snapshot) (state_of works.old)) }
     ensures added { IfOk result (λ f. f.added ≡ fire_adds key.now (snap_of snapshot) (state_of works.old)) }
     ensures whole { OnOk result (IsWhole works.new) }

@@ -42,7 +42,7 @@ fn done(works: &mut Works, alloc: Global, faulted: bool) -> Result<Followed, Mem
 }
 
 /// A fault is handed over.
-fn hand_over(works: &mut Works, fault: Fault)
+pub(crate) fn hand_over(works: &mut Works, fault: Fault)
     requires { IsWhole works.old }
     ensures state { state_of works.new ≡ with_core (with_fault fault (state_of works.old).core) (state_of works.old) }
     ensures grown { length works.old.core.store ≤ length works.new.core.store }

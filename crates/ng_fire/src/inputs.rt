@@ -8,7 +8,7 @@ ghost use Rattle.ng_fire.specs.Inputs.{write_run, all_run, written};
 ghost use Rattle.ng_fire.specs.Whole.{IsWhole};
 ghost use Rattle.ng_link.specs.State.{state_of, templates_of};
 ghost use Rattle.ng_parse.specs.ProgramOf.{program};
-ghost use Rattle.ng_template.specs.Writing.{input_name};
+ghost use Rattle.ng_directives.specs.Writing.{input_name};
 
 use crate::following::follow;
 use crate::programs::run_program;
@@ -35,7 +35,7 @@ fn input_locals(alloc: Global, value: Value) -> Result<Locals, Memory>
 }
 
 /// The program that writes a model runs on a scope.
-fn run_write(
+pub(crate) fn run_write(
     core: &mut Core,
     alloc: Global,
     scope: ScopeId,

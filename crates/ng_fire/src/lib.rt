@@ -19,15 +19,21 @@
 //! alone apart, and `IsWhole` of `specs/Whole.antt` holds of the works after it as before.
 //!
 //! In reading order: `changing` does what programs leave for the watchers, `following` hands a fault over before that, `programs` runs a
-//! program on a scope, `inputs` has what is put in to a control, `linking` links a fragment, `listening` runs the program of a declared
-//! watch; `tracking`, `rows` and `repeats` have the fire of a repeat's site, `choosing` says what a value calls for, `blocks` has the fire
-//! of every block's site, and `firing` every fire; `tasks` has the tasks, `settling` what comes last.
+//! program on a scope, `inputs` has what is put in to a control, `scoping` makes scopes, `linking` links a fragment by the steps of
+//! `stepping`, with `binding` and `binding_texts` for isolate scopes and `attending` for what directives do on theirs, `listening` runs the program of a
+//! declared watch; `tracking`, `rows` and `repeats` have the fire of a repeat's site, `choosing` says what a value calls for, `blocks` has
+//! the fire of every block's site, `bound_fires` that of a binding's, and `firing` every fire; `tasks` has the tasks, `settling` what comes
+//! last.
 //!
 //! Not here: which watcher is tested when (`ng_digest`, `ng_page`), what a program does (`ng_act`), and how nodes and watchers
 //! hang together (`ng_link`).
 #![tactic(auto)]
 
+mod attending;
+mod binding;
+mod binding_texts;
 mod blocks;
+mod bound_fires;
 pub mod changing;
 mod choosing;
 pub mod firing;
@@ -38,6 +44,8 @@ mod listening;
 pub mod programs;
 mod repeats;
 mod rows;
+mod scoping;
 pub mod settling;
+mod stepping;
 pub mod tasks;
 mod tracking;

@@ -16,14 +16,16 @@ ghost use Rattle.ng_link.specs.Events.{scope_in};
 ghost use Rattle.ng_link.specs.Instances.{linked_at};
 ghost use Rattle.ng_link.specs.PlaceOf.{place_of as place_of_code};
 ghost use Rattle.ng_link.specs.State.{body_of, state_of, templates_of};
-ghost use Rattle.ng_template.specs.RepeatedOf.{repeated_of};
+ghost use Rattle.ng_parts.specs.RepeatedOf.{repeated_of};
 
-use crate::blocks::{end_body, fault, link_body, make_child};
+use crate::blocks::{end_body, fault, link_body};
 use crate::following::Followed;
 use crate::rows::{Ground, Row, ground_for, kept_rows, plan_rows, role_for, rows_from, tell_row};
+use crate::scoping::make_child;
 use crate::tracking::{Item, make_items, track_keys};
 use ng_base::fault::{Fault, Memory};
 use ng_base::lists::Numbers;
+use ng_base::name::ScopeId;
 use ng_base::path::Path;
 use ng_base::view::View;
 use ng_blocks::{Plan, TrackKeys};
@@ -31,15 +33,17 @@ use ng_drawing::origin::Origin;
 use ng_drawing::roles::entries_in;
 use ng_link::linking::Place;
 use ng_link::works::{Body, Works};
-use ng_template::Repeated;
+use ng_parts::Repeated;
 use std::alloc::Global;
 
-/// An outlet of an instance, and the fragment that its rows are made of.
-#[derive(Clone, Copy)]
+/// An outlet of an instance, the fragment that its rows are made of, the scope round them, and the scopes outside what the slots in them are given.
+#[derive(Drop)]
 pub(crate) struct Spot<'a> {
     pub(crate) holder: &'a Path,
     pub(crate) outlet: usize,
     pub(crate) origin: Origin,
+    pub(crate) scope: ScopeId,
+    pub(crate) outsides: &'a [ScopeId],
 }
 
 /// The scope of the row at a place is destroyed.
@@ -177,19 +181,26 @@ fn make_row(
     requires names { AreNames ground.now.names }
     requires place { i < ground.now.count }
     requires row { StandsAmong (length works.old.core.store) row.now.item.value }
-    ensures fired { OnOk result (firing works.new told.new ≡ filled (in_outlet spot.now.holder.now spot.now.outlet at (role_for_row (row_of row.now))) (scope_in (linked_at spot.now.holder.now (state_of works.old).instances)) (row_names (repeated_of ground.now.repeated.now) ground.now.count i (item_of row.now.item)) spot.now.origin (firing works.old told.old)) }
+    ensures fired { OnOk result (firing works.new told.new ≡ filled (in_outlet spot.now.holder.now spot.now.outlet at (role_for_row (row_of row.now))) spot.now.scope.0 (map (λ s. s.0) spot.now.outsides.now) (row_names (repeated_of ground.now.repeated.now) ground.now.count i (item_of row.now.item)) spot.now.origin (firing works.old told.old)) }
     ensures keeps { OnOk result (Keeps spot.now.holder.now (state_of works.old).instances (state_of works.new).instances) }
     ensures others { OnOk result (OthersStay spot.now.holder.now (state_of works.old).instances (state_of works.new).instances) }
     ensures grown { OnOk result (length works.old.core.store ≤ length works.new.core.store) }
     ensures whole { OnOk result (IsWhole works.new) }
     ensures templates { templates_of works.new ≡ templates_of works.old }
 {
-    let scope = works.scope_on(spot.holder);
     let place = place_for(alloc, spot, at, row)?;
-    match make_child(works, scope)? {
+    match make_child(works, spot.scope)? {
         Some(child) => {
             tell_row(&mut works.core, child, ground, i, &row.item)?;
-            link_body(works, alloc, &place, spot.origin, child, told)
+            link_body(
+                works,
+                alloc,
+                &place,
+                &spot.origin,
+                child,
+                spot.outsides,
+                told,
+            )
         }
         None => {
             fault(works, Fault::StoreFull, told);
@@ -215,7 +226,7 @@ fn fire_row(
     requires place { i < ground.now.count }
     requires few { at ≤ i }
     requires row { StandsAmong (length works.old.core.store) row.now.item.value }
-    ensures fired { IfOk result (λ n. filled_to n (firing works.new told.new) ≡ row_fired spot.now.holder.now (scope_in (linked_at spot.now.holder.now (state_of works.old).instances)) spot.now.outlet spot.now.origin (row_of row.now) (row_names (repeated_of ground.now.repeated.now) ground.now.count i (item_of row.now.item)) row.now.from (filled_to at (firing works.old told.old))) }
+    ensures fired { IfOk result (λ n. filled_to n (firing works.new told.new) ≡ row_fired spot.now.holder.now spot.now.scope.0 (map (λ s. s.0) spot.now.outsides.now) spot.now.outlet spot.now.origin (row_of row.now) (row_names (repeated_of ground.now.repeated.now) ground.now.count i (item_of row.now.item)) row.now.from (filled_to at (firing works.old told.old))) }
     ensures few { IfOk result (λ n. n ≤ i + 1) }
     ensures keeps { OnOk result (Keeps spot.now.holder.now (state_of works.old).instances (state_of works.new).instances) }
     ensures others { OnOk result (OthersStay spot.now.holder.now (state_of works.old).instances (state_of works.new).instances) }
@@ -252,7 +263,7 @@ fn fire_rows(
     requires names { AreNames ground.now.names }
     requires count { length rows.now ≡ ground.now.count }
     requires rows { RowsOfStand (length works.old.core.store) (rows_of rows.now) }
-    ensures fired { OnOk result (firing works.new told.new ≡ (rows_fired spot.now.holder.now (scope_in (linked_at spot.now.holder.now (state_of works.old).instances)) spot.now.outlet spot.now.origin (repeated_of ground.now.repeated.now) ground.now.count 0 (rows_of rows.now) (filled_to 0 (firing works.old told.old))).firing) }
+    ensures fired { OnOk result (firing works.new told.new ≡ (rows_fired spot.now.holder.now spot.now.scope.0 (map (λ s. s.0) spot.now.outsides.now) spot.now.outlet spot.now.origin (repeated_of ground.now.repeated.now) ground.now.count 0 (rows_of rows.now) (filled_to 0 (firing works.old told.old))).firing) }
     ensures keeps { OnOk result (Keeps spot.now.holder.now (state_of works.old).instances (state_of works.new).instances) }
     ensures others { OnOk result (OthersStay spot.now.holder.now (state_of works.old).instances (state_of works.new).instances) }
     ensures grown { OnOk result (length works.old.core.store ≤ length works.new.core.store) }
@@ -282,7 +293,7 @@ fn change_rows(
     requires rows { RowsOfStand (length works.old.core.store) (rows_of rows.now) }
     requires stand { rows_at spot.now.holder.now spot.now.outlet (state_of works.old).instances ≡ map body_of bodies.now }
     requires all { KeptOrGone (map body_of bodies.now) gone.now (rows_of rows.now) }
-    ensures fired { OnOk result (firing works.new told.new ≡ rows_changed spot.now.holder.now (scope_in (linked_at spot.now.holder.now (state_of works.old).instances)) spot.now.outlet spot.now.origin (repeated_of repeated.now) (bodies_at (map body_of bodies.now) gone.now) (rows_of rows.now) (firing works.old told.old)) }
+    ensures fired { OnOk result (firing works.new told.new ≡ rows_changed spot.now.holder.now spot.now.scope.0 (map (λ s. s.0) spot.now.outsides.now) spot.now.outlet spot.now.origin (repeated_of repeated.now) (bodies_at (map body_of bodies.now) gone.now) (rows_of rows.now) (firing works.old told.old)) }
     ensures keeps { OnOk result (Keeps spot.now.holder.now (state_of works.old).instances (state_of works.new).instances) }
     ensures kept { OnOk result (BodiesStay (kept_rows_of (rows_of rows.now)) (state_of works.old).instances (state_of works.new).instances) }
     ensures grown { OnOk result (length works.old.core.store ≤ length works.new.core.store) }
@@ -315,7 +326,7 @@ fn fire_plan(
     requires old { has_double_of (keys_of (map body_of bodies.now)) ≡ false }
     requires as_many { length (items_of items.items) ≡ length keys.now }
     requires plan { planned (keys_of (map body_of bodies.now)) keys.now ≡ Ok plan.now }
-    ensures fired { OnOk result (firing works.new told.new ≡ by_keys spot.now.holder.now (scope_in (linked_at spot.now.holder.now (state_of works.old).instances)) spot.now.outlet spot.now.origin (repeated_of repeated.now) (map body_of bodies.now) (items_of items.items) (Ok keys.now) (firing works.old told.old)) }
+    ensures fired { OnOk result (firing works.new told.new ≡ by_keys spot.now.holder.now spot.now.scope.0 (map (λ s. s.0) spot.now.outsides.now) spot.now.outlet spot.now.origin (repeated_of repeated.now) (map body_of bodies.now) (items_of items.items) (Ok keys.now) (firing works.old told.old)) }
     ensures keeps { OnOk result (Keeps spot.now.holder.now (state_of works.old).instances (state_of works.new).instances) }
     ensures kept { OnOk result (BodiesStay (kept_rows_of (rows_from_all (map body_of bodies.now) (items_of items.items) keys.now plan.now.from)) (state_of works.old).instances (state_of works.new).instances) }
     ensures grown { OnOk result (length works.old.core.store ≤ length works.new.core.store) }
@@ -349,7 +360,7 @@ fn fire_keyed(
     requires spot { IsSpot (templates_of works.old) (state_of works.old).instances spot.now }
     requires items { ItemsStand (length works.old.core.store) (items_of items.items) }
     requires as_many { length (items_of items.items) ≡ length keys.now }
-    ensures fired { OnOk result (firing works.new told.new ≡ by_keys spot.now.holder.now (scope_in (linked_at spot.now.holder.now (state_of works.old).instances)) spot.now.outlet spot.now.origin (repeated_of repeated.now) (rows_at spot.now.holder.now spot.now.outlet (state_of works.old).instances) (items_of items.items) (Ok keys.now) (firing works.old told.old)) }
+    ensures fired { OnOk result (firing works.new told.new ≡ by_keys spot.now.holder.now spot.now.scope.0 (map (λ s. s.0) spot.now.outsides.now) spot.now.outlet spot.now.origin (repeated_of repeated.now) (rows_at spot.now.holder.now spot.now.outlet (state_of works.old).instances) (items_of items.items) (Ok keys.now) (firing works.old told.old)) }
     ensures keeps { OnOk result (Keeps spot.now.holder.now (state_of works.old).instances (state_of works.new).instances) }
     ensures grown { OnOk result (length works.old.core.store ≤ length works.new.core.store) }
     ensures whole { OnOk result (IsWhole works.new) }
@@ -387,13 +398,13 @@ fn fire_items(
     requires whole { IsWhole works.old }
     requires spot { IsSpot (templates_of works.old) (state_of works.old).instances spot.now }
     requires items { ItemsStand (length works.old.core.store) (items_of items.items) }
-    ensures fired { OnOk result (firing works.new told.new ≡ by_items spot.now.holder.now (scope_in (linked_at spot.now.holder.now (state_of works.old).instances)) spot.now.outlet spot.now.origin (repeated_of repeated.now) (Ok (items_of items.items)) (firing works.old told.old)) }
+    ensures fired { OnOk result (firing works.new told.new ≡ by_items spot.now.holder.now spot.now.scope.0 (map (λ s. s.0) spot.now.outsides.now) spot.now.outlet spot.now.origin (repeated_of repeated.now) (Ok (items_of items.items)) (firing works.old told.old)) }
     ensures keeps { OnOk result (Keeps spot.now.holder.now (state_of works.old).instances (state_of works.new).instances) }
     ensures grown { OnOk result (length works.old.core.store ≤ length works.new.core.store) }
     ensures whole { OnOk result (IsWhole works.new) }
     ensures templates { templates_of works.new ≡ templates_of works.old }
 {
-    let object = works.core.scopes.object(works.scope_on(spot.holder));
+    let object = works.core.scopes.object(spot.scope);
     let tracked = track_keys(alloc, &works.core.store, object, repeated, items.as_slice());
     match tracked {
         Err(Fault::Memory(memory)) => Err(memory),
@@ -417,7 +428,7 @@ pub(crate) fn fire_repeat(
     requires whole { IsWhole works.old }
     requires spot { IsSpot (templates_of works.old) (state_of works.old).instances spot.now }
     requires value { ViewStands (length works.old.core.store) (view_of value.now) }
-    ensures fired { OnOk result (firing works.new told.new ≡ repeat_fired spot.now.holder.now (scope_in (linked_at spot.now.holder.now (state_of works.old).instances)) (view_of value.now) spot.now.outlet spot.now.origin (repeated_of repeated.now) (firing works.old told.old)) }
+    ensures fired { OnOk result (firing works.new told.new ≡ repeat_fired spot.now.holder.now spot.now.scope.0 (map (λ s. s.0) spot.now.outsides.now) (view_of value.now) spot.now.outlet spot.now.origin (repeated_of repeated.now) (firing works.old told.old)) }
     ensures keeps { OnOk result (Keeps spot.now.holder.now (state_of works.old).instances (state_of works.new).instances) }
     ensures grown { OnOk result (length works.old.core.store ≤ length works.new.core.store) }
     ensures whole { OnOk result (IsWhole works.new) }

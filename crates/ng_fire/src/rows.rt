@@ -13,7 +13,7 @@ ghost use Rattle.ng_fire.specs.Tracking.{key_local, key_value as value_of_key};
 ghost use Rattle.ng_fire.specs.TrackingOf.{item_of, items_of};
 ghost use Rattle.ng_language.specs.Objects.{set_name};
 ghost use Rattle.ng_link.specs.State.{body_of};
-ghost use Rattle.ng_template.specs.RepeatedOf.{repeated_of};
+ghost use Rattle.ng_parts.specs.RepeatedOf.{repeated_of};
 ghost use Rattle.ng_write.specs.Storing.{with_names};
 
 use crate::tracking::{Item, index_name, key_value, place_of};
@@ -28,8 +28,8 @@ use ng_blocks::{Plan, PlanFault, TrackKey, TrackKeys, plan};
 use ng_core::core_state::Core;
 use ng_drawing::roles::Role;
 use ng_link::works::Body;
+use ng_parts::Repeated;
 use ng_store::store::Store;
-use ng_template::Repeated;
 use std::alloc::{AllocError, Global};
 
 /// The names by which a row's scope knows the place of its entry.
@@ -99,7 +99,7 @@ pub(crate) fn ground_for(
 }
 
 /// A name of an object is set.
-fn tell(store: &mut Store, object: Oid, name: &Txt, value: Value) -> Result<(), Memory>
+pub(crate) fn tell(store: &mut Store, object: Oid, name: &Txt, value: Value) -> Result<(), Memory>
     requires object { object.0 < length store.old }
     requires value { StandsAmong (length store.old) value }
     ensures told { OnOk result (store.new ≡ set_name store.old object.0 name.now value) }

@@ -9,7 +9,7 @@ ghost use Rattle.ng_fire.specs.Repeats.{item_made, items_made};
 ghost use Rattle.ng_fire.specs.Tracking.{index_name as index_name_of, key_value as key_value_of, track_locals as track_locals_of, plain_key as plain_key_of, track_key as track_key_of, track_keys as track_keys_of};
 ghost use Rattle.ng_fire.specs.TrackingOf.{item_of, items_of, EntriesStand, ItemsStand};
 ghost use Rattle.ng_language.specs.Views.{ViewStands};
-ghost use Rattle.ng_template.specs.RepeatedOf.{track_of, repeated_of};
+ghost use Rattle.ng_parts.specs.RepeatedOf.{track_of, repeated_of};
 ghost use Rattle.ng_value.specs.Snaps.{snap_of};
 ghost use Rattle.ng_members.specs.Leaves.{LocalsStand};
 
@@ -24,8 +24,8 @@ use ng_core::binding::value_in;
 use ng_core::core_state::Core;
 use ng_core::keeping::keep;
 use ng_drawing::roles::Entry;
+use ng_parts::{Repeated, Track};
 use ng_store::store::Store;
-use ng_template::{Repeated, Track};
 use ng_value::snapshot::Snap;
 use ng_value::texts::to_text;
 use ng_view::view;

@@ -1,5 +1,5 @@
 -- What holds of files that are accepted.
-use Rattle.std.proofs.Common.{◌≡◌, ℕ, List, [], false, subst}
+use Rattle.std.proofs.Common.{◌≡◌, ℕ, List, false, subst}
 use Rattle.std.specs.Prelude.{Result, Ok, Err, IfOk}
 use Rattle.ng_base.specs.Meets.{◌>>=◌}
 use Rattle.ng_app.specs.App.{Facts, facts_of}
@@ -24,7 +24,7 @@ abbrev of_script : List ℕ → Facts → Template → Result Accepted Refusal
 of_script script facts template = refused_as OfScript (script_of script) >>= λ commands. Ok (record { facts = facts; template = template; commands = commands })
 
 abbrev of_template : List ℕ → Facts → Forest × List ℕ → Result Accepted Refusal
-of_template script facts source = refused_as OfTemplate (compiled source [] false) >>= λ template. of_script script facts template
+of_template script facts source = refused_as OfTemplate (compiled source facts.definitions false) >>= λ template. of_script script facts template
 
 abbrev of_application : List ℕ → List ℕ → Forest × List ℕ → Result Accepted Refusal
 of_application application script source = refused_as Application (facts_of application) >>= λ facts. of_template script facts source
@@ -36,7 +36,7 @@ sound : (i : Inputs) → IfOk (accepted i) HasSound
 sound i =
     any (refused_as Document (read_bytes i.template)) (λ source. of_application i.application i.script source) HasSound (λ source.
     any (refused_as Application (facts_of i.application)) (λ facts. of_template i.script facts source) HasSound (λ facts.
-    any (refused_as OfTemplate (compiled source [] false)) (λ template. of_script i.script facts template) HasSound (λ template.
+    any (refused_as OfTemplate (compiled source facts.definitions false)) (λ template. of_script i.script facts template) HasSound (λ template.
     after (refused_as OfScript (script_of i.script)) (λ commands. Ok (record { facts = facts; template = template; commands = commands })) AreSound HasSound (refused OfScript (script_of i.script) AreSound (commands_sound i.script)) (λ commands h. h))))
 
 -- the commands are sound

@@ -10,9 +10,9 @@ use Rattle.ng_app.specs.Free.{is_app_want}
 use Rattle.ng_script.specs.declared.fault.ScriptKind.{ScriptKind}
 use Rattle.ng_script.specs.declared.fault.ScriptKind.TheVariants as commands
 use Rattle.ng_script.specs.Free as script
-use Rattle.ng_template.specs.declared.fault.TplKind.{TplKind}
-use Rattle.ng_template.specs.declared.fault.TplKind.TheVariants as tpl
-use Rattle.ng_template.specs.Free.{is_tpl_want}
+use Rattle.ng_directives.specs.declared.fault.TplKind.{TplKind}
+use Rattle.ng_directives.specs.declared.fault.TplKind.TheVariants as tpl
+use Rattle.ng_directives.specs.Free.{is_tpl_want}
 use Rattle.ng_inputs.specs.declared.refusal.Refusal.{Refusal}
 use Rattle.ng_inputs.specs.declared.refusal.Refusal.TheVariants.{Document, Application, Template, Script}
 

@@ -1,7 +1,7 @@
 -- What the values of the code stand for.
 use Rattle.ng_app.specs.AppOf.{facts}
 use Rattle.ng_script.specs.Acts.{entries_of}
-use Rattle.ng_template.specs.TemplateOf.{template_of}
+use Rattle.ng_parts.specs.TemplateOf.{template_of}
 use Rattle.ng_inputs.specs.Files as files
 use Rattle.ng_inputs.specs.Refusals as refusals
 use Rattle.ng_inputs.specs.declared.files.File.{File}

@@ -8,8 +8,8 @@ use Rattle.ng_app.specs.declared.fault.AppKind.{AppKind}
 use Rattle.ng_app.specs.declared.fault.AppKind.TheVariants as app
 use Rattle.ng_script.specs.declared.fault.ScriptKind.{ScriptKind}
 use Rattle.ng_script.specs.declared.fault.ScriptKind.TheVariants as script
-use Rattle.ng_template.specs.declared.fault.TplKind.{TplKind}
-use Rattle.ng_template.specs.declared.fault.TplKind.TheVariants as tpl
+use Rattle.ng_directives.specs.declared.fault.TplKind.{TplKind}
+use Rattle.ng_directives.specs.declared.fault.TplKind.TheVariants as tpl
 
 abbrev pub html_name : HtmlKind → List ℕ
 html_name html.Utf8 = codes "Utf8"
@@ -31,7 +31,6 @@ tpl_name tpl.CaseWithoutSwitch = codes "CaseWithoutSwitch"
 tpl_name tpl.UnknownFilter = codes "UnknownFilter"
 tpl_name tpl.LeftOut = codes "LeftOut"
 tpl_name tpl.Orphan = codes "Orphan"
-tpl_name tpl.Later = codes "Later"
 tpl_name (tpl.Memory m) = codes "Memory"
 
 abbrev pub member_name : Member → List ℕ
@@ -57,7 +56,6 @@ app_name app.Markup = codes "Markup"
 app_name app.Template = codes "Template"
 app_name app.Expression = codes "Expression"
 app_name app.Impure = codes "Impure"
-app_name app.Later = codes "Later"
 app_name (app.Memory m) = codes "Memory"
 
 abbrev pub script_name : ScriptKind → List ℕ

@@ -1,5 +1,5 @@
 -- What opens, or the first refusal in the order of work. The session and the causes of the statuses both go by it.
-use Rattle.std.specs.Prelude.{ℕ, false, List, [], ◌++◌, codes, Result, Ok, Err}
+use Rattle.std.specs.Prelude.{ℕ, false, List, ◌++◌, codes, Result, Ok, Err}
 use Rattle.std.specs.Fmt.{decimal}
 use Rattle.ng_base.specs.Meets.{◌>>=◌}
 use Rattle.ng_html.specs.Reading.{read_bytes}
@@ -23,13 +23,13 @@ abbrev pub refused_as : {A E : Type 0} → (E → Refusal) → Result A E → Re
 refused_as kind (Ok x) = Ok x
 refused_as kind (Err e) = Err (kind e)
 
--- The template's document is read, then the application, then the template is compiled with the core directives, then the script
--- is read, and the first refusal stands.
+-- The template's document is read, then the application, then the template is compiled with the directives of the core and of the
+-- application, then the script is read, and the first refusal stands.
 abbrev pub accepted : Inputs → Result Accepted Refusal
 accepted i =
     refused_as Document (read_bytes i.template)
     >>= λ source. refused_as Application (facts_of i.application)
-    >>= λ facts. refused_as OfTemplate (compiled source [] false)
+    >>= λ facts. refused_as OfTemplate (compiled source facts.definitions false)
     >>= λ template. refused_as OfScript (script_of i.script)
     >>= λ commands. Ok (record { facts = facts; template = template; commands = commands })
 

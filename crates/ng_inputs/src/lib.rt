@@ -8,7 +8,7 @@
 //!
 //! The contract that the run above uses is that of `accept`: `accepted` (specs/Refusals) is what the files give or the first
 //! refusal, want of memory alone is free, and the commands are sound (specs/Acts): a probe is pure, and an event's arguments are
-//! a list. Commands that are not built yet are refused here, once the whole script was read.
+//! a list.
 //!
 //! The definitions stand in `specs/`. `Files.antt` has the files of a run as one list, and what their fetches bring;
 //! `Refusals.antt` the order of work, in which the first refusal stands; `Names.antt` the names of refusals; `Acts.antt` what holds

@@ -6,9 +6,9 @@ ghost use Rattle.ng_inputs.specs.Refusals.{template_text, refusal_text};
 
 use crate::refusal::Refusal;
 use ng_app::{AppFault, AppKind, Member};
+use ng_directives::fault::TplKind;
 use ng_html::fault::HtmlKind;
 use ng_script::{ScriptFault, ScriptKind};
-use ng_template::fault::TplKind;
 use std::alloc::{AllocError, Global};
 
 /// Adds the digits of a number.
@@ -49,7 +49,6 @@ fn tpl_word(kind: &TplKind) -> &'static str
         TplKind::UnknownFilter => "UnknownFilter",
         TplKind::LeftOut => "LeftOut",
         TplKind::Orphan => "Orphan",
-        TplKind::Later => "Later",
         TplKind::Memory(_) => "Memory",
     }
 }
@@ -87,7 +86,6 @@ fn app_word(kind: &AppKind) -> &'static str
         AppKind::Template => "Template",
         AppKind::Expression => "Expression",
         AppKind::Impure => "Impure",
-        AppKind::Later => "Later",
         AppKind::Memory(_) => "Memory",
     }
 }

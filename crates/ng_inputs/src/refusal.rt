@@ -12,12 +12,12 @@ use crate::files::Inputs;
 use crate::scripts::read_commands;
 use ng_app::{App, AppFault, AppKind};
 use ng_base::fault::Memory;
+use ng_directives::fault::{TplFault, TplKind};
 use ng_html::fault::{HtmlFault, HtmlKind};
 use ng_html::reading::read;
+use ng_parts::tpl::Tpl;
 use ng_script::{Commands, ScriptFault, ScriptKind};
 use ng_template::compiling::compile;
-use ng_template::fault::{TplFault, TplKind};
-use ng_template::tpl::Tpl;
 use std::alloc::Global;
 
 /// A refusal: of the template's document, of the application, of the template that the document asks for, or of the script.

@@ -1,10 +1,11 @@
 -- A page that would have too many nodes.
-use Rattle.std.proofs.Common.{◌≡◌, ◌<◌, ◌+◌, ◌-◌, ℕ, zero, suc, Bool, true, false, List, [], ◌∷◌, refl, ap, sym, ◌∙◌, subst, Option, Some, None, Result, Ok, Err, nat_lt, arith}
+use Rattle.std.proofs.Common.{◌≡◌, ◌<◌, ◌≤◌, ◌+◌, ◌-◌, ℕ, zero, suc, Bool, true, false, List, [], ◌∷◌, refl, ap, sym, ◌∙◌, subst, Option, Some, None, Result, Ok, Err, nat_lt, arith}
 use Rattle.std.specs.Option.{IfSome}
 use Rattle.std.specs.Prelude.{◌&&◌, if◌then◌else◌}
 use Rattle.std.proofs.lemmas.Bool.Decides.{nat_tests}
 use Rattle.ng_core.specs.State.{first_or}
 use Rattle.ng_app.specs.App.{Facts}
+use Rattle.ng_app.specs.Directives.{all_programs}
 use Rattle.ng_app.specs.Installing.{installed}
 use Rattle.ng_base.specs.declared.fault.Fault.{Fault}
 use Rattle.ng_base.specs.declared.fault.Fault.TheVariants.{NodeLimit}
@@ -15,22 +16,26 @@ use Rattle.ng_dom.specs.Drawing.{shows}
 use Rattle.ng_dom.specs.Nodes.{NamedNode, nothing_named}
 use Rattle.ng_dom.specs.Printed.{nth_of, went}
 use Rattle.ng_drawing.specs.Instance.{shown as drawn}
-use Rattle.ng_drawing.specs.Nodes.{nodes, node_limit}
-use Rattle.ng_drawing.specs.Template.{Template}
-use Rattle.ng_fire.specs.Links.{begins_linking, steps_linked, link_by}
+use Rattle.ng_drawing.specs.Nodes.{forest_count, nodes, node_limit}
+use Rattle.ng_drawing.specs.Template.{Fragment, Parts, Template}
+use Rattle.ng_fire.proofs.Rooms.{room_found}
+use Rattle.ng_fire.specs.Links.{Linking, begins_linking, ended_link, first_of, given_up, steps_linked}
 use Rattle.ng_link.specs.Calls.{blank, at_top}
-use Rattle.ng_link.specs.Linking.{steps, steps_within}
+use Rattle.ng_link.specs.Linking.{fault_in, steps, steps_within}
 use Rattle.ng_link.specs.Events.{named}
-use Rattle.ng_link.specs.Instances.{stands_at}
+use Rattle.ng_link.specs.Instances.{Instances, stands_at}
+use Rattle.ng_link.specs.Shape.{linked}
 use Rattle.ng_link.specs.State.{State, looks_in, instance_at, live_nodes, shown}
 use Rattle.ng_markup.specs.Forest.{no_nodes}
 use Rattle.ng_page.specs.Answered.{DigestsWhere}
 use Rattle.ng_page.specs.Commands.{Asked, is_idle, begun, asked_run}
-use Rattle.ng_page.specs.Opening.{prepared, linked_by, opening, page_origin, templates_for}
+use Rattle.ng_page.specs.Opening.{prepared, linked_by, linked_from, opening, page_origin, templates_for}
 use Rattle.ng_page.specs.Steps.{Outcome, Ends}
 use Rattle.ng_page.specs.Targets.{element_name, target_in}
 use Rattle.ng_page.proofs.DigestsStay.{digest_bare}
-use Rattle.ng_page.proofs.FiresTold.{steps_sites}
+use Rattle.ng_page.proofs.Filled.{both_none}
+use Rattle.ng_page.proofs.LinksStay.{given_up_sites, steps_instances}
+use Rattle.ng_page.proofs.Sites.{SitesStay}
 use Rattle.ng_page.proofs.StepsStay.{followed_sites, program_stays, asked_sites}
 use Rattle.ng_script.specs.Acts.{Act, Entry}
 use Rattle.ng_inputs.specs.Refusals.{Accepted}
@@ -39,29 +44,57 @@ use Rattle.ng_run.specs.Happenings.{Fired, fired_by, DoesEvent}
 use Rattle.ng_run.specs.Lines.{Digest, header}
 use Rattle.ng_run.specs.Session.{Reply, all_well, steps_status, whole, Runs, SessionOf}
 use Rattle.ng_run.specs.Steps.{Left, Step, is_well, DoesUnlessIdle, DoesAsked, DoesAct, Continues, OpensPage}
-use Rattle.ng_laws.specs.Sessions.{CrowdedPageIsEmpty}
+use Rattle.ng_compose.specs.Kept.{Named, fragments_in}
+use Rattle.ng_laws.specs.Sessions.{CrowdedPageIsEmpty, page_fragment}
 use Rattle.ng_fire.specs.Runs.{program_run}
+
+-- ---- the linking
 
 is_full : (live n : ℕ) → node_limit < n → nat_lt node_limit (live + n) ≡ true
 is_full live n l = grind (arith, nat_tests)
+
+no_room : (live : ℕ) (ps : Parts) → node_limit < nodes ps → linked live ps ≡ Ok tt → ⊥
+no_room live ps more e =
+    let full : (let r : Result (Unit {0}) Fault = Err NodeLimit in r ≡ Ok tt) = sym (ap (λ (b : Bool). (let r : Result (Unit {0}) Fault = if b then Err NodeLimit else Ok tt in r)) (is_full live (nodes ps) more)) ∙ e in
+    absurd (cc)
 
 -- what there is before the template is linked
 abbrev before : Accepted → State
 before a = prepared a.template a.facts
 
--- what the programs before the node too many leave
-abbrev begun_on : Accepted → State
-begun_on a = (steps_linked 0 (steps_within (node_limit - live_nodes (before a)) (steps a.template.own.parts)) (begins_linking (before a))).state
+-- nothing is linked then, and the templates are there
+prepared_sites : (u : Template) (f : Facts) → SitesStay (blank (templates_for u f) (all_programs f.directives) (installed f)) (prepared u f)
+prepared_sites u f = followed_sites (program_run 0 f.run (installed f)) (blank (templates_for u f) (all_programs f.directives) (installed f)) (program_stays 0 f.run (installed f))
 
-empty : (a : Accepted) → node_limit < nodes a.template.own.parts → opening a.facts a.template ≡ linked_by (Err NodeLimit) (begun_on a)
-empty a l = ap (λ b. by (if b then Err NodeLimit else Ok tt)) (is_full (live_nodes (before a)) (nodes a.template.own.parts) l)
-  where
-    by : Result (Unit {0}) Fault → State
-    by r = linked_by r (link_by at_top page_origin 0 a.template.own r (before a)).state
-
--- nothing is linked before the template is
 none_linked : (u : Template) (f : Facts) → (prepared u f).instances ≡ []
-none_linked u f = (followed_sites (program_run 0 f.run (installed f)) (blank (templates_for u f) (installed f)) (program_stays 0 f.run (installed f))).instances
+none_linked u f = (prepared_sites u f).instances
+
+no_nodes_live : (s : State) → s.instances ≡ [] → live_nodes s ≡ 0
+no_nodes_live s e = ap (λ (is : Instances). forest_count (drawn (instance_at s.watchers s.resting s.controls is []))) e
+
+-- what is linked, and how far its steps come
+abbrev fragment : Accepted → Fragment
+fragment a = fragments_in (before a).templates page_origin
+
+same_fragment : (a : Accepted) → fragment a ≡ page_fragment a
+same_fragment a = ap (λ (ts : List Named). fragments_in ts page_origin) (prepared_sites a.template a.facts).templates
+
+abbrev cut : Accepted → Option Fault
+cut a = fault_in (node_limit - live_nodes (before a)) (steps (fragment a).parts)
+
+abbrev done : Accepted → Linking
+done a = steps_linked (fragment a) (steps_within (node_limit - live_nodes (before a)) (steps (fragment a).parts)) (begins_linking 0 [] (before a))
+
+-- the steps or the nodes are a fault, and nothing stands
+given : (a : Accepted) → node_limit < nodes (fragment a).parts → (e : Fault) × (opening a.facts a.template ≡ linked_by (Some e) (given_up e (done a)).state)
+given a more = by (first_of (done a).fault (cut a)) refl
+  where
+    few : live_nodes (before a) ≤ node_limit
+    few = let none = no_nodes_live (before a) (none_linked a.template a.facts) in omega (arith, none)
+
+    by : (o : Option Fault) → first_of (done a).fault (cut a) ≡ o → (e : Fault) × (opening a.facts a.template ≡ linked_by (Some e) (given_up e (done a)).state)
+    by None is = absurd (no_room (live_nodes (before a)) (fragment a).parts more (room_found (fragment a).parts (live_nodes (before a)) few (both_none (done a).fault (cut a) is).1))
+    by (Some e) is = (e, ap (λ (o : Option Fault). linked_from (ended_link at_top page_origin 0 (fragment a) o (done a))) is)
 
 -- and a digest links nothing then
 linked_stays : (due : Bool) (s : State) (d : Digest) (probed : List (List ℕ)) (t : State) → DigestsWhere due s d probed t → s.instances ≡ [] → t.instances ≡ []
@@ -114,20 +147,36 @@ continues_unlinked trace k [] left xs end h e = ap (λ (z : Left). z.state.insta
 continues_unlinked trace k (c ∷ es) left xs end (x, next, rest, does, more, is) e =
     continues_unlinked trace (k + 1) es next rest end more (act_unlinked trace (header k c.shown) (fired_by c.act) c.act left.state x next does e)
 
-module _ (trace : Bool) (a : Accepted) (more : node_limit < nodes a.template.own.parts) (x : Step) (left : Left) (h : OpensPage trace a x left) where
+module _ (trace : Bool) (a : Accepted) (more : node_limit < nodes (fragment a).parts) (x : Step) (left : Left) (h : OpensPage trace a x left) where
   abbrev started : State
   started = opening a.facts a.template
 
-  first_fault : h.outcome.first ≡ first_or (begun_on a).core.handed.first NodeLimit
-  first_fault = h.opens.first ∙ ap (λ (s : State). s.core.handed.first) (empty a more)
+  -- what was made in vain
+  abbrev fault : Fault
+  fault = (given a more).0
+
+  abbrev vain : State
+  vain = (given_up fault (done a)).state
+
+  empty : started ≡ linked_by (Some fault) vain
+  empty = (given a more).1
+
+  none_there_yet : started.instances ≡ []
+  none_there_yet =
+      ap (λ (s : State). s.instances) empty
+      ∙ ((given_up_sites fault (done a)).instances
+      ∙ (steps_instances (fragment a) (steps_within (node_limit - live_nodes (before a)) (steps (fragment a).parts)) (begins_linking 0 [] (before a)) ∙ none_linked a.template a.facts))
+
+  first_fault : h.outcome.first ≡ first_or vain.core.handed.first fault
+  first_fault = h.opens.first ∙ ap (λ (s : State). s.core.handed.first) empty
 
   first_faulted : x.well ≡ false
-  first_faulted = ap (λ (s : Step). s.well) h.prints ∙ (ap (λ f. is_well f h.outcome.digest) first_fault ∙ not_well (begun_on a).core.handed.first NodeLimit h.outcome.digest)
+  first_faulted = ap (λ (s : Step). s.well) h.prints ∙ (ap (λ f. is_well f h.outcome.digest) first_fault ∙ not_well vain.core.handed.first fault h.outcome.digest)
 
   first_unlinked : left.state.instances ≡ []
-  first_unlinked = ap (λ (z : Left). z.state.instances) h.leaves ∙ ends_unlinked started h.outcome h.state h.opens (ap (λ (s : State). s.instances) (empty a more) ∙ ((steps_sites 0 (steps_within (node_limit - live_nodes (before a)) (steps a.template.own.parts)) (begins_linking (before a))).instances ∙ none_linked a.template a.facts))
+  first_unlinked = ap (λ (z : Left). z.state.instances) h.leaves ∙ ends_unlinked started h.outcome h.state h.opens none_there_yet
 
-runs_crowded : (trace : Bool) (a : Accepted) (r : Reply) → node_limit < nodes a.template.own.parts → Runs whole trace a r → (r.status ≡ 1) × IfSome r.page (λ l. shown l.state ≡ no_nodes)
+runs_crowded : (trace : Bool) (a : Accepted) (r : Reply) → node_limit < nodes (fragment a).parts → Runs whole trace a r → (r.status ≡ 1) × IfSome r.page (λ l. shown l.state ≡ no_nodes)
 runs_crowded trace a r more (xs, end, (x, left, rest, opens, then_on, is), done_so) =
     let status : steps_status xs ≡ 1 = ap steps_status is ∙ ap (λ b. if b && all_well rest then 0 else 1) (first_faulted trace a more x left opens) in
     let gone : end.state.instances ≡ [] = continues_unlinked trace 1 a.commands left rest end then_on (first_unlinked trace a more x left opens) in (
@@ -136,4 +185,4 @@ runs_crowded trace a r more (xs, end, (x, left, rest, opens, then_on, is), done_
     )
 
 pub crowded : CrowdedPageIsEmpty
-crowded trace i a r e more h = runs_crowded trace a r more (subst (λ c. SessionOf whole trace c r) e h)
+crowded trace i a r e more h = runs_crowded trace a r (subst (λ (f : Fragment). node_limit < nodes f.parts) (sym (same_fragment a)) more) (subst (λ c. SessionOf whole trace c r) e h)

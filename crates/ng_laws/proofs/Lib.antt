@@ -10,5 +10,6 @@ pub mod Found
 pub mod Spans
 pub mod Cuts
 pub mod Crowded
-pub mod KeptScopes
 pub mod KeptRows
+pub mod Agreeing
+pub mod Transcluded

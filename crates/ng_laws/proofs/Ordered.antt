@@ -1,21 +1,22 @@
 -- Whatever is done to a page, its watchers stand in key order; so each digest over them comes to an end.
 use Rattle.std.proofs.Common.{◌≡◌, ℕ, Bool, true, false, List, [], ◌∷◌, cond, refl, sym, ap, subst, not, Option, None, Some}
-use Rattle.std.specs.Prelude.{is_err, Result, Ok, Err}
+use Rattle.std.specs.Prelude.{is_err}
 use Rattle.std.specs.List.Sorted.{IsStrictlySortedBy}
 use Rattle.std.specs.Map.{keys_of}
 use Rattle.ng_core.specs.State.{Run, Task}
 use Rattle.ng_app.specs.App.{Facts}
+use Rattle.ng_app.specs.Directives.{all_programs}
 use Rattle.ng_base.specs.Views.{ViewTree}
 use Rattle.ng_base.specs.declared.fault.Fault.{Fault}
 use Rattle.ng_base.specs.declared.path.Key.{Key}
 use Rattle.ng_base.specs.declared.value.Value.{Value}
 use Rattle.ng_base.specs.declared.value.Value.TheVariants as value
 use Rattle.ng_control.specs.State.{typed_in, checked_in}
-use Rattle.ng_drawing.specs.Template.{Template}
+use Rattle.ng_drawing.specs.Template.{Fragment, Template}
 use Rattle.ng_fire.proofs.Ordered.{InKeys, IsOrdered, either, changed_ordered, followed_ordered, link_ordered, site_ordered}
-use Rattle.ng_fire.specs.Fires.{fired as fires, fire_of_site, fire_run, fired_by}
+use Rattle.ng_fire.specs.Fires.{fired as fires, fire_of_site, fire_run, fired_by, value_at}
 use Rattle.ng_fire.specs.Inputs.{write_run, all_run, written}
-use Rattle.ng_fire.specs.Links.{link_at}
+use Rattle.ng_fire.specs.Links.{Linking, link_at}
 use Rattle.ng_fire.specs.Runs.{task_run, without_task, ran_of, program_run, followed, destroyed}
 use Rattle.ng_fire.specs.Settling as settling
 use Rattle.ng_fire.specs.SiteFires.{site_fired}
@@ -25,8 +26,8 @@ use Rattle.ng_link.specs.Controls.{ControlHere, state_under, read_as}
 use Rattle.ng_link.specs.Events.{control_at, scope_of}
 use Rattle.ng_link.specs.Instances.{is_site}
 use Rattle.ng_link.proofs.Sorted.{none_in_order, filter_sorted}
-use Rattle.ng_link.specs.Shape.{linked}
-use Rattle.ng_link.specs.State.{State, live_nodes}
+use Rattle.ng_link.specs.State.{State}
+use Rattle.ng_compose.specs.Kept.{fragments_in}
 use Rattle.ng_app.specs.Installing.{installed}
 use Rattle.ng_page.specs.Answered.{ready_place}
 use Rattle.ng_page.specs.Commands.{Asked, applies, queues, probes, digests, destroys_scope, emits, broadcasts, types, checks, begun, emit_run, broadcast_run, typed_run, checked_run, asked_run}
@@ -36,7 +37,7 @@ use Rattle.ng_page.specs.PageMachine as page
 use Rattle.ng_page.specs.PageMachine.{page_machine}
 use Rattle.ng_watch.specs.Keys.{key_cmp, is_key}
 use Rattle.ng_watch.specs.Seen.{Watcher}
-use Rattle.ng_watch.specs.Table.{Table, keeping, with_kept}
+use Rattle.ng_watch.specs.Table.{Table, keeping, kept_at, with_kept}
 use Rattle.ng_watch.specs.Ended.{is_over}
 use Rattle.ng_laws.proofs.Ends.{ShortEnds, short_ends}
 
@@ -70,7 +71,7 @@ fired_ordered None s h = h
 fired_ordered (Some r) s h = followed_ordered r s h
 
 fires_ordered : (k : Key) (now : ViewTree) (s : State) → IsOrdered s → IsOrdered (fires k now s).0
-fires_ordered k now s h = by (is_site s.instances k)
+fires_ordered k now s h = by (is_site s.inner s.instances k)
   where
     t : State
     t = keeping_at k now s
@@ -78,8 +79,8 @@ fires_ordered k now s h = by (is_site s.instances k)
     kept : IsOrdered t
     kept = kept_ordered k (Some now) s.watchers h
 
-    by : (b : Bool) → IsOrdered (cond b (fire_of_site (site_fired k now t)) (fired_by (fire_run k s) t)).0
-    by true = site_ordered k now t kept
+    by : (b : Bool) → IsOrdered (cond b (fire_of_site (site_fired k now (value_at s k) (kept_at k s.watchers) t)) (fired_by (fire_run k s) t)).0
+    by true = site_ordered k now (value_at s k) (kept_at k s.watchers) t kept
     by false = fired_ordered (fire_run k s) t kept
 
 unset_all_ordered : (ks : List Key) (s : State) → IsOrdered s → IsOrdered (settling.unset_all ks s)
@@ -119,16 +120,18 @@ page_ends s h = short_ends page_machine page_laws.total IsGood (λ t g. g) teste
 -- ---- the opening
 
 prepared_ordered : (u : Template) (f : Facts) → IsOrdered (prepared u f)
-prepared_ordered u f = followed_ordered (program_run 0 f.run (installed f)) (blank (templates_for u f) (installed f)) (none_in_order key_cmp)
+prepared_ordered u f = followed_ordered (program_run 0 f.run (installed f)) (blank (templates_for u f) (all_programs f.directives) (installed f)) (none_in_order key_cmp)
 
-by_ordered : (r : Result (Unit {0}) Fault) (s : State) → IsOrdered s → IsOrdered (linked_by r s)
-by_ordered (Ok u) s h = h
-by_ordered (Err f) s h = h
+by_ordered : (o : Option Fault) (s : State) → IsOrdered s → IsOrdered (linked_by o s)
+by_ordered None s h = h
+by_ordered (Some f) s h = h
 
 pub opening_ordered : (f : Facts) (t : Template) → IsOrdered (opening f t)
 opening_ordered f t =
     let s : State = prepared t f in
-    by_ordered (linked (live_nodes s) t.own.parts) (link_at at_top page_origin 0 t.own s).state (link_ordered at_top page_origin 0 t.own s (prepared_ordered t f))
+    let own : Fragment = fragments_in s.templates page_origin in
+    let l : Linking = link_at at_top page_origin 0 [] own s in
+    by_ordered l.fault l.state (link_ordered at_top page_origin 0 [] own s (prepared_ordered t f))
 
 -- ---- the commands
 

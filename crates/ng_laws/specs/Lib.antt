@@ -3,3 +3,4 @@ pub mod Cloaks
 pub mod Turns
 pub mod Camel
 pub mod KeptRows
+pub mod Bindings

@@ -15,10 +15,13 @@
 //!   picks none.
 //! - `rows`: a repeat keeps its rows. Whatever a fire of it makes, ends and faults with, a row whose track key is called for stays
 //!   linked as it is, with its scope, its nodes and the bodies in it.
+//! - `bindings`: once no watcher of a page is dirty both sides of a two-way binding are the same value; and what a directive transcludes reads the
+//!   names of the scope outside, and none of the isolate scope.
 //!
 //! There is no code here, and nothing is built from this crate.
 #![tactic(auto)]
 
+pub mod bindings;
 pub mod cloak;
 pub mod holes;
 pub mod names;

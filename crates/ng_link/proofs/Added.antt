@@ -1,11 +1,10 @@
 -- A fragment stands as a body of an outlet: the document shows it, and nothing stands apart.
-use Rattle.std.proofs.Common.{◌≡◌, ◌⊎◌, inl, inr, ◌<◌, ◌≤◌, ℕ, Bool, true, false, cond, List, ◌++◌, Option, Some, None, refl, ap, ◌∙◌, sym, subst, length, arith, nat_eq}
-use Rattle.std.specs.Prelude.{IsSome}
+use Rattle.std.proofs.Common.{◌≡◌, ◌⊎◌, inl, inr, ◌<◌, ◌≤◌, ℕ, true, List, ◌++◌, Option, Some, None, ap, ◌∙◌, sym, subst, arith, nat_eq}
 use Rattle.std.specs.List.{IsDistinct}
 use Rattle.std.proofs.lemmas.Bool.{cases_lt}
 use Rattle.ng_base.specs.declared.path.Key.{Key}
 use Rattle.ng_dom.specs.Document.{rooms, next_name, IsLive, Shows, Holds, Becomes, Stays, Fewer}
-use Rattle.ng_dom.specs.Drawing.{Look, Stands, Bodies, shows, show_bodies, names_standing, HomedAll, HeldAll, at_block_all}
+use Rattle.ng_dom.specs.Drawing.{Look, Stands, Bodies, shows, show_bodies, names_standing, HomedAll, at_block_all}
 use Rattle.ng_dom.specs.Editing.{changed_in, with_groups, group_inserted}
 use Rattle.ng_dom.specs.Lists.{among}
 use Rattle.ng_dom.specs.Nodes.{NamedForest, group_names, all_names}
@@ -16,47 +15,21 @@ use Rattle.ng_dom.proofs.Focus.{groups_changed}
 use Rattle.ng_dom.proofs.Homes.{live_names_are_given, bodies_are_homed}
 use Rattle.ng_dom.proofs.Keeping.{holds_inserted}
 use Rattle.ng_dom.proofs.Removing.{among-left, among-right}
-use Rattle.ng_link.specs.Building.{unset, AllAt, Builds}
-use Rattle.ng_link.specs.Instances.{Linked, Instances, is_path, keys_of}
-use Rattle.ng_link.specs.Shape.{shape, unfilled, holes}
+use Rattle.ng_link.specs.Building.{unset, Builds}
+use Rattle.ng_link.specs.Instances.{Linked, Instances, keys_of}
+use Rattle.ng_link.specs.Shape.{shape, unfilled}
 use Rattle.ng_link.specs.Sources.{sources}
-use Rattle.ng_link.specs.Standing.{IsPlaced, IsBuilt}
+use Rattle.ng_link.specs.Standing.{IsBuilt}
 use Rattle.ng_link.proofs.Agree.{all_agree}
 use Rattle.ng_link.proofs.Blocks.{BlockAmong, IsAnchor, anchor_at, block_named}
 use Rattle.ng_link.proofs.BodiesAt.{bodies_put, show_put, top_names, homed_put}
-use Rattle.ng_link.proofs.Grown.{still_at}
 use Rattle.ng_link.proofs.Held.{built_held}
-use Rattle.ng_link.proofs.Holding.{all_held}
 use Rattle.ng_link.proofs.Homed.{homed_more, older_stay, all_stay, older_live}
 use Rattle.ng_link.proofs.Names.{up, among_up, up_among, distinct_up, distinct_append, names_given}
-use Rattle.ng_link.proofs.Paths.{is_that}
 
 -- what stands of a fragment that was built apart, and nothing of it is kept
 abbrev pub new_stands : Linked → Stands
 new_stands l = shape (keys_of l.page) l.page.node unfilled l.fragment.parts
-
-module _ (places : Key → Option ℕ) (looks : Key → Look) (p : List ℕ) (l : Linked) (next : ℕ) (d : Dom) (placed : IsPlaced places next p l) (fresh : (k : Key) → is_path p k.path ≡ true → IsSome (places k) → unset k ≡ looks k)
-    (homed : HomedAll (sources d) (new_stands l)) where
-  -- its sites alone
-  abbrev site : Key → Option ℕ
-  site k = cond (is_path p k.path) (places k) None
-
-  own_path : is_path p l.page.path ≡ true
-  own_path = is_that p l.page.path (sym placed.path)
-
-  sites : AllAt site (keys_of l.page) 0 (holes l.page.node l.fragment.parts)
-  sites = still_at places site (keys_of l.page) (λ n. ap (λ (b : Bool). cond b (places (keys_of l.page n)) None) own_path) 0 (holes l.page.node l.fragment.parts) placed.sites
-
-  new_held : HeldAll site (sources d) (new_stands l)
-  new_held = all_held site (sources d) (keys_of l.page) unfilled (λ o h. tt) 0 l.page.node (length l.fragment.sites) l.fragment.parts placed.numbered sites homed
-
-  only : (k : Key) (n : ℕ) (b : Bool) → is_path p k.path ≡ b → cond b (places k) None ≡ Some n → unset k ≡ looks k
-  only k n true is at = fresh k is (subst (λ (o : Option ℕ). IsSome o) (sym at) refl)
-  only k n false is at = absurd (cc)
-
-  -- nothing is kept of it yet
-  pub new_same : shows unset (new_stands l) ≡ shows looks (new_stands l)
-  new_same = all_agree site (sources d) unset looks (λ k n at drawn. only k n (is_path p k.path) refl at) (new_stands l) new_held
 
 -- a body is put before the i-th of a block
 module _ (places : Key → Option ℕ) (looks same : Key → Look) (d e g : Dom) (is : Instances) (ts new : Stands) (a i : ℕ) (bs : Bodies)

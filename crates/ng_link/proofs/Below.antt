@@ -5,9 +5,9 @@ use Rattle.std.specs.List.{list_all}
 use Rattle.std.proofs.lemmas.Bool.Decides.{nat_tests}
 use Rattle.ng_drawing.specs.Template as template
 use Rattle.ng_drawing.specs.Template.{word, hole, while_true, while_false, PartClass, PartValue, always, unless_empty, flag, classes, PartAttributes, Part, Contents, Parts, text_part, comment_part, element_part, anchor_part, children, bound, no_parts, part_then}
-use Rattle.ng_template.specs.Numbering.{after_pieces, after_own, after_contents, after_part, after_parts, is_within, is_apart, is_piece_drawn, is_hiding_drawn, is_class_drawn, is_value_drawn, are_drawn}
+use Rattle.ng_parts.specs.Numbering.{after_pieces, after_own, after_contents, after_part, after_parts, is_within, is_apart, is_piece_drawn, is_hiding_drawn, is_class_drawn, is_value_drawn, are_drawn}
 use Rattle.ng_link.specs.Holes.{PiecesBelow, SitesBelow, HidingsBelow, ClassBelow, ValueBelow, ValuesBelow, PartBelow, ContentsBelow, HolesBelow}
-use Rattle.ng_link.proofs.Numbers.{both_true, first_then, next_own, next_hole, contents_children, contents_bound, counted_own, counted_contents, counted}
+use Rattle.ng_link.proofs.Numbers.{both_true, first_then, bound_then, next_own, next_hole, contents_children, contents_bound, counted_own, counted_contents, counted}
 
 -- a number that is within bounds
 pub within : (n c k : ℕ) → is_within n c k ≡ true → (n ≤ k) × (k < c)
@@ -76,10 +76,11 @@ mutual
   part_below n c b (text_part ps) e le = (pieces_below n c b ps e le).1
   part_below n c b (comment_part t) e le = tt
   part_below n c b (element_part t own acts ats p) e le =
-      let h = first_then (after_own n own) (λ d. after_contents n d ats p) c e in
-      let last = counted_contents n h.0 0 c ats p h.2 in
-      let more = contents_below n h.0 c b ats p h.2 le in
-      (own_below n h.0 b own h.1 (omega (arith, last, le)), more.0, more.1)
+      let z = bound_then n own acts ats p c e in
+      let h = first_then (after_own z.0 own) (λ d. after_contents z.0 d ats p) c z.2 in
+      let last = counted_contents z.0 h.0 0 c ats p h.2 in
+      let more = contents_below z.0 h.0 c b ats p h.2 le in
+      (own_below z.0 h.0 b own h.1 (omega (arith, last, le)), more.0, more.1)
   part_below n c b (anchor_part outlet own starts) e le = own_below n c b own e le
 
   contents_below : (n d c b : ℕ) (ats : PartAttributes) (p : Contents) → after_contents n d ats p ≡ Some c → c ≤ b → ValuesBelow b ats × ContentsBelow b p

@@ -1,5 +1,5 @@
 -- The bodies of an outlet change: what stands then.
-use Rattle.std.proofs.Common.{◌≡◌, inl, inr, ◌+◌, ◌<◌, ◌≤◌, ℕ, zero, suc, Bool, true, false, cond, List, [], ◌∷◌, ◌++◌, Some, refl, ap, ◌∙◌, sym, subst, length, slice_get, arith, eqb-true}
+use Rattle.std.proofs.Common.{◌≡◌, inl, inr, ◌+◌, ◌<◌, ◌≤◌, ℕ, zero, suc, Bool, true, false, cond, List, [], ◌∷◌, Some, refl, ap, ◌∙◌, sym, subst, length, slice_get, arith, eqb-true}
 use Rattle.std.proofs.lemmas.Bool.{eqb-false}
 use Rattle.std.specs.Prelude.{◌==◌}
 use Rattle.std.proofs.Math.Path.{fun_ext}
@@ -10,13 +10,13 @@ use Rattle.std.proofs.lemmas.Map.Keys.{sorted_head, sorted_tail}
 use Rattle.ng_base.specs.Order.{path_cmp}
 use Rattle.ng_dom.specs.Drawing.{Stands, Bodies, none_stand, body_then, at_block_all, at_block_bodies}
 use Rattle.ng_drawing.specs.Nodes.{nodes}
-use Rattle.ng_template.specs.Numbering.{after_outlets}
+use Rattle.ng_parts.specs.Numbering.{after_outlets}
 use Rattle.ng_link.specs.Instances.{OutletState, Linked, Instances, is_path, linked_at, keys_of, read_bodies, bodies_from, groups_from, stands_join, stands_at, with_outlets, outlets_changed}
 use Rattle.ng_link.specs.Laws.{BodiesChanged}
 use Rattle.ng_link.specs.Shape.{anchors}
-use Rattle.ng_link.specs.Standing.{AreIn, IsPlaced, Apart, AreApart}
+use Rattle.ng_link.specs.Standing.{IsBelow, AreIn, IsPlaced, Apart, AreApart}
 use Rattle.ng_link.proofs.AtBlocks.{IsOff, shape_off, Follow, shape_on, anchors_range, in_range, one_place, same_shape, within_bodies}
-use Rattle.ng_link.proofs.Paths.{path_is, longer, not_after}
+use Rattle.ng_link.proofs.Paths.{path_is, below_other, not_after}
 use Rattle.ng_link.proofs.ReadOff.{at_path, after_first, read_here, read_past, bodies_past, read_all}
 
 -- the anchor is none of an instance's nodes
@@ -76,7 +76,7 @@ module _ (p : List ℕ) (l : Linked) (o a : ℕ) (f : List OutletState → List 
   Changes is = (afterwards is o ≡ h (before is o)) × ((x : ℕ) → (x ≡ o → ⊥) → afterwards is x ≡ before is x)
 
   -- it is the same after an instance that stands before
-  changes_past : (e : List ℕ × Linked) (es : Instances) → ((n : ℕ) → e.0 ≡ p ++ n ∷ [] → ⊥) → Changes (e ∷ es) → Changes es
+  changes_past : (e : List ℕ × Linked) (es : Instances) → (IsBelow p e.0 → ⊥) → Changes (e ∷ es) → Changes es
   changes_past e es ne g =
       let were : read_bodies (stands_at (e ∷ es)) l.page.outlets ≡ read_bodies (stands_at es) l.page.outlets = bodies_past none_stand stands_join p e es l.page.outlets ins ne in
       let are : read_bodies (stands_at (e ∷ es)) (f l.page.outlets) ≡ read_bodies (stands_at es) (f l.page.outlets) = bodies_past none_stand stands_join p e es (f l.page.outlets) still ne in (
@@ -156,12 +156,12 @@ module _ (p : List ℕ) (l : Linked) (o a : ℕ) (f : List OutletState → List 
             let here : e.0 ≡ p = sym (path_is p e.0 is) in
             let off : AllByRecursion (IsOffIn a) es = all_off a l es within.0 within.1 (subst (λ (m : Linked). AllByRecursion (λ (x : List ℕ × Linked). Apart m x.1) es) one apart.0) in
             ap (λ (m : Linked). stands_at ((e.0, with_outlets f m) ∷ es) q) one
-            ∙ (own e.0 es off (changes_past e es (λ n longest. longer p n (sym here ∙ longest)) g) q
+            ∙ (own e.0 es off (changes_past e es (λ below. below_other p e.0 below (sym here)) g) q
             ∙ sym (ap (λ (m : Linked). at_block_all a h (stands_at ((e.0, m) ∷ es) q)) one))
         by_test false is same rest =
             let less = after_first p e.0 l es (sorted_head path_cmp e.0 (map_keys es) ordered) same in
             let off : IsOffIn a e = off_swapped a l e.1 within.0 within.1 (at_path (λ (x : List ℕ × Linked). Apart e.1 x.1) p l es apart.0 same) in
-            earlier e es off (rest same (changes_past e es (λ n longest. not_after p n e.0 less longest) g)) q
+            earlier e es off (rest same (changes_past e es (λ below. not_after p e.0 less below) g)) q
 
 pub bodies_changed : BodiesChanged
 bodies_changed places next is p l o a f h ordered each apart found at still g q =

@@ -128,7 +128,7 @@ module _ (places : Key → Option ℕ) (looks : Key → Look) (d : Dom) (is : In
       by_holder false off = (given.0, other h off ∙ given.1, given.2)
 
   held : AreHeld then_linked
-  held = record { linked = λ h q given. still_some q (b.bodies.linked h q (was_held h q given)); held = λ q some. by_held q (b.bodies.held q (was_some q some)) }
+  held = record { linked = λ h q given. still_some q (b.bodies.linked h q (was_held h q given)); held = λ q some. by_held q (b.bodies.held q (was_some q some)); nearest = λ h q r given some e. b.bodies.nearest h q r (was_held h q given) (was_some r some) e }
     where
       by_held : (q : List ℕ) → (q ≡ []) ⊎ ((h : List ℕ) × IsHeldIn h q is) → (q ≡ []) ⊎ ((h : List ℕ) × IsHeldIn h q then_linked)
       by_held q (inl top) = inl top
@@ -148,7 +148,9 @@ module _ (places : Key → Option ℕ) (looks : Key → Look) (d : Dom) (is : In
         sites = p.sites;
         anchors = arranged_anchors new k.page.outlets o ∙ p.anchors;
         rising = p.rising;
+        marked = p.marked;
         undrawn = arranged_undrawn k.page.serials k.fragment.parts new k.page.outlets o p.undrawn;
+        unbound = p.unbound;
         bodies = arranged_in holder new new_in k.page.outlets o p.bodies;
         once = λ q. (let few = p.once q in let e = same_counts q in omega (arith, few, e));
         end = p.end;

@@ -13,11 +13,12 @@ use Rattle.ng_dom.specs.declared.dom.Dom.{Dom}
 use Rattle.ng_dom.proofs.Counting.{names_stand}
 use Rattle.ng_dom.proofs.Homes.{live_names_are_given}
 use Rattle.ng_drawing.specs.Nodes.{nodes}
+use Rattle.ng_watch.specs.Keys.{begins}
 use Rattle.ng_link.specs.Building.{unset}
 use Rattle.ng_link.specs.Instances.{Linked, Instances, is_path, linked_at, keys_of, stands_join, stands_at, with_instance}
 use Rattle.ng_link.specs.Sources.{sources}
 use Rattle.ng_link.specs.Standing.{IsPlaced, IsHeldIn, IsBuilt, held_count}
-use Rattle.ng_link.proofs.Added.{new_stands, new_same}
+use Rattle.ng_link.proofs.Added.{new_stands}
 use Rattle.ng_link.proofs.BuiltMore.{AreBare, bare_count, bare_joined}
 use Rattle.ng_link.proofs.Homed.{older_live}
 use Rattle.ng_link.proofs.Names.{up, shape_names, up_among, distinct_up}
@@ -27,14 +28,11 @@ use Rattle.ng_link.proofs.Sorted.{none_in_order, insert_sorted}
 
 module _ (places : Key → Option ℕ) (looks same : Key → Look) (d g : Dom) (ts : Stands) (l : Linked) (b : IsBuilt places looks d [] ts)
     (node : l.page.node ≡ next_name d) (bare : AreBare l.page.outlets) (same_places : Key → Option ℕ) (placed : IsPlaced same_places (next_name g) [] l)
-    (fresh : (k : Key) → is_path [] k.path ≡ true → IsSome (same_places k) → unset k ≡ same k)
+    (starts : shows unset (new_stands l) ≡ shows same (new_stands l))
     (older : (q : ℕ) → q < next_name d → homes g q ≡ homes d q) (next : next_name g ≡ next_name d + nodes l.fragment.parts)
     (shown : Shows g (shows unset (new_stands l))) (homed : HomedAll (sources g) (new_stands l)) where
   abbrev one : Instances
   one = with_instance [] l []
-
-  starts : shows unset (new_stands l) ≡ shows same (new_stands l)
-  starts = new_same same_places same [] l (next_name g) g placed fresh homed
 
   names : all_names (shows same (new_stands l)) ≡ up (next_name d) (nodes l.fragment.parts)
   names =
@@ -78,6 +76,13 @@ module _ (places : Key → Option ℕ) (looks same : Key → Look) (d g : Dom) (
       by_test true is f = inl (path_is q [] is)
       by_test false is f = absurd (cc)
 
+  one_nearest : (h q r : List ℕ) → IsHeldIn h q one → IsSome (linked_at r one) → begins r q ≡ true → (r ≡ q) ⊎ (begins r h ≡ true)
+  one_nearest h q r given some b =
+      let that = (found_one h given.0 given.1).1 in
+      let none : held_count q given.0.page.outlets ≡ 0 = ap (λ (k : Linked). held_count q k.page.outlets) that ∙ bare_count q l.page.outlets bare in
+      let lt = given.2 in
+      absurd (omega (arith, none, lt))
+
   pub built_top : IsBuilt same_places same g one (new_stands l)
   built_top = record {
     holds = record {
@@ -90,5 +95,5 @@ module _ (places : Key → Option ℕ) (looks same : Key → Look) (d g : Dom) (
     ordered = insert_sorted path_cmp path_cmp_total [] l [] (none_in_order path_cmp);
     each = (placed, tt);
     apart = (tt, tt);
-    bodies = record { linked = one_linked; held = one_has };
+    bodies = record { linked = one_linked; held = one_has; nearest = one_nearest };
   }

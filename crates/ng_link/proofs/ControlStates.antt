@@ -13,11 +13,10 @@ use Rattle.ng_dom.specs.Drawing.{DifferAt}
 use Rattle.ng_drawing.specs.Looks.{seen_by}
 use Rattle.ng_drawing.specs.Template.{Control, Part, Contents, Parts, text_part, comment_part, element_part, anchor_part, children, bound, no_parts, part_then}
 use Rattle.ng_drawing.specs.Nodes.{part_nodes}
-use Rattle.ng_watch.specs.Keys.{key_cmp, is_key}
+use Rattle.ng_watch.specs.Keys.{key_cmp, is_key, begins}
 use Rattle.ng_watch.specs.Seen.{Watcher}
-use Rattle.ng_watch.specs.Table.{Table, found, with_kept}
+use Rattle.ng_watch.specs.Table.{Table, with_kept}
 use Rattle.ng_link.specs.Controls.{ControlHere, Controlled, with_control, part_controlled, contents_controlled, controlled, controlled_at, Controls, state_under, controls_begun, control_changed}
-use Rattle.ng_link.specs.Shape.{keys_in}
 use Rattle.ng_link.specs.State.{Resting, kept_or, kept_in, look_of, looks_of, control_of, controlled_of}
 use Rattle.ng_link.specs.declared.works.ControlHere as code
 use Rattle.ng_link.proofs.Keys.{key_is, other_key}
@@ -62,12 +61,12 @@ keeping_differs f k s t r cs q ne =
     ap (λ (o : Option Watcher). look_of (seen_by (state_under q cs) (kept_or o (lookup (is_key q) r)))) (sym (kept-other k q s t ne))
     ∙ control_differs f k (with_kept k s t) r cs q ne
 
--- all keys of controls are on a path
+-- all keys of controls are on a path, or below it
 abbrev pub AreOn : List ℕ → Controlled → Type 0
 AreOn p [] = Unit {0}
-AreOn p (e ∷ es) = (e.1.key.path ≡ p) × AreOn p es
+AreOn p (e ∷ es) = (begins p e.1.key.path ≡ true) × AreOn p es
 
-put_on : (p : List ℕ) (n : ℕ) (c : ControlHere) (t : Controlled) → c.key.path ≡ p → AreOn p t → AreOn p (insert_entry nat_cmp t n c)
+put_on : (p : List ℕ) (n : ℕ) (c : ControlHere) (t : Controlled) → begins p c.key.path ≡ true → AreOn p t → AreOn p (insert_entry nat_cmp t n c)
 put_on p n c [] on h = (on, tt)
 put_on p n c (e ∷ es) on h = by_order (nat_cmp n e.0) (put_on p n c es on h.1)
   where
@@ -76,13 +75,10 @@ put_on p n c (e ∷ es) on h = by_order (nat_cmp n e.0) (put_on p n c es on h.1)
     by_order Equal more = (on, h.1)
     by_order Greater more = (h.0, more)
 
-module _ (p serials : List ℕ) where
-  abbrev keys : ℕ → Key
-  keys = keys_in p serials
-
+module _ (p : List ℕ) (keys : ℕ → Key) (each : (n : ℕ) → begins p (keys n).path ≡ true) where
   one_on : (n : ℕ) (c : Option Control) (t : Controlled) → AreOn p t → AreOn p (with_control keys n c t)
   one_on n None t h = h
-  one_on n (Some c) t h = put_on p n _ t refl h
+  one_on n (Some c) t h = put_on p n _ t (each c.site) h
 
   mutual
     part_on : (n : ℕ) (x : Part) (t : Controlled) → AreOn p t → AreOn p (part_controlled keys n x t)
@@ -100,11 +96,11 @@ module _ (p serials : List ℕ) where
     all_on n (part_then x ps) t h = all_on (n + part_nodes x) ps (part_controlled keys n x t) (part_on n x t h)
 
 -- a control of another path stays as it was, where some begin
-pub begun-other : (p : List ℕ) (es : Controlled) (cs : Controls) (q : Key) → AreOn p es → (q.path ≡ p → ⊥) → state_under q (controls_begun es cs) ≡ state_under q cs
-begun-other p [] cs q on ne = refl
-begun-other p (e ∷ es) cs q on ne =
-    begun-other p es (insert_entry key_cmp cs e.1.key (fresh e.1.kind)) q on.1 ne
-    ∙ put-other e.1.key q (fresh e.1.kind) cs (λ same. ne (ap (λ (k : Key). k.path) same ∙ on.0))
+pub begun-other : (p : List ℕ) (es : Controlled) (cs : Controls) (q : Key) → AreOn p es → begins p q.path ≡ false → state_under q (controls_begun es cs) ≡ state_under q cs
+begun-other p [] cs q on off = refl
+begun-other p (e ∷ es) cs q on off =
+    begun-other p es (insert_entry key_cmp cs e.1.key (fresh e.1.kind)) q on.1 off
+    ∙ put-other e.1.key q (fresh e.1.kind) cs (λ same. let two : true ≡ false = sym on.0 ∙ (ap (λ (k : Key). begins p k.path) (sym same) ∙ off) in cc)
 
 -- controls that are entered, as they are kept and as they are seen
 pub entered-seen : (n : ℕ) (es : List (ℕ × code.ControlHere)) → option_map control_of (lookup (is_at (nat_cmp n)) es) ≡ controlled_at n (controlled_of es)

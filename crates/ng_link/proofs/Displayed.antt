@@ -1,5 +1,5 @@
 -- What is linked displays the drawing of its instance, with what that has kept.
-use Rattle.std.proofs.Common.{◌≡◌, ◌<◌, ℕ, zero, suc, Bool, List, [], ◌∷◌, ◌++◌, Option, Some, refl, ap, ◌∙◌, sym, subst, map, length, slice_get, slice_index_or, arith}
+use Rattle.std.proofs.Common.{◌≡◌, ◌<◌, ℕ, zero, suc, Bool, List, [], ◌∷◌, ◌++◌, Option, Some, refl, ap, ◌∙◌, sym, subst, map, length, get_or, slice_get, slice_index_or, arith}
 use Rattle.std.specs.Prelude.{◌||◌, option_map}
 use Rattle.std.proofs.lemmas.Option.{slice_get-map, slice_get-get_or}
 use Rattle.std.specs.List.{flat_map, list_any}
@@ -22,13 +22,14 @@ use Rattle.ng_drawing.specs.Template.{Piece, word, hole, Hiding, while_true, whi
 use Rattle.ng_watch.specs.Table.{Table}
 use Rattle.ng_link.specs.Controls.{Controls}
 use Rattle.ng_link.specs.Holes.{PiecesBelow, SitesBelow, HidingsBelow, ClassBelow, ValueBelow, ValuesBelow, PartBelow, ContentsBelow, HolesBelow}
-use Rattle.ng_link.specs.Instances.{OutletState, Page, Linked, Instances, keys_of, bodies_from, groups_from, stands_join, stands_at}
+use Rattle.ng_link.specs.Instances.{OutletState, Page, Linked, Instances, scope_number, key_in, keys_of, bodies_from, groups_from, stands_join, stands_at}
 use Rattle.ng_link.specs.Laws.{PageDisplaysInstance, PageHasItsNames}
-use Rattle.ng_link.specs.Shape.{key_on}
+use Rattle.ng_link.specs.Registering.{mark_in}
 use Rattle.ng_link.specs.Standing.{IsPlaced, ArePlaced, Standing}
 use Rattle.ng_link.specs.State.{State, Resting, looks_of, seen_under, looks_in, site_state, site_states, nothing_linked, groups_in, instance_join, instance_at, shown, live_nodes, places_of, state_of}
 use Rattle.ng_link.specs.declared.works.Works.{Works}
 use Rattle.ng_link.proofs.Below.{all_below}
+use Rattle.ng_link.proofs.Inner.{keys_at}
 use Rattle.ng_link.proofs.ReadAlike.{Alike, read_alike}
 use Rattle.ng_link.proofs.Shapes.{same_followed, shape_draws}
 
@@ -97,10 +98,14 @@ abbrev seen_of_site : Option SiteState → Seen
 seen_of_site s = seen_by (state_control s) (state_kept s)
 
 -- the state of a site by its number
-state_at : (t : Table) (r : Resting) (cs : Controls) (p : Page) (j : ℕ) → j < length p.serials → slice_get (site_states t r cs p) j ≡ Some (site_state t r cs p.scope (keys_of p j))
+state_at : (t : Table) (r : Resting) (cs : Controls) (p : Page) (j : ℕ) → j < length p.serials → slice_get (site_states t r cs p) j ≡ Some (site_state t r cs (scope_number p (mark_in p.marks (get_or p.serials j 0)).over) (keys_of p j))
 state_at t r cs p j lt =
-    let state = λ (n : ℕ). site_state t r cs p.scope (key_on p.path n) in
-    slice_get-map state p.serials j ∙ ap (option_map state) (slice_get-get_or p.serials j 0 lt)
+    let s : ℕ = get_or p.serials j 0 in
+    let at : slice_get p.serials j ≡ Some s = slice_get-get_or p.serials j 0 lt in
+    let state = λ (n : ℕ). site_state t r cs (scope_number p (mark_in p.marks n).over) (key_in p n) in
+    slice_get-map state p.serials j
+    ∙ (ap (option_map state) at
+    ∙ ap (λ (k : Key). Some (site_state t r cs (scope_number p (mark_in p.marks s).over) k)) (sym (keys_at p j s at)))
 
 -- what stands is drawn as the instance that is read off, with what its sites have kept
 module _ (t : Table) (r : Resting) (cs : Controls) (places : Key → Option ℕ) (next : ℕ) where

@@ -7,8 +7,8 @@ use Rattle.std.specs.Ordering.{nat_cmp}
 use Rattle.std.specs.declared.alloc.Global.{Global}
 use Rattle.std.specs.declared.vec.Vec.{Vec}
 use Rattle.std.proofs.lemmas.Map.Made.{lookup-map_values}
-use Rattle.ng_template.specs.Seen.{handler_of}
-use Rattle.ng_template.specs.declared.acts.Handler.{Handler}
+use Rattle.ng_parts.specs.Seen.{handler_of}
+use Rattle.ng_parts.specs.declared.acts.Handler.{Handler}
 use Rattle.ng_link.specs.Handlers.{Handlers, Handled, with_handlers, entered_at, is_entered}
 use Rattle.ng_link.specs.State.{handled_of}
 use Rattle.ng_link.proofs.Tables.{put-seen}

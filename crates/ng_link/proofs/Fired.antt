@@ -112,17 +112,18 @@ written_fewer v (Some n) d e told = tells_fewer (drawn_anew v (sources d n)) n d
 -- what stood stands, where what is shown differs at a key at most, and the node of its site shows that
 pub told_stands : (w : Works) (ws : List (Key × Watched)) (cs : BTreeMap Key ControlState) (d : Dom) (k : Key)
     → DifferAt k (looks_in (state_of w)) (looks_of (watchers_of ws) (state_of w).resting cs.entries)
-    → WritesAt (looks_of (watchers_of ws) (state_of w).resting cs.entries) (spot_in w.instances.entries k) w.dom d
+    → WritesAt (looks_of (watchers_of ws) (state_of w).resting cs.entries) (spot_in w.inner.entries w.instances.entries k) w.dom d
     → WatchersStand (length (state_of w).core.objects) (watchers_of ws)
     → (ts : Stands) → Standing w ts → Standing (record w { watchers = ws; controls = cs; dom = d }) ts
 told_stands w ws cs d k off writes watched ts g =
     let v = looks_in (state_of w) in
     let now = looks_of (watchers_of ws) (state_of w).resting cs.entries in
-    let o = spot_in w.instances.entries k in
+    let o = spot_in w.inner.entries w.instances.entries k in
     let is_held = built_held (places_of w) v w.dom (state_of w).instances ts g.built in
     let shown = written_shows (places_of w) w.dom d k v now ts is_held off g.built.holds.shows o refl writes in
     record {
       built = built_told (places_of w) v now w.dom d (state_of w).instances ts (written_fewer now o w.dom d writes) shown.0 shown.1 g.built;
+      inner = g.inner;
       below = g.below;
       watched = watched;
     }
@@ -130,7 +131,7 @@ told_stands w ws cs d k off writes watched ts g =
 -- where the watcher of a key keeps something, and a control drops what was typed
 pub kept_stands : (w : Works) (ws : List (Key × Watched)) (cs : BTreeMap Key ControlState) (d : Dom) (k : Key) (s : Option ViewTree) (f : ControlState → ControlState)
     → watchers_of ws ≡ with_kept k s (state_of w).watchers → cs.entries ≡ control_changed f k (state_of w).controls
-    → WritesAt (looks_of (watchers_of ws) (state_of w).resting cs.entries) (spot_in w.instances.entries k) w.dom d
+    → WritesAt (looks_of (watchers_of ws) (state_of w).resting cs.entries) (spot_in w.inner.entries w.instances.entries k) w.dom d
     → (ts : Stands) → Standing w ts → Standing (record w { watchers = ws; controls = cs; dom = d }) ts
 kept_stands w ws cs d k s f is dropped writes ts g =
     told_stands w ws cs d k
@@ -139,7 +140,7 @@ kept_stands w ws cs d k s f is dropped writes ts g =
 
 -- where a control takes something
 pub control_stands : (w : Works) (cs : BTreeMap Key ControlState) (d : Dom) (k : Key) (f : ControlState → ControlState) → cs.entries ≡ control_changed f k (state_of w).controls
-    → WritesAt (looks_of (state_of w).watchers (state_of w).resting cs.entries) (spot_in w.instances.entries k) w.dom d
+    → WritesAt (looks_of (state_of w).watchers (state_of w).resting cs.entries) (spot_in w.inner.entries w.instances.entries k) w.dom d
     → (ts : Stands) → Standing w ts → Standing (record w { controls = cs; dom = d }) ts
 control_stands w cs d k f is writes ts g =
     told_stands w w.watchers cs d k (λ q ne. rw is (control_differs f k (state_of w).watchers (state_of w).resting (state_of w).controls q ne)) writes g.watched ts g

@@ -1,10 +1,10 @@
 -- The fragments that instances are of.
 use Rattle.std.proofs.Common.{◌≡◌, ◌≤◌, List, Option, Some, None, refl, ap, subst, length}
-use Rattle.std.specs.Prelude.{IsSome, IfSome, option_and_then, unwrap_or}
+use Rattle.std.specs.Prelude.{IsSome, IfSome, option_map, option_and_then, unwrap_or}
 use Rattle.std.proofs.lemmas.Option.{slice_get_past}
 use Rattle.ng_drawing.specs.Template.{Fragment, no_fragment, fragment_at}
 use Rattle.ng_drawing.specs.declared.origin.Origin.{Origin}
-use Rattle.ng_template.specs.Kept.{Named, including, fragment_for, fragments_in}
+use Rattle.ng_compose.specs.Kept.{Named, including, composing, fragment_for, fragments_in}
 
 pub fragment_or : (all : List Named) (o : Origin) (f : Fragment) → fragment_for all o ≡ Some f → fragments_in all o ≡ f
 fragment_or all o f at = ap (λ (x : Option Fragment). unwrap_or x no_fragment) at
@@ -12,7 +12,7 @@ fragment_or all o f at = ap (λ (x : Option Fragment). unwrap_or x no_fragment) 
 -- no template has a number that is past all
 pub fragment_past : (all : List Named) (o : Origin) → length all ≤ o.home.template.0 → fragments_in all o ≡ no_fragment
 fragment_past all o le =
-    ap (λ (x : Option Named). unwrap_or (option_and_then (including all o.included) (option_and_then (λ (k : Named). fragment_at k.1 o.fragment) x)) no_fragment) (slice_get_past all o.home.template.0 le)
+    ap (λ (x : Option Named). unwrap_or (option_map (composing all o) (option_and_then (including all o.included) (option_and_then (λ (k : Named). fragment_at k.1 o.fragment) x))) no_fragment) (slice_get_past all o.home.template.0 le)
 
 -- a fragment that is there
 pub fragment_found : (o : Option Fragment) → IsSome o → (f : Fragment) × (o ≡ Some f)

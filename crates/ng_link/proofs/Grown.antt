@@ -1,5 +1,5 @@
 -- The table of instances where one comes as a body of another.
-use Rattle.std.proofs.Common.{◌≡◌, ◌⊎◌, inl, inr, ◌+◌, ◌<◌, ◌≤◌, ℕ, zero, suc, Bool, true, false, cond, List, [], ◌∷◌, ◌++◌, Option, Some, None, refl, ap, ◌∙◌, sym, subst, slice_get, arith}
+use Rattle.std.proofs.Common.{◌≡◌, ◌⊎◌, inl, inr, ◌+◌, ◌<◌, ◌≤◌, ℕ, zero, suc, Bool, true, false, cond, List, [], ◌∷◌, Option, Some, None, refl, ap, ◌∙◌, sym, subst, slice_get, arith}
 use Rattle.std.specs.Prelude.{IsSome, option_map}
 use Rattle.std.specs.List.{AllByRecursion}
 use Rattle.std.specs.List.Sorted.{IsStrictlySortedBy}
@@ -12,10 +12,11 @@ use Rattle.ng_link.specs.Building.{AllAt}
 use Rattle.ng_drawing.specs.Roles.{Role}
 use Rattle.ng_link.specs.Instances.{Body, OutletState, Linked, Instances, is_path, linked_at, keys_of, with_outlets, outlets_changed, body_added, with_instance}
 use Rattle.ng_link.specs.Shape.{holes}
-use Rattle.ng_link.specs.Standing.{IsPlaced, ArePlaced, Apart, AreApart, IsHeldIn, AreHeld, held_count}
+use Rattle.ng_link.specs.Standing.{IsBelow, IsPlaced, ArePlaced, Apart, AreApart, IsHeldIn, AreHeld, held_count}
+use Rattle.ng_watch.specs.Keys.{begins}
 use Rattle.ng_link.proofs.BodiesAt.{added_anchors, added_undrawn, added_in, added_count, added_more, added_there}
 use Rattle.ng_link.proofs.Lookups.{changed_keys, changed_other, changed_here, changed_all, changed_apart, inserted_here, inserted_other, inserted_all, inserted_apart}
-use Rattle.ng_link.proofs.Paths.{path_is, same_path, other_path, less_other, longer}
+use Rattle.ng_link.proofs.Paths.{path_is, same_path, other_path, less_other, below_other, two_ways}
 use Rattle.ng_link.proofs.ReadOff.{at_path}
 use Rattle.ng_link.proofs.Sorted.{insert_sorted}
 
@@ -54,20 +55,23 @@ none_there p (e ∷ es) free = by_test (is_path p e.0) refl free (none_there p e
     by_test false is same more = (is, more same)
 
 -- sites of other instances are where they were
-pub still_at : (site same : Key → Option ℕ) (keys : ℕ → Key) → ((n : ℕ) → same (keys n) ≡ site (keys n)) → (n : ℕ) (xs : List ℕ) → AllAt site keys n xs → AllAt same keys n xs
+pub still_at : (site same : Key → Option ℕ) (keys : ℕ → Key) → ((n x : ℕ) → site (keys n) ≡ Some x → same (keys n) ≡ Some x) → (n : ℕ) (xs : List ℕ) → AllAt site keys n xs → AllAt same keys n xs
 still_at site same keys h n [] at = tt
-still_at site same keys h n (x ∷ xs) at = (h n ∙ at.0, still_at site same keys h (n + 1) xs at.1)
+still_at site same keys h n (x ∷ xs) at = (h n x at.0, still_at site same keys h (n + 1) xs at.1)
 
-pub still_placed : (places same : Key → Option ℕ) (next end : ℕ) (p : List ℕ) (l : Linked) → ((k : Key) → k.path ≡ p → same k ≡ places k) → next ≤ end → IsPlaced places next p l → IsPlaced same end p l
+pub still_placed : (places same : Key → Option ℕ) (next end : ℕ) (p : List ℕ) (l : Linked) → ((n x : ℕ) → places (keys_of l.page n) ≡ Some x → same (keys_of l.page n) ≡ Some x) → next ≤ end
+    → IsPlaced places next p l → IsPlaced same end p l
 still_placed places same next end p l h le placed = record {
   path = placed.path;
   numbered = placed.numbered;
   outlets = placed.outlets;
   count = placed.count;
-  sites = still_at places same (keys_of l.page) (λ n. h (keys_of l.page n) placed.path) 0 (holes l.page.node l.fragment.parts) placed.sites;
+  sites = still_at places same (keys_of l.page) h 0 (holes l.page.node l.fragment.parts) placed.sites;
   anchors = placed.anchors;
   rising = placed.rising;
+  marked = placed.marked;
   undrawn = placed.undrawn;
+  unbound = placed.unbound;
   bodies = placed.bodies;
   once = placed.once;
   end = let first = placed.end in omega (arith, first, le);
@@ -96,12 +100,9 @@ none_holds p is ordered held free =
     by_count x at zero e = e
     by_count x at (suc c) e = absurd (no_some (linked_at p is) free (held.linked x.0 p (x.1, at, omega (arith, e))))
 
-module _ (holder : List ℕ) (n o i : ℕ) (role : Role) (m : Linked) (x : OutletState) (l : Linked) (is : Instances)
+module _ (holder path : List ℕ) (below : IsBelow holder path) (o i : ℕ) (role : Role) (m : Linked) (x : OutletState) (l : Linked) (is : Instances)
     (ordered : IsStrictlySortedBy path_cmp (map_keys is)) (held : AreHeld is) (found : linked_at holder is ≡ Some m) (at : slice_get m.page.outlets o ≡ Some x)
-    (free : linked_at (holder ++ n ∷ []) is ≡ None) where
-  abbrev pub path : List ℕ
-  path = holder ++ n ∷ []
-
+    (free : linked_at path is ≡ None) where
   abbrev pub body : Body
   body = record { path = path; role = role }
 
@@ -115,10 +116,10 @@ module _ (holder : List ℕ) (n o i : ℕ) (role : Role) (m : Linked) (x : Outle
   grown = outlets_changed holder more come
 
   off_holder : is_path holder path ≡ false
-  off_holder = other_path holder path (longer holder n)
+  off_holder = other_path holder path (below_other holder path below)
 
   off_path : is_path path holder ≡ false
-  off_path = other_path path holder (λ e. longer holder n (sym e))
+  off_path = other_path path holder (λ e. below_other holder path below (sym e))
 
   pub come_holder : linked_at holder come ≡ Some m
   come_holder = inserted_other path l is holder off_holder ∙ found
@@ -145,12 +146,11 @@ module _ (holder : List ℕ) (n o i : ℕ) (role : Role) (m : Linked) (x : Outle
   holder_free = at_path (λ (y : List ℕ × Linked). held_count path y.1.page.outlets ≡ 0) holder m is none_has found
 
   -- they are placed
-  module _ (places same : Key → Option ℕ) (next end : ℕ) (each : ArePlaced places next is) (old : (k : Key) → is_path path k.path ≡ false → same k ≡ places k) (le : next ≤ end) (placed : IsPlaced same end path l) where
+  module _ (places same : Key → Option ℕ) (next end : ℕ) (each : ArePlaced places next is) (old : (k : Key) (y : ℕ) → places k ≡ Some y → same k ≡ Some y) (le : next ≤ end) (placed : IsPlaced same end path l) where
     still : ArePlaced same end is
     still =
-        all_weaker (λ (y : List ℕ × Linked). IsPlaced places next y.0 y.1 × (is_path path y.0 ≡ false)) (λ (y : List ℕ × Linked). IsPlaced same end y.0 y.1)
-        (λ y h. still_placed places same next end y.0 y.1 (λ k is. old k (ap (is_path path) is ∙ h.1)) le h.0) is
-        (all_both (λ (y : List ℕ × Linked). IsPlaced places next y.0 y.1) (λ (y : List ℕ × Linked). is_path path y.0 ≡ false) is each (none_there path is free))
+        all_weaker (λ (y : List ℕ × Linked). IsPlaced places next y.0 y.1) (λ (y : List ℕ × Linked). IsPlaced same end y.0 y.1)
+        (λ y h. still_placed places same next end y.0 y.1 (λ n z e. old (keys_of y.1.page n) z e) le h) is each
 
     pub come_placed : ArePlaced same end come
     come_placed = inserted_all path l (λ (y : List ℕ × Linked). IsPlaced same end y.0 y.1) is placed still
@@ -185,8 +185,10 @@ module _ (holder : List ℕ) (n o i : ℕ) (role : Role) (m : Linked) (x : Outle
           sites = p.sites;
           anchors = added_anchors body k.page.outlets o i ∙ p.anchors;
           rising = p.rising;
+          marked = p.marked;
           undrawn = added_undrawn k.page.serials k.fragment.parts body k.page.outlets o i p.undrawn;
-          bodies = added_in holder body (n, refl) k.page.outlets o i p.bodies;
+          unbound = p.unbound;
+          bodies = added_in holder body below k.page.outlets o i p.bodies;
           once = one_at_most k none p.once;
           end = p.end;
         })
@@ -271,5 +273,70 @@ module _ (holder : List ℕ) (n o i : ℕ) (role : Role) (m : Linked) (x : Outle
             inr (holder, (with_outlets more m, grown_holder, subst (λ (r : List ℕ). 0 < held_count r (more m.page.outlets)) (sym (path_is q path is_it)) lt))
         by_path false away = old_holder (held.held q (old_some (is_path q holder) refl away))
 
-    pub grown_held : AreHeld grown
-    grown_held = record { linked = grown_linked; held = grown_has }
+    -- no instance stands between
+    was_held : (h q : List ℕ) → is_path q path ≡ false → IsHeldIn h q grown → IsHeldIn h q is
+    was_held h q off given = by_holder (is_path h holder) refl
+      where
+        by_path : (b : Bool) → is_path h path ≡ b → is_path h holder ≡ false → IsHeldIn h q is
+        by_path true is_it away =
+            let two : Some given.0 ≡ Some l = sym given.1 ∙ (ap (λ (r : List ℕ). linked_at r grown) (path_is h path is_it) ∙ grown_new) in
+            let that : given.0 ≡ l = cc in
+            let none : held_count q given.0.page.outlets ≡ 0 = ap (λ (k : Linked). held_count q k.page.outlets) that ∙ empty q in
+            let lt = given.2 in
+            absurd (omega (arith, none, lt))
+        by_path false not_it away = (given.0, sym (grown_other h away not_it) ∙ given.1, given.2)
+
+        by_holder : (b : Bool) → is_path h holder ≡ b → IsHeldIn h q is
+        by_holder true is_it =
+            let two : Some given.0 ≡ Some (with_outlets more m) = sym given.1 ∙ (ap (λ (r : List ℕ). linked_at r grown) (path_is h holder is_it) ∙ grown_holder) in
+            let that : given.0 ≡ with_outlets more m = cc in
+            let lt : 0 < held_count q (more m.page.outlets) = subst (λ (k : Linked). 0 < held_count q k.page.outlets) that given.2 in
+            let count = added_count q body m.page.outlets o i in
+            let none : cond {A = ℕ} (is_path q path) 1 0 ≡ 0 = ap (λ (b : Bool). cond {A = ℕ} b 1 0) off in
+            (m, ap (λ (r : List ℕ). linked_at r is) (path_is h holder is_it) ∙ found, omega (arith, count, none, lt))
+        by_holder false away = by_path (is_path h path) refl away
+
+    was_some : (r : List ℕ) → is_path r path ≡ false → IsSome (linked_at r grown) → IsSome (linked_at r is)
+    was_some r away some = by_holder (is_path r holder) refl
+      where
+        by_holder : (b : Bool) → is_path r holder ≡ b → IsSome (linked_at r is)
+        by_holder true is_it = is_some_of (linked_at r is) m (ap (λ (s : List ℕ). linked_at s is) (path_is r holder is_it) ∙ found)
+        by_holder false off = subst (λ (k : Option Linked). IsSome k) (grown_other r off away) some
+
+    -- the one that came is held by this holder alone
+    new_holder : (h : List ℕ) → IsHeldIn h path grown → h ≡ holder
+    new_holder h given = by_holder (is_path h holder) refl
+      where
+        by_path : (b : Bool) → is_path h path ≡ b → is_path h holder ≡ false → h ≡ holder
+        by_path true is_it away =
+            let two : Some given.0 ≡ Some l = sym given.1 ∙ (ap (λ (r : List ℕ). linked_at r grown) (path_is h path is_it) ∙ grown_new) in
+            let that : given.0 ≡ l = cc in
+            let none : held_count path given.0.page.outlets ≡ 0 = ap (λ (k : Linked). held_count path k.page.outlets) that ∙ empty path in
+            let lt = given.2 in
+            absurd (omega (arith, none, lt))
+        by_path false not_it away =
+            let none = at_path (λ (y : List ℕ × Linked). held_count path y.1.page.outlets ≡ 0) h given.0 is none_has (sym (grown_other h away not_it) ∙ given.1) in
+            let lt = given.2 in
+            absurd (omega (arith, none, lt))
+
+        by_holder : (b : Bool) → is_path h holder ≡ b → h ≡ holder
+        by_holder true is_it = path_is h holder is_it
+        by_holder false away = by_path (is_path h path) refl away
+
+    module _ (unused : (q : List ℕ) → IsSome (linked_at q is) → begins path q ≡ false) (near : (q : List ℕ) → IsSome (linked_at q is) → begins q path ≡ true → begins q holder ≡ true) where
+      grown_nearest : (h q r : List ℕ) → IsHeldIn h q grown → IsSome (linked_at r grown) → begins r q ≡ true → (r ≡ q) ⊎ (begins r h ≡ true)
+      grown_nearest h q r given some b = by_body (is_path q path) refl (is_path r path) refl
+        where
+          by_body : (t : Bool) → is_path q path ≡ t → (u : Bool) → is_path r path ≡ u → (r ≡ q) ⊎ (begins r h ≡ true)
+          by_body true body_is true other_is = inl (path_is r path other_is ∙ sym (path_is q path body_is))
+          by_body true body_is false other_off =
+              let here : q ≡ path = path_is q path body_is in
+              let its : h ≡ holder = new_holder h (subst (λ (s : List ℕ). IsHeldIn h s grown) here given) in
+              inr (ap (begins r) its ∙ near r (was_some r other_off some) (ap (begins r) (sym here) ∙ b))
+          by_body false body_off true other_is =
+              let there = held.linked h q (was_held h q body_off given) in
+              two_ways (begins path q) (ap (λ (s : List ℕ). begins s q) (sym (path_is r path other_is)) ∙ b) (unused q there)
+          by_body false body_off false other_off = held.nearest h q r (was_held h q body_off given) (was_some r other_off some) b
+
+      pub grown_held : AreHeld grown
+      grown_held = record { linked = grown_linked; held = grown_has; nearest = grown_nearest }

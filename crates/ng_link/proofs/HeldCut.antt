@@ -10,8 +10,8 @@ use Rattle.ng_base.specs.declared.path.Key.{Key}
 use Rattle.std.specs.BTreeMap.{is_at}
 use Rattle.std.specs.Ordering.{nat_cmp}
 use Rattle.ng_dom.specs.Lists.{without_at}
-use Rattle.ng_template.specs.Kept.{Named}
-use Rattle.ng_link.specs.Instances.{Body, OutletState, Instances, is_path, with_outlets, outlets_changed}
+use Rattle.ng_compose.specs.Kept.{Named}
+use Rattle.ng_link.specs.Instances.{Body, OutletState, Instances, Inners, instance_path, is_path, with_outlets, outlets_changed}
 use Rattle.ng_link.specs.Standing.{body_count, held_count}
 use Rattle.ng_link.specs.State.{body_of, outlet_of, linked_of, instances_of, spot_at, spot_in}
 use Rattle.ng_link.specs.Unlinking.{IsHeldAt, body_cut}
@@ -93,25 +93,25 @@ module _ (all : List Named) (holder : List ℕ) (f : List OutletState → List O
       by_test false h more = ap (λ (is : Instances). (e.0, linked_of all e.0 e.1) ∷ is) (more h)
 
 -- the spots of sites are where they were
-pub set_spots : (holder : List ℕ) (one new : code.Linked) (es : List (List ℕ × code.Linked)) → lookup (is_path holder) es ≡ Some one → new.spots ≡ one.spots → (k : Key) → spot_in (set_value (is_path holder) es new) k ≡ spot_in es k
-set_spots holder one new [] at same k = refl
-set_spots holder one new (e ∷ es) at same k = by_test (is_path holder e.0) refl at (λ h. set_spots holder one new es h same k)
+pub set_spots : (inner : Inners) (holder : List ℕ) (one new : code.Linked) (es : List (List ℕ × code.Linked)) → lookup (is_path holder) es ≡ Some one → new.spots ≡ one.spots → (k : Key) → spot_in inner (set_value (is_path holder) es new) k ≡ spot_in inner es k
+set_spots inner holder one new [] at same k = refl
+set_spots inner holder one new (e ∷ es) at same k = by_test (is_path holder e.0) refl at (λ h. set_spots inner holder one new es h same k)
   where
     spot : Option code.Linked → Option ℕ
     spot o = option_and_then (λ i. spot_at i k) o
 
-    by_here : (c : Bool) → e.1 ≡ one → spot (cond c (Some new) (lookup (is_path k.path) es)) ≡ spot (cond c (Some e.1) (lookup (is_path k.path) es))
+    by_here : (c : Bool) → e.1 ≡ one → spot (cond c (Some new) (lookup (is_path (instance_path inner k.path)) es)) ≡ spot (cond c (Some e.1) (lookup (is_path (instance_path inner k.path)) es))
     by_here true is = ap (λ s. lookup (is_at (nat_cmp k.serial.0)) s.entries) (same ∙ ap (λ (i : code.Linked). i.spots) (sym is))
     by_here false is = refl
 
-    by_there : (c : Bool) → spot_in (set_value (is_path holder) es new) k ≡ spot_in es k → spot (cond c (Some e.1) (lookup (is_path k.path) (set_value (is_path holder) es new))) ≡ spot (cond c (Some e.1) (lookup (is_path k.path) es))
+    by_there : (c : Bool) → spot_in inner (set_value (is_path holder) es new) k ≡ spot_in inner es k → spot (cond c (Some e.1) (lookup (is_path (instance_path inner k.path)) (set_value (is_path holder) es new))) ≡ spot (cond c (Some e.1) (lookup (is_path (instance_path inner k.path)) es))
     by_there true more = refl
     by_there false more = more
 
-    by_test : (b : Bool) → is_path holder e.0 ≡ b → cond b (Some e.1) (lookup (is_path holder) es) ≡ Some one → (lookup (is_path holder) es ≡ Some one → spot_in (set_value (is_path holder) es new) k ≡ spot_in es k)
-        → spot_in (cond b ((e.0, new) ∷ es) (e ∷ set_value (is_path holder) es new)) k ≡ spot_in (e ∷ es) k
-    by_test true is h more = by_here (is_path k.path e.0) (let s : e.1 ≡ one = cc in s)
-    by_test false is h more = by_there (is_path k.path e.0) (more h)
+    by_test : (b : Bool) → is_path holder e.0 ≡ b → cond b (Some e.1) (lookup (is_path holder) es) ≡ Some one → (lookup (is_path holder) es ≡ Some one → spot_in inner (set_value (is_path holder) es new) k ≡ spot_in inner es k)
+        → spot_in inner (cond b ((e.0, new) ∷ es) (e ∷ set_value (is_path holder) es new)) k ≡ spot_in inner (e ∷ es) k
+    by_test true is h more = by_here (is_path (instance_path inner k.path) e.0) (let s : e.1 ≡ one = cc in s)
+    by_test false is h more = by_there (is_path (instance_path inner k.path) e.0) (more h)
 
 -- where a body is held, it is found
 pub held_match : (p : List ℕ) (kept seen : List code_outlet.OutletState) (os : List OutletState) (r : Option (ℕ × ℕ)) → kept ≡ seen → map outlet_of seen ≡ os → 0 < held_count p os

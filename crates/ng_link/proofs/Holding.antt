@@ -9,11 +9,11 @@ use Rattle.ng_dom.specs.Drawing.{Source, Bodies, HolesAt, KeysAt, hiding_key, Va
 use Rattle.ng_drawing.specs.Nodes.{part_nodes}
 use Rattle.ng_drawing.specs.Template as template
 use Rattle.ng_drawing.specs.Template.{word, hole, while_true, while_false, PartValue, always, unless_empty, flag, classes, PartAttributes, Part, Contents, Parts, text_part, comment_part, element_part, anchor_part, children, bound, no_parts, part_then}
-use Rattle.ng_template.specs.Numbering.{after_pieces, after_own, after_contents, after_part, after_parts, is_within, is_apart, is_piece_drawn, is_hiding_drawn, is_value_drawn, are_drawn}
+use Rattle.ng_parts.specs.Numbering.{bound_numbers, after_pieces, after_own, after_contents, after_part, after_parts, is_within, is_apart, is_piece_drawn, is_hiding_drawn, is_value_drawn, are_drawn}
 use Rattle.ng_link.specs.Building.{Homed, HomedAll, AllAt}
 use Rattle.ng_link.specs.Shape.{linked_pieces, linked_hiding, linked_value, linked_values, part_shape, content_shape, shape, own_node, piece_holes, part_holes, content_holes, holes}
 use Rattle.ng_link.proofs.Below.{within, apart}
-use Rattle.ng_link.proofs.Numbers.{both_true, first_then, next_own, next_hole, contents_children, contents_bound, counted_own, counted_part}
+use Rattle.ng_link.proofs.Numbers.{both_true, first_then, bound_then, next_own, next_hole, contents_children, contents_bound, counted_own, counted_part}
 
 -- names at rising keys, cut in two
 at_append : (site : Key → Option ℕ) (keys : ℕ → Key) (n k : ℕ) (xs ys : List ℕ) → k ≡ n + length xs → AllAt site keys n (xs ++ ys) → AllAt site keys n xs × AllAt site keys k ys
@@ -76,10 +76,13 @@ module _ (site : Key → Option ℕ) (home : ℕ → Option Source) (keys : ℕ 
       part_held n m c (text_part ps) e h g = (g, pieces_held n m c ps e h)
       part_held n m c (comment_part t) e h g = g
       part_held n m c (element_part t own acts ats p) e h g =
-          let two = first_then (after_own n own) (λ d. after_contents n d ats p) c e in
-          let many : two.0 ≡ n + length (map (own_node m p) own) = counted_own n two.0 own two.1 ∙ ap (λ (i : ℕ). n + i) (sym (length-map own (own_node m p))) in
-          let both = at_append site keys n two.0 (map (own_node m p) own) (content_holes (m + 1) p) many h in
-          let more = contents_held n two.0 m c ats p two.2 (own_at (own_node m p) n two.0 own two.1 both.0) both.1 g.1 in
+          let z = bound_then n own acts ats p c e in
+          let before : z.0 ≡ n + length (map (λ (k : ℕ). m) (bound_numbers acts)) = counted_own n z.0 (bound_numbers acts) z.1 ∙ ap (λ (i : ℕ). n + i) (sym (length-map (bound_numbers acts) (λ (k : ℕ). m))) in
+          let behind = (at_append site keys n z.0 (map (λ (k : ℕ). m) (bound_numbers acts)) (map (own_node m p) own ++ content_holes (m + 1) p) before h).1 in
+          let two = first_then (after_own z.0 own) (λ d. after_contents z.0 d ats p) c z.2 in
+          let many : two.0 ≡ z.0 + length (map (own_node m p) own) = counted_own z.0 two.0 own two.1 ∙ ap (λ (i : ℕ). z.0 + i) (sym (length-map own (own_node m p))) in
+          let both = at_append site keys z.0 two.0 (map (own_node m p) own) (content_holes (m + 1) p) many behind in
+          let more = contents_held z.0 two.0 m c ats p two.2 (own_at (own_node m p) z.0 two.0 own two.1 both.0) both.1 g.1 in
           (g.0, more.0, more.1)
       part_held n m c (anchor_part outlet own starts) e h g = (g.0, inside outlet g.1)
 

@@ -24,6 +24,7 @@ pub mod BodiesChanged
 pub mod Reached
 pub mod Grown
 pub mod Shrunk
+pub mod Inner
 pub mod Added
 pub mod Removed
 pub mod BuiltSame
@@ -38,12 +39,15 @@ pub mod Rested
 pub mod Same
 pub mod Built
 pub mod Loops
+pub mod Noted
 pub mod Serials
 pub mod Rows
+pub mod Marks
 pub mod Displayed
 pub mod Fired
 pub mod Counted
 pub mod Written
+pub mod NewInstance
 pub mod Links
 pub mod Bare
 pub mod Lives
@@ -53,6 +57,8 @@ pub mod Cuts
 pub mod Firsts
 pub mod HeldCut
 pub mod Unlinked
+pub mod Showing
+pub mod Free
 pub mod Undrawn
 pub mod Forgotten
 pub mod Times

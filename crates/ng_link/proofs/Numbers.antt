@@ -1,13 +1,13 @@
 -- Sites that are numbered in document order: how many there are.
-use Rattle.std.proofs.Common.{◌≡◌, ◌+◌, ℕ, Bool, true, false, cond, List, [], ◌∷◌, Option, Some, None, refl, ap, map, length, arith, length-append}
+use Rattle.std.proofs.Common.{◌≡◌, ◌+◌, ℕ, Bool, true, false, cond, List, [], ◌∷◌, ◌++◌, Option, Some, None, refl, ap, map, length, arith, length-append}
 use Rattle.std.specs.Prelude.{◌==◌, ◌&&◌, option_and_then}
 use Rattle.std.specs.List.{list_all}
 use Rattle.std.proofs.lemmas.Bool.{eqb-true}
 use Rattle.std.proofs.lemmas.List.{length-map}
 use Rattle.ng_drawing.specs.Nodes.{part_nodes}
 use Rattle.ng_drawing.specs.Template as template
-use Rattle.ng_drawing.specs.Template.{word, hole, PartAttributes, Part, Contents, Parts, text_part, comment_part, element_part, anchor_part, children, bound, no_parts, part_then, Fragment}
-use Rattle.ng_template.specs.Numbering.{after_pieces, after_own, after_contents, after_part, after_parts, is_within, is_apart, after_outlets, are_drawn, is_number, is_outlet, is_undrawn, are_outlets, are_undrawn, is_numbered, is_whole}
+use Rattle.ng_drawing.specs.Template.{word, hole, PartAttributes, Acts, Part, Contents, Parts, text_part, comment_part, element_part, anchor_part, children, bound, no_parts, part_then, Fragment}
+use Rattle.ng_parts.specs.Numbering.{bound_numbers, after_pieces, after_own, after_contents, after_part, after_parts, is_within, is_apart, after_outlets, are_drawn, is_number, is_outlet, is_undrawn, are_outlets, are_undrawn, is_numbered, is_whole}
 use Rattle.ng_link.specs.Shape.{own_node, piece_holes, part_holes, content_holes, holes}
 
 pub both_true : (b c : Bool) → (b && c) ≡ true → (b ≡ true) × (c ≡ true)
@@ -65,6 +65,11 @@ contents_bound n c d ats b e =
     let two = both_true (is_within n c b) (are_drawn (is_apart b n c) ats) h.0 in
     (two.0, two.1, let same : Some c ≡ Some d = h.1 in cc)
 
+-- the own sites of an element follow those of its bindings
+pub bound_then : (n : ℕ) (own : List ℕ) (acts : Acts) (ats : PartAttributes) (p : Contents) (c : ℕ) → option_and_then (λ k. option_and_then (λ d. after_contents k d ats p) (after_own k own)) (after_own n (bound_numbers acts)) ≡ Some c
+    → (k : ℕ) × (after_own n (bound_numbers acts) ≡ Some k) × (option_and_then (λ d. after_contents k d ats p) (after_own k own) ≡ Some c)
+bound_then n own acts ats p c e = first_then (after_own n (bound_numbers acts)) (λ k. option_and_then (λ d. after_contents k d ats p) (after_own k own)) c e
+
 -- the number after sites counts them
 pub counted_own : (n c : ℕ) (own : List ℕ) → after_own n own ≡ Some c → c ≡ n + length own
 counted_own n c [] e = let same : n ≡ c = cc in omega (arith, same)
@@ -80,10 +85,13 @@ mutual
   counted_part n m c (text_part ps) e = counted_pieces n m c ps e
   counted_part n m c (comment_part t) e = let same : n ≡ c = cc in omega (arith, same)
   counted_part n m c (element_part t own acts ats p) e =
-      let h = first_then (after_own n own) (λ d. after_contents n d ats p) c e in
-      let first = counted_own n h.0 own h.1 in
-      let rest = counted_contents n h.0 (m + 1) c ats p h.2 in
-      omega (arith, first, rest, length-map own (own_node m p), length-append (map (own_node m p) own) (content_holes (m + 1) p))
+      let z = bound_then n own acts ats p c e in
+      let h = first_then (after_own z.0 own) (λ d. after_contents z.0 d ats p) c z.2 in
+      let before = counted_own n z.0 (bound_numbers acts) z.1 in
+      let first = counted_own z.0 h.0 own h.1 in
+      let rest = counted_contents z.0 h.0 (m + 1) c ats p h.2 in
+      let inside : List ℕ = map (own_node m p) own ++ content_holes (m + 1) p in
+      omega (arith, before, first, rest, length-map (bound_numbers acts) (λ (k : ℕ). m), length-map own (own_node m p), length-append (map (own_node m p) own) (content_holes (m + 1) p), length-append (map (λ (k : ℕ). m) (bound_numbers acts)) inside)
   counted_part n m c (anchor_part outlet own starts) e = let first = counted_own n c own e in omega (arith, first, length-map own (λ (k : ℕ). m))
 
   pub counted_contents : (n d m c : ℕ) (ats : PartAttributes) (p : Contents) → after_contents n d ats p ≡ Some c → c ≡ d + length (content_holes m p)

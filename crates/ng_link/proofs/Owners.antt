@@ -1,18 +1,19 @@
 -- The instance to which a node belongs is the last that doesn't begin after it.
 use Rattle.std.proofs.Common.{◌≡◌, ℕ, Bool, true, false, cond, List, [], ◌∷◌, ◌++◌, Option, Some, None, refl, ap, ◌∙◌, sym, arith}
+use Rattle.std.specs.BTreeMap.{is_at}
 use Rattle.std.specs.BTreeMap.Range.{range_contains}
 use Rattle.std.specs.List.{filter}
 use Rattle.std.specs.Map.{lookup}
 use Rattle.std.specs.Ordering.{nat_cmp}
-use Rattle.std.specs.Prelude.{nat_le, option_map, option_and_then}
+use Rattle.std.specs.Prelude.{nat_le, option_map, option_and_then, unwrap_or}
 use Rattle.std.specs.declared.ops.Bound.TheVariants.{Included, Unbounded}
 use Rattle.std.proofs.lemmas.Bool.Decides.{nat_tests}
-use Rattle.ng_template.specs.Kept.{Named}
+use Rattle.ng_compose.specs.Kept.{Named}
 use Rattle.ng_link.specs.Controls.{Controlled}
-use Rattle.ng_link.specs.Events.{handled_in, controlled_in, scope_in}
+use Rattle.ng_link.specs.Events.{handled_in, controlled_in, scope_in, element_scope}
 use Rattle.ng_link.specs.Handlers.{Handled}
-use Rattle.ng_link.specs.Instances.{Linked, Owners, owner_or, is_path, linked_at}
-use Rattle.ng_link.specs.State.{handled_of, controlled_of, linked_of, instances_of}
+use Rattle.ng_link.specs.Instances.{Linked, Owners, owner_or, is_path, linked_at, scope_number}
+use Rattle.ng_link.specs.State.{handled_of, controlled_of, page_of, linked_of, instances_of}
 use Rattle.ng_link.specs.declared.works.Linked as code
 use Rattle.ng_link.proofs.Places.{linked_seen}
 
@@ -82,3 +83,12 @@ module _ (all : List Named) (is : List (List ℕ × code.Linked)) where
   pub node_scope : (o : Option (List ℕ)) → scope_in (in_state o) ≡ scope_or (in_table o)
   node_scope None = refl
   node_scope (Some p) = ap scope_in (linked_seen all p is) ∙ seen_scope p (lookup (is_path p) is)
+
+  -- the scope of an element
+  pub element_none : (n : ℕ) (o : Option (List ℕ)) → in_table o ≡ None → element_scope n (in_state o) ≡ 0
+  element_none n None e = refl
+  element_none n (Some p) e = ap (element_scope n) (linked_seen all p is ∙ ap (option_map (linked_of all p)) e)
+
+  pub element_some : (n : ℕ) (o : Option (List ℕ)) (i : code.Linked) (m : ℕ) → in_table o ≡ Some i → ((path : List ℕ) → m ≡ scope_number (page_of path i) (unwrap_or (lookup (is_at (nat_cmp n)) i.elements.entries) 0)) → element_scope n (in_state o) ≡ m
+  element_some n None i m e h = absurd (cc)
+  element_some n (Some p) i m e h = ap (element_scope n) (linked_seen all p is ∙ ap (option_map (linked_of all p)) e) ∙ sym (h p)

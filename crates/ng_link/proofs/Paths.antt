@@ -1,5 +1,5 @@
 -- Paths of scopes: which are one, and which begin with which.
-use Rattle.std.proofs.Common.{◌≡◌, ◌⊎◌, inl, inr, ◌<◌, ℕ, Bool, true, false, List, [], ◌∷◌, ◌++◌, refl, ap, ◌∙◌, sym, length, arith, length-append}
+use Rattle.std.proofs.Common.{◌≡◌, ◌⊎◌, inl, inr, ◌≤◌, ◌<◌, ℕ, Bool, true, false, List, [], ◌∷◌, ◌++◌, refl, ap, ◌∙◌, sym, length, arith, length-append}
 use Rattle.std.specs.Prelude.{◌==◌, ◌&&◌}
 use Rattle.std.specs.Ordering.{is_eq, is_gt, nat_cmp, ordering_then, ordering_reverse}
 use Rattle.std.specs.declared.cmp.Ordering.{Ordering}
@@ -10,6 +10,7 @@ use Rattle.std.proofs.lemmas.Slice.Eq.{bytes_eq-Decides}
 use Rattle.ng_base.specs.Order.{path_cmp, path_cmp_total, path_cmp-eq}
 use Rattle.ng_watch.specs.Keys.{begins}
 use Rattle.ng_link.specs.Instances.{is_path}
+use Rattle.ng_link.specs.Standing.{IsBelow}
 
 -- paths that compare alike are one
 pub path_is : (p q : List ℕ) → is_path p q ≡ true → p ≡ q
@@ -35,29 +36,26 @@ not_path p q e same = let two : true ≡ false = sym (is_that p q same) ∙ e in
 pub less_other : (p q : List ℕ) → path_cmp p q ≡ Less → p ≡ q → ⊥
 less_other p q e same = let two : true ≡ false = sym (is_that p q same) ∙ ap is_eq e in cc
 
--- a path is none of those that begin with it and have one number more
-pub longer : (p : List ℕ) (n : ℕ) → p ≡ p ++ n ∷ [] → ⊥
-longer p n e = let many : length p ≡ length (p ++ n ∷ []) = ap length e in omega (arith, many, length-append p (n ∷ []))
+-- a path is shorter than those below it, and is none of them
+pub below_longer : (p q : List ℕ) → IsBelow p q → length p < length q
+below_longer p q below =
+    let many : length q ≡ length (p ++ (below.0 ++ below.1.0 ∷ [])) = ap (λ (r : List ℕ). length r) below.1.1 in
+    omega (arith, many, length-append p (below.0 ++ below.1.0 ∷ []), length-append below.0 (below.1.0 ∷ []))
+
+pub below_other : (p q : List ℕ) → IsBelow p q → p ≡ q → ⊥
+below_other p q below same = let more = below_longer p q below in let many : length p ≡ length q = ap (λ (r : List ℕ). length r) same in omega (arith, more, many)
 
 equal_first : (x : ℕ) (o : Ordering) → ordering_then (nat_cmp x x) o ≡ o
 equal_first x o = ap (λ (c : Ordering). ordering_then c o) (tied_itself nat_cmp_total x)
 
-pub after_shorter : (p : List ℕ) (n : ℕ) → path_cmp (p ++ n ∷ []) p ≡ Greater
-after_shorter [] n = refl
-after_shorter (x ∷ xs) n = equal_first x (path_cmp (xs ++ n ∷ []) xs) ∙ after_shorter xs n
+after_shorter : (p between : List ℕ) (n : ℕ) → path_cmp (p ++ (between ++ n ∷ [])) p ≡ Greater
+after_shorter [] [] n = refl
+after_shorter [] (x ∷ xs) n = refl
+after_shorter (x ∷ xs) between n = equal_first x (path_cmp (xs ++ (between ++ n ∷ [])) xs) ∙ after_shorter xs between n
 
-pub not_after : (p : List ℕ) (n : ℕ) (q : List ℕ) → path_cmp q p ≡ Less → q ≡ p ++ n ∷ [] → ⊥
-not_after p n q less is = let two : Less ≡ Greater = sym less ∙ (ap (λ (r : List ℕ). path_cmp r p) is ∙ after_shorter p n) in cc
-
--- the last number of a path, and what is before it
-pub one_longer : (p q : List ℕ) (m n : ℕ) → p ++ m ∷ [] ≡ q ++ n ∷ [] → p ≡ q
-one_longer [] [] m n e = refl
-one_longer [] (y ∷ ys) m n e = let tails : [] ≡ ys ++ n ∷ [] = cc in absurd (let many : 0 ≡ length (ys ++ n ∷ []) = ap length tails in omega (arith, many, length-append ys (n ∷ [])))
-one_longer (x ∷ xs) [] m n e = let tails : xs ++ m ∷ [] ≡ [] = cc in absurd (let many : length (xs ++ m ∷ []) ≡ 0 = ap length tails in omega (arith, many, length-append xs (m ∷ [])))
-one_longer (x ∷ xs) (y ∷ ys) m n e =
-    let heads : x ≡ y = cc in
-    let tails : xs ++ m ∷ [] ≡ ys ++ n ∷ [] = cc in
-    ap (λ (z : ℕ). z ∷ xs) heads ∙ ap (λ (zs : List ℕ). y ∷ zs) (one_longer xs ys m n tails)
+-- it is no path before it in the order
+pub not_after : (p q : List ℕ) → path_cmp q p ≡ Less → IsBelow p q → ⊥
+not_after p q less below = let two : Less ≡ Greater = sym less ∙ (ap (λ (r : List ℕ). path_cmp r p) below.1.1 ∙ after_shorter p below.0 below.1.0) in cc
 
 -- which paths begin with one
 pub begins_itself : (p : List ℕ) → begins p p ≡ true
@@ -68,26 +66,63 @@ both : (b c : Bool) → (b && c) ≡ true → (b ≡ true) × (c ≡ true)
 both true c e = (refl, e)
 both false c e = absurd (cc)
 
-pub begins_longer : (p q : List ℕ) (n : ℕ) → begins p q ≡ true → begins p (q ++ n ∷ []) ≡ true
-begins_longer [] q n e = refl
-begins_longer (x ∷ xs) [] n e = absurd (cc)
-begins_longer (x ∷ xs) (y ∷ ys) n e =
-    let two = both (x == y) (begins xs ys) e in
-    ap (λ (b : Bool). b && begins xs (ys ++ n ∷ [])) two.0 ∙ begins_longer xs ys n two.1
+-- what begins with a path is no shorter
+pub begins_length : (p q : List ℕ) → begins p q ≡ true → length p ≤ length q
+begins_length [] q e = omega arith
+begins_length (x ∷ xs) [] e = absurd (cc)
+begins_length (x ∷ xs) (y ∷ ys) e = let more = begins_length xs ys (both (x == y) (begins xs ys) e).1 in omega (arith, more)
 
--- a path begins with one that it is, or that its part before the last number begins with
-pub begins_last : (p q : List ℕ) (n : ℕ) → begins p (q ++ n ∷ []) ≡ true → (begins p q ≡ true) ⊎ (p ≡ q ++ n ∷ [])
-begins_last [] q n e = inl refl
-begins_last (x ∷ []) [] n e = let two = both (x == n) (begins [] []) e in inr (ap (λ (z : ℕ). z ∷ []) (eqb-true x n two.0))
-begins_last (x ∷ y ∷ ys) [] n e = let two = both (x == n) (begins (y ∷ ys) []) e in absurd (let no : false ≡ true = two.1 in cc)
-begins_last (x ∷ xs) (y ∷ ys) n e =
-    let two = both (x == y) (begins xs (ys ++ n ∷ [])) e in
-    let here : x ≡ y = eqb-true x y two.0 in
-    step (begins_last xs ys n two.1)
+pub not_begins : (p q : List ℕ) → (begins p q ≡ true → ⊥) → begins p q ≡ false
+not_begins p q ne = by_test (begins p q) refl
   where
-    step : (begins xs ys ≡ true) ⊎ (xs ≡ ys ++ n ∷ []) → ((x == y) && begins xs ys) ≡ true ⊎ ((x ∷ xs) ≡ y ∷ ys ++ n ∷ [])
-    step (inl more) = let two = both (x == y) (begins xs (ys ++ n ∷ [])) e in inl (ap (λ (b : Bool). b && begins xs ys) two.0 ∙ more)
-    step (inr more) = let two = both (x == y) (begins xs (ys ++ n ∷ [])) e in inr (ap (λ (z : ℕ). z ∷ xs) (eqb-true x y two.0) ∙ ap (λ (zs : List ℕ). y ∷ zs) more)
+    by_test : (b : Bool) → begins p q ≡ b → b ≡ false
+    by_test true e = absurd (ne e)
+    by_test false e = refl
+
+pub two_ways : {A : Type 0} (b : Bool) → b ≡ true → b ≡ false → A
+two_ways true e f = absurd (cc)
+two_ways false e f = absurd (cc)
+
+begins_more : (p more : List ℕ) → begins p (p ++ more) ≡ true
+begins_more [] more = refl
+begins_more (x ∷ xs) more = ap (λ (b : Bool). b && begins xs (xs ++ more)) (eq-eqb x x refl) ∙ begins_more xs more
+
+-- a path below another begins with it
+pub below_begins : (p q : List ℕ) → IsBelow p q → begins p q ≡ true
+below_begins p q below = ap (begins p) below.1.1 ∙ begins_more p (below.0 ++ below.1.0 ∷ [])
+
+-- and so does what begins with it
+pub begins_through : (p q r : List ℕ) → begins p q ≡ true → begins q r ≡ true → begins p r ≡ true
+begins_through [] q r e f = refl
+begins_through (x ∷ xs) [] r e f = absurd (cc)
+begins_through (x ∷ xs) (y ∷ ys) [] e f = absurd (cc)
+begins_through (x ∷ xs) (y ∷ ys) (z ∷ zs) e f =
+    let one = both (x == y) (begins xs ys) e in
+    let two = both (y == z) (begins ys zs) f in
+    ap (λ (b : Bool). b && begins xs zs) (eq-eqb x z (eqb-true x y one.0 ∙ eqb-true y z two.0)) ∙ begins_through xs ys zs one.1 two.1
+
+-- of two that a path begins with one begins with the other
+pub begins_either : (p q r : List ℕ) → begins p r ≡ true → begins q r ≡ true → (begins p q ≡ true) ⊎ (begins q p ≡ true)
+begins_either [] q r e f = inl refl
+begins_either (x ∷ xs) [] r e f = inr refl
+begins_either (x ∷ xs) (y ∷ ys) [] e f = absurd (cc)
+begins_either (x ∷ xs) (y ∷ ys) (z ∷ zs) e f =
+    let one = both (x == z) (begins xs zs) e in
+    let two = both (y == z) (begins ys zs) f in
+    step (eqb-true x z one.0 ∙ sym (eqb-true y z two.0)) (begins_either xs ys zs one.1 two.1)
+  where
+    step : x ≡ y → (begins xs ys ≡ true) ⊎ (begins ys xs ≡ true) → (((x == y) && begins xs ys) ≡ true) ⊎ (((y == x) && begins ys xs) ≡ true)
+    step same (inl more) = inl (ap (λ (b : Bool). b && begins xs ys) (eq-eqb x y same) ∙ more)
+    step same (inr more) = inr (ap (λ (b : Bool). b && begins ys xs) (eq-eqb y x (sym same)) ∙ more)
+
+pub begins_each : (p q : List ℕ) → begins p q ≡ true → begins q p ≡ true → p ≡ q
+begins_each [] [] e f = refl
+begins_each [] (y ∷ ys) e f = absurd (cc)
+begins_each (x ∷ xs) [] e f = absurd (cc)
+begins_each (x ∷ xs) (y ∷ ys) e f =
+    let one = both (x == y) (begins xs ys) e in
+    let two = both (y == x) (begins ys xs) f in
+    ap (λ (z : ℕ). z ∷ xs) (eqb-true x y one.0) ∙ ap (λ (zs : List ℕ). y ∷ zs) (begins_each xs ys one.1 two.1)
 
 -- a path is not above those that begin with it
 pub begins_after : (p q : List ℕ) → begins p q ≡ true → is_gt (path_cmp p q) ≡ false

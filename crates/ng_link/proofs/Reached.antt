@@ -1,5 +1,5 @@
 -- Each instance that is linked stands in the document: a block of it is one of what stands of the page.
-use Rattle.std.proofs.Common.{◌≡◌, ◌⊎◌, inl, inr, ◌+◌, ◌<◌, ℕ, zero, suc, Bool, true, false, cond, List, [], ◌∷◌, ◌++◌, Option, Some, refl, ap, ◌∙◌, sym, subst, map, length, slice_get, arith, length-append}
+use Rattle.std.proofs.Common.{◌≡◌, ◌⊎◌, inl, inr, ◌+◌, ◌≤◌, ◌<◌, ℕ, zero, suc, Bool, true, false, cond, List, [], ◌∷◌, Option, Some, refl, ap, ◌∙◌, sym, subst, map, length, slice_get, arith}
 use Rattle.std.specs.Prelude.{IsSome, option_map}
 use Rattle.std.specs.List.Sorted.{IsStrictlySortedBy}
 use Rattle.std.specs.Map.{keys_of as map_keys}
@@ -11,7 +11,7 @@ use Rattle.ng_link.specs.Instances.{Body, OutletState, Linked, Instances, is_pat
 use Rattle.ng_link.specs.Shape.{anchors}
 use Rattle.ng_link.specs.Standing.{IsPlaced, ArePlaced, IsHeldIn, AreHeld, body_count, held_count}
 use Rattle.ng_link.proofs.Blocks.{BlockIn, BlockAmong, BlockInside, shape_block}
-use Rattle.ng_link.proofs.Paths.{path_is}
+use Rattle.ng_link.proofs.Paths.{path_is, below_longer}
 use Rattle.ng_link.proofs.ReadOff.{in_held, at_path, AllIn, read_found}
 
 -- each instance holds bodies that are in it
@@ -64,20 +64,19 @@ module _ (a : ℕ) (bs : Bodies) where
         subst (λ (s : Stands). BlockAmong a bs s) (sym found)
         (shape_block a bs (keys_of l.page) groups l.page.node 0 (length l.fragment.outlets) which.0 which.1.anchor l.fragment.parts placed.outlets there inside)
 
-    reached_by : AreHeld is → (k : ℕ) (p : List ℕ) → length p ≡ k → IsSome (linked_at p is) → BlockAmong a bs (stands_at is p) → BlockAmong a bs (stands_at is [])
+    reached_by : AreHeld is → (k : ℕ) (p : List ℕ) → length p ≤ k → IsSome (linked_at p is) → BlockAmong a bs (stands_at is p) → BlockAmong a bs (stands_at is [])
     reached_by held zero [] e some b = b
     reached_by held zero (x ∷ xs) e some b = absurd (omega (arith, e))
     reached_by held (suc k) p e some b = by_holder (held.held p some) (reached_by held k)
       where
-        by_holder : (p ≡ []) ⊎ ((holder : List ℕ) × IsHeldIn holder p is) → ((q : List ℕ) → length q ≡ k → IsSome (linked_at q is) → BlockAmong a bs (stands_at is q) → BlockAmong a bs (stands_at is []))
+        by_holder : (p ≡ []) ⊎ ((holder : List ℕ) × IsHeldIn holder p is) → ((q : List ℕ) → length q ≤ k → IsSome (linked_at q is) → BlockAmong a bs (stands_at is q) → BlockAmong a bs (stands_at is []))
             → BlockAmong a bs (stands_at is [])
         by_holder (inl top) more = subst (λ (q : List ℕ). BlockAmong a bs (stands_at is q)) top b
         by_holder (inr one) more =
             let holder : List ℕ = one.0 in
             let placed = at_path (λ (x : List ℕ × Linked). IsPlaced places next x.0 x.1) holder one.1.0 is each one.1.1 in
-            let which = in_held holder p one.1.0.page.outlets placed.bodies one.1.2 in
-            let longer : length p ≡ length (holder ++ which.0 ∷ []) = ap length which.1 in
-            more holder (omega (arith, longer, e, length-append holder (which.0 ∷ []))) (subst (λ (r : Option Linked). IsSome r) (sym one.1.1) refl) (up_one holder p one.1 b)
+            let longer = below_longer holder p (in_held holder p one.1.0.page.outlets placed.bodies one.1.2) in
+            more holder (omega (arith, longer, e)) (subst (λ (r : Option Linked). IsSome r) (sym one.1.1) refl) (up_one holder p one.1 b)
 
 -- the block of an outlet stands in the document
 pub block_at : (places : Key → Option ℕ) (next : ℕ) (is : Instances) → IsStrictlySortedBy path_cmp (map_keys is) → ArePlaced places next is → AreHeld is
@@ -90,6 +89,6 @@ block_at places next is ordered each held p l o x found at =
     let first : 0 + o ≡ o = omega arith in
     let here : BlockIn x.anchor (groups o) (block_stands x.anchor (groups (0 + o))) = inl (refl, ap groups first) in
     let read : stands_at is p ≡ stands_join l (read_bodies (stands_at is) l.page.outlets) = read_found none_stand stands_join is p l ordered (all_in places next is each) found in
-    reached_by x.anchor (groups o) places next is ordered each held (length p) p refl (subst (λ (r : Option Linked). IsSome r) (sym found) refl)
+    reached_by x.anchor (groups o) places next is ordered each held (length p) p (omega arith) (subst (λ (r : Option Linked). IsSome r) (sym found) refl)
     (subst (λ (s : Stands). BlockAmong x.anchor (groups o) s) (sym read)
     (shape_block x.anchor (groups o) (keys_of l.page) groups l.page.node 0 (length l.fragment.outlets) o x.anchor l.fragment.parts placed.outlets there here))

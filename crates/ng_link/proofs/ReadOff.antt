@@ -1,5 +1,5 @@
 -- What is read off the table of instances.
-use Rattle.std.proofs.Common.{◌≡◌, ◌<◌, ℕ, zero, suc, Bool, true, false, cond, List, [], ◌∷◌, ◌++◌, Some, None, refl, ap, ◌∙◌, sym, subst, map, arith}
+use Rattle.std.proofs.Common.{◌≡◌, ◌<◌, ℕ, zero, suc, Bool, true, false, cond, List, [], ◌∷◌, Some, None, refl, ap, ◌∙◌, sym, subst, map, arith}
 use Rattle.std.specs.Prelude.{not}
 use Rattle.std.specs.List.{AllByRecursion}
 use Rattle.std.specs.List.Sorted.{IsStrictlySortedBy}
@@ -11,8 +11,8 @@ use Rattle.std.proofs.lemmas.Map.Keys.{sorted_head, sorted_tail}
 use Rattle.ng_base.specs.Order.{path_cmp}
 use Rattle.ng_watch.specs.Keys.{begins}
 use Rattle.ng_link.specs.Instances.{Body, OutletState, Linked, Instances, is_path, linked_at, read_bodies, read, without_below, with_instance}
-use Rattle.ng_link.specs.Standing.{IsIn, AreIn, body_count, held_count}
-use Rattle.ng_link.proofs.Paths.{path_is, same_path, other_path, longer, not_after}
+use Rattle.ng_link.specs.Standing.{IsBelow, IsIn, AreIn, body_count, held_count}
+use Rattle.ng_link.proofs.Paths.{path_is, same_path, other_path, below_other, not_after}
 
 -- a body is among those that it is counted with
 count_here : (b : Body) (bs : List Body) → 0 < body_count b.path (b ∷ bs)
@@ -34,19 +34,19 @@ module _ {A : Type 0} (f g : List ℕ → A) where
 
 -- a body that is held is in its holder
 module _ (p q : List ℕ) where
-  in_list : (bs : List Body) → AllByRecursion (IsIn p) bs → 0 < body_count q bs → (n : ℕ) × (q ≡ p ++ n ∷ [])
+  in_list : (bs : List Body) → AllByRecursion (IsIn p) bs → 0 < body_count q bs → IsBelow p q
   in_list [] all lt = absurd (omega (arith, lt))
   in_list (b ∷ bs) all lt = by_test (is_path q b.path) refl (in_list bs all.1)
     where
-      by_test : (t : Bool) → is_path q b.path ≡ t → (0 < body_count q bs → (n : ℕ) × (q ≡ p ++ n ∷ [])) → (n : ℕ) × (q ≡ p ++ n ∷ [])
-      by_test true is more = (all.0.0, path_is q b.path is ∙ all.0.1)
+      by_test : (t : Bool) → is_path q b.path ≡ t → (0 < body_count q bs → IsBelow p q) → IsBelow p q
+      by_test true is more = subst (IsBelow p) (sym (path_is q b.path is)) all.0
       by_test false is more = more (let off : cond {A = ℕ} (is_path q b.path) 1 0 ≡ 0 = ap (λ (t : Bool). cond {A = ℕ} t 1 0) is in omega (arith, off, lt))
 
-  pub in_held : (os : List OutletState) → AreIn p os → 0 < held_count q os → (n : ℕ) × (q ≡ p ++ n ∷ [])
+  pub in_held : (os : List OutletState) → AreIn p os → 0 < held_count q os → IsBelow p q
   in_held [] all lt = absurd (omega (arith, lt))
   in_held (o ∷ os) all lt = by_count (body_count q o.bodies) refl (in_held os all.1)
     where
-      by_count : (c : ℕ) → body_count q o.bodies ≡ c → (0 < held_count q os → (n : ℕ) × (q ≡ p ++ n ∷ [])) → (n : ℕ) × (q ≡ p ++ n ∷ [])
+      by_count : (c : ℕ) → body_count q o.bodies ≡ c → (0 < held_count q os → IsBelow p q) → IsBelow p q
       by_count zero e more = more (omega (arith, e, lt))
       by_count (suc c) e more = in_list o.bodies all.0 (omega (arith, e))
 
@@ -91,10 +91,10 @@ module _ {A : Type 0} (none : A) (join : Linked → List (List A) → A) where
       by_test false is same more = read_past p x xs is ∙ more same
 
   -- bodies in an instance are read after what stands before it
-  pub bodies_past : (p : List ℕ) (e : List ℕ × Linked) (es : Instances) (os : List OutletState) → AreIn p os → ((n : ℕ) → e.0 ≡ p ++ n ∷ [] → ⊥) → read_bodies (read none join (e ∷ es)) os ≡ read_bodies (read none join es) os
+  pub bodies_past : (p : List ℕ) (e : List ℕ × Linked) (es : Instances) (os : List OutletState) → AreIn p os → (IsBelow p e.0 → ⊥) → read_bodies (read none join (e ∷ es)) os ≡ read_bodies (read none join es) os
   bodies_past p e es os all ne =
       same_held (read none join (e ∷ es)) (read none join es) os
-      (λ q lt. let which = in_held p q os all lt in read_past q e es (other_path q e.0 (λ same. ne which.0 (sym same ∙ which.1))))
+      (λ q lt. read_past q e es (other_path q e.0 (λ same. ne (subst (IsBelow p) same (in_held p q os all lt)))))
 
   -- an instance is read from its own, and from the bodies that it holds
   pub read_found : (is : Instances) (p : List ℕ) (l : Linked) → IsStrictlySortedBy path_cmp (map_keys is) → AllIn is → linked_at p is ≡ Some l → read none join is p ≡ join l (read_bodies (read none join is) l.page.outlets)
@@ -107,14 +107,14 @@ module _ {A : Type 0} (none : A) (join : Linked → List (List A) → A) where
       by_test true is same rest =
           let one : x.1 ≡ l = cc in
           read_here p x xs is
-          ∙ (ap (λ (m : List (List A)). join x.1 m) (sym (bodies_past x.0 x xs x.1.page.outlets all.0 (λ n longest. longer x.0 n longest)))
+          ∙ (ap (λ (m : List (List A)). join x.1 m) (sym (bodies_past x.0 x xs x.1.page.outlets all.0 (λ below. below_other x.0 x.0 below refl)))
           ∙ ap (λ (m : Linked). join m (read_bodies (read none join (x ∷ xs)) m.page.outlets)) one)
       by_test false is more rest =
           let less = after_first p x.0 l xs (sorted_head path_cmp x.0 (map_keys xs) ordered) more in
           let ins = at_path (λ (e : List ℕ × Linked). AreIn e.0 e.1.page.outlets) p l xs all.1 more in
           read_past p x xs is
           ∙ (rest more
-          ∙ ap (λ (m : List (List A)). join l m) (sym (bodies_past p x xs l.page.outlets ins (λ n same. not_after p n x.0 less same))))
+          ∙ ap (λ (m : List (List A)). join l m) (sym (bodies_past p x xs l.page.outlets ins (λ below. not_after p x.0 less below))))
 
   -- what is read where an instance comes that nothing holds
   pub read_inserted : (p : List ℕ) (l : Linked) (is : Instances) → linked_at p is ≡ None → AllByRecursion (λ (e : List ℕ × Linked). held_count p e.1.page.outlets ≡ 0) is

@@ -11,11 +11,12 @@ use Rattle.ng_link.specs.Arranging.{IsOrder, PicksBy, IsRearranged}
 use Rattle.ng_link.specs.Calls.{arranged_at}
 use Rattle.ng_link.specs.Instances.{Body, OutletState, Linked, Instances, is_path, linked_at, with_outlets, outlets_changed, bodies_arranged}
 use Rattle.ng_link.specs.PlaceOf.{outlet_of_linked}
-use Rattle.ng_link.specs.Standing.{IsBuilt, IsStanding}
+use Rattle.ng_link.specs.Standing.{IsBuilt, AreInner, IsStanding}
 use Rattle.ng_link.specs.State.{instances_of, looks_in, places_of, spot_in, state_of, templates_of}
 use Rattle.ng_link.specs.declared.works.Linked as code
 use Rattle.ng_link.specs.declared.works.Works.{Works}
 use Rattle.ng_link.proofs.BuiltArranged.{built_arranged}
+use Rattle.ng_link.proofs.Inner.{changed_inner}
 
 -- where an outlet isn't there, nothing changes
 none_arranged : (o : ℕ) (bs : List Body) (os : List OutletState) → slice_get os o ≡ None → bodies_arranged o bs os ≡ os
@@ -36,7 +37,7 @@ same_changed holder f (e ∷ es) same = by_test (is_path holder e.0) refl (same_
 module _ (w : Works) (is : BTreeMap (List ℕ) code.Linked) (d : Dom) (holder : List ℕ) (o : ℕ) (new : List Body) (r : Option (ℕ × List ℕ))
     (stands : IsStanding w) (same : IsRearranged new o holder (state_of w).instances) (order : IsOrder r new (outlet_of_linked o (linked_at holder (state_of w).instances)))
     (picks : PicksBy r w.dom d) (arranged : instances_of (templates_of w) is.entries ≡ outlets_changed holder (bodies_arranged o new) (state_of w).instances)
-    (spots : (k : Key) → spot_in is.entries k ≡ places_of w k) where
+    (spots : (k : Key) → spot_in w.inner.entries is.entries k ≡ places_of w k) where
   abbrev pub after : Works
   after = record w { instances = is; dom = d }
 
@@ -84,6 +85,7 @@ module _ (w : Works) (is : BTreeMap (List ℕ) code.Linked) (d : Dom) (holder : 
       built =
           subst (λ (p : Key → Option ℕ). IsBuilt p (looks_in (state_of after)) d (state_of after).instances built.0) (sym (fun_ext spots))
           (subst (λ (xs : Instances). IsBuilt (places_of w) (looks_in (state_of w)) d xs built.0) (sym arranged) built.1);
+      inner = subst (λ (xs : Instances). AreInner (state_of w).inner xs) (sym arranged) (changed_inner holder (bodies_arranged o new) old (state_of w).inner stands.1.inner);
       below = λ k some. stands.1.below k (subst (λ (x : Option ℕ). IsSome x) (spots k) some);
       watched = stands.1.watched;
     },

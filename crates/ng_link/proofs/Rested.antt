@@ -15,7 +15,7 @@ use Rattle.ng_watch.specs.Keys.{key_cmp, is_key}
 use Rattle.ng_watch.specs.Seen.{Watcher}
 use Rattle.ng_watch.specs.Table.{Table, found}
 use Rattle.ng_link.specs.Calls.{rested}
-use Rattle.ng_link.specs.Instances.{Instances, is_site}
+use Rattle.ng_link.specs.Instances.{Instances, Inners, is_site}
 use Rattle.ng_link.specs.State.{Resting, kept_or, kept_in, resting_of}
 use Rattle.ng_link.proofs.Keys.{key_is, same_key}
 use Rattle.ng_link.proofs.Tables.{put-other, put-same, first_alone, passed, found_filtered, ordered_filtered}
@@ -26,11 +26,11 @@ rest_or None r = r
 rest_or (Some w) r = Some w.kept
 
 -- one watcher that was taken out
-abbrev put : Instances → Key × Watcher → Resting → Resting
-put l e r = if is_site l e.0 then insert_entry key_cmp r e.0 e.1.kept else r
+abbrev put : Inners → Instances → Key × Watcher → Resting → Resting
+put inner l e r = if is_site inner l e.0 then insert_entry key_cmp r e.0 e.1.kept else r
 
-put_apart : (l : Instances) (e : Key × Watcher) (r : Resting) (q : Key) → is_key q e.0 ≡ false → lookup (is_key q) (put l e r) ≡ lookup (is_key q) r
-put_apart l e r q off = by_site (is_site l e.0)
+put_apart : (inner : Inners) (l : Instances) (e : Key × Watcher) (r : Resting) (q : Key) → is_key q e.0 ≡ false → lookup (is_key q) (put inner l e r) ≡ lookup (is_key q) r
+put_apart inner l e r q off = by_site (is_site inner l e.0)
   where
     apart : q ≡ e.0 → ⊥
     apart same = let here : is_key q e.0 ≡ true = rw same (same_key e.0) in let two : true ≡ false = sym here ∙ off in absurd (cc)
@@ -39,19 +39,19 @@ put_apart l e r q off = by_site (is_site l e.0)
     by_site true = put-other e.0 q e.1.kept r apart
     by_site false = refl
 
-rested_found : (l : Instances) (es : Table) (r : Resting) (q : Key) → IsStrictlySortedBy key_cmp (keys_of es) → is_site l q ≡ true → lookup (is_key q) (rested l es r) ≡ rest_or (found q es) (lookup (is_key q) r)
-rested_found l [] r q o site = refl
-rested_found l (e ∷ es) r q o site = by_key (is_key q e.0) refl (rested_found l es (put l e r) q (sorted_tail key_cmp e.0 (keys_of es) o) site)
+rested_found : (inner : Inners) (l : Instances) (es : Table) (r : Resting) (q : Key) → IsStrictlySortedBy key_cmp (keys_of es) → is_site inner l q ≡ true → lookup (is_key q) (rested inner l es r) ≡ rest_or (found q es) (lookup (is_key q) r)
+rested_found inner l [] r q o site = refl
+rested_found inner l (e ∷ es) r q o site = by_key (is_key q e.0) refl (rested_found inner l es (put inner l e r) q (sorted_tail key_cmp e.0 (keys_of es) o) site)
   where
-    by_key : (b : Bool) → is_key q e.0 ≡ b → lookup (is_key q) (rested l es (put l e r)) ≡ rest_or (found q es) (lookup (is_key q) (put l e r))
-        → lookup (is_key q) (rested l es (put l e r)) ≡ rest_or (cond b (Some e.1) (found q es)) (lookup (is_key q) r)
+    by_key : (b : Bool) → is_key q e.0 ≡ b → lookup (is_key q) (rested inner l es (put inner l e r)) ≡ rest_or (found q es) (lookup (is_key q) (put inner l e r))
+        → lookup (is_key q) (rested inner l es (put inner l e r)) ≡ rest_or (cond b (Some e.1) (found q es)) (lookup (is_key q) r)
     by_key true is more =
         let same : q ≡ e.0 = key_is q e.0 is in
         let alone : found q es ≡ None = rw same (first_alone e es o) in
-        let here : is_site l e.0 ≡ true = rw (← same) site in
-        let kept : lookup (is_key q) (put l e r) ≡ Some e.1.kept = rw (here, same) (put-same e.0 e.1.kept r) in
+        let here : is_site inner l e.0 ≡ true = rw (← same) site in
+        let kept : lookup (is_key q) (put inner l e r) ≡ Some e.1.kept = rw (here, same) (put-same e.0 e.1.kept r) in
         more ∙ rw alone kept
-    by_key false is more = more ∙ ap (rest_or (found q es)) (put_apart l e r q is)
+    by_key false is more = more ∙ ap (rest_or (found q es)) (put_apart inner l e r q is)
 
 -- what a site shows, where its watcher is taken out or stays
 shown_still : (p : Key × Watcher → Bool) (q : Key) (o : Option Watcher) (r : Option (Option ViewTree)) → kept_or (passed (λ e. not (p e)) q o) (rest_or (passed p q o) r) ≡ kept_or o r
@@ -62,13 +62,13 @@ shown_still p q (Some w) r = by_pass (p (q, w))
     by_pass true = refl
     by_pass false = refl
 
-pub kept_rested : (l : Instances) (p : Key × Watcher → Bool) (t : Table) (r : Resting) (q : Key) → IsStrictlySortedBy key_cmp (keys_of t) → is_site l q ≡ true
-    → kept_in (filter (λ e. not (p e)) t) (rested l (filter p t) r) q ≡ kept_in t r q
-kept_rested l p t r q o site =
+pub kept_rested : (inner : Inners) (l : Instances) (p : Key × Watcher → Bool) (t : Table) (r : Resting) (q : Key) → IsStrictlySortedBy key_cmp (keys_of t) → is_site inner l q ≡ true
+    → kept_in (filter (λ e. not (p e)) t) (rested inner l (filter p t) r) q ≡ kept_in t r q
+kept_rested inner l p t r q o site =
     let out : found q (filter p t) ≡ passed p q (found q t) = found_filtered p q t o in
     let stays : found q (filter (λ e. not (p e)) t) ≡ passed (λ e. not (p e)) q (found q t) = found_filtered (λ e. not (p e)) q t o in
-    let rests : lookup (is_key q) (rested l (filter p t) r) ≡ rest_or (found q (filter p t)) (lookup (is_key q) r) = rested_found l (filter p t) r q (ordered_filtered p t o) site in
-    ap (λ (w : Option Watcher). kept_or w (lookup (is_key q) (rested l (filter p t) r))) stays
+    let rests : lookup (is_key q) (rested inner l (filter p t) r) ≡ rest_or (found q (filter p t)) (lookup (is_key q) r) = rested_found inner l (filter p t) r q (ordered_filtered p t o) site in
+    ap (λ (w : Option Watcher). kept_or w (lookup (is_key q) (rested inner l (filter p t) r))) stays
     ∙ (ap (kept_or (passed (λ e. not (p e)) q (found q t))) (rests ∙ ap (λ (w : Option Watcher). rest_or w (lookup (is_key q) r)) out)
     ∙ shown_still p q (found q t) (lookup (is_key q) r))
 

@@ -1,49 +1,61 @@
 -- The watchers of sites that were put among others.
-use Rattle.std.proofs.Common.{◌≡◌, ◌+◌, ℕ, zero, suc, List, [], ◌∷◌, Option, Some, None, refl, ap, ◌∙◌, length, arith, slice_get}
-use Rattle.std.specs.BTreeMap.{insert_entry}
+use Rattle.std.proofs.Common.{◌≡◌, ◌+◌, ℕ, zero, suc, List, [], ◌∷◌, Option, Some, None, refl, ap, ◌∙◌, sym, map, length, arith, slice_get}
 use Rattle.std.specs.List.Sorted.{IsStrictlySortedBy}
 use Rattle.std.specs.Ordering.{nat_cmp}
+use Rattle.std.specs.Prelude.{option_map}
 use Rattle.std.proofs.lemmas.Map.Keys.{sorted_tail}
+use Rattle.std.proofs.lemmas.Option.{slice_get-map}
+use Rattle.ng_base.specs.Views.{ViewTree}
 use Rattle.ng_base.specs.declared.path.Key.{Key}
 use Rattle.ng_drawing.specs.Template.{Site}
-use Rattle.ng_watch.specs.Keys.{key_cmp}
 use Rattle.ng_watch.specs.Seen.{Watcher}
-use Rattle.ng_watch.specs.Table.{Table, found}
+use Rattle.ng_watch.specs.Table.{Table, found, with_watch}
 use Rattle.ng_link.specs.Building.{AllAt}
-use Rattle.ng_link.specs.Rows.{watching_site, with_sites, spots_by}
-use Rattle.ng_link.specs.Shape.{key_on}
+use Rattle.ng_link.specs.Rows.{Row, watching_site, with_first, with_row, with_sites, spots_by}
 use Rattle.ng_link.proofs.Serials.{first_apart}
-use Rattle.ng_link.proofs.Tables.{put-other, put-same}
+use Rattle.ng_link.proofs.Tables.{put-other, put-same, kept-other}
 
--- the watcher of a site that was linked just now
-abbrev pub fresh_watcher : ℕ → Site → Watcher
-fresh_watcher object x = record { watch = watching_site object x; kept = None }
+-- the watcher of a site that was linked just now and has kept nothing
+abbrev pub fresh_watcher : Row → Site → Watcher
+fresh_watcher r x = record { watch = watching_site r.object r.way x; kept = None }
+
+first_other : (k q : Key) (v : Option ViewTree) (t : Table) → (q ≡ k → ⊥) → found q (with_first k v t) ≡ found q t
+first_other k q None t ne = refl
+first_other k q (Some v) t ne = kept-other k q (Some v) t ne
+
+row_other : (r : Row) (x : Site) (t : Table) (k : Key) → (k ≡ r.key → ⊥) → found k (with_row r x t) ≡ found k t
+row_other r x t k ne = first_other r.key k r.kept (with_watch r.key (watching_site r.object r.way x) t) ne ∙ put-other r.key k (fresh_watcher r x) t ne
+
+row_found : (r : Row) (x : Site) (t : Table) → r.kept ≡ None → found r.key (with_row r x t) ≡ Some (fresh_watcher r x)
+row_found r x t none =
+    ap (λ (v : Option ViewTree). found r.key (with_first r.key v (with_watch r.key (watching_site r.object r.way x) t))) none ∙ put-same r.key (fresh_watcher r x) t
 
 -- at a key that is none of theirs, the same is found
-pub sites_other : (path : List ℕ) (o : ℕ) (ss : List ℕ) (xs : List Site) (t : Table) (k : Key) → ((j s : ℕ) → slice_get ss j ≡ Some s → k ≡ key_on path s → ⊥) → found k (with_sites path o ss xs t) ≡ found k t
-sites_other path o [] xs t k apart = refl
-sites_other path o (s ∷ ss) [] t k apart = refl
-sites_other path o (s ∷ ss) (x ∷ xs) t k apart =
-    sites_other path o ss xs (insert_entry key_cmp t (key_on path s) (fresh_watcher o x)) k (λ j n at e. apart (suc j) n at e) ∙ put-other (key_on path s) k (fresh_watcher o x) t (λ e. apart 0 s refl e)
+pub sites_other : (rs : List Row) (xs : List Site) (t : Table) (k : Key) → ((j : ℕ) (r : Row) → slice_get rs j ≡ Some r → k ≡ r.key → ⊥) → found k (with_sites rs xs t) ≡ found k t
+sites_other [] xs t k apart = refl
+sites_other (r ∷ rs) [] t k apart = refl
+sites_other (r ∷ rs) (x ∷ xs) t k apart = sites_other rs xs (with_row r x t) k (λ j s at e. apart (suc j) s at e) ∙ row_other r x t k (λ e. apart 0 r refl e)
 
--- numbers of one path's keys
-number_of : (path : List ℕ) (m n : ℕ) → key_on path m ≡ key_on path n → m ≡ n
-number_of path m n e = ap (λ (k : Key). k.serial.0) e
+-- their numbers of registration
+abbrev pub row_numbers : List Row → List ℕ
+row_numbers rs = map (λ (r : Row). r.key.serial.0) rs
 
--- each is found under its number
-pub sites_found : (path : List ℕ) (o : ℕ) (ss : List ℕ) (xs : List Site) (t : Table) (j s : ℕ) (x : Site) → IsStrictlySortedBy nat_cmp ss → slice_get ss j ≡ Some s → slice_get xs j ≡ Some x
-    → found (key_on path s) (with_sites path o ss xs t) ≡ Some (fresh_watcher o x)
-sites_found path o [] xs t j s x r at is = absurd (cc)
-sites_found path o (n ∷ ns) [] t j s x r at is = absurd (cc)
-sites_found path o (n ∷ ns) (y ∷ ys) t zero s x r at is =
-    let one : s ≡ n = cc in
+numbered_at : (rs : List Row) (j : ℕ) (r : Row) → slice_get rs j ≡ Some r → slice_get (row_numbers rs) j ≡ Some r.key.serial.0
+numbered_at rs j r at = slice_get-map (λ (s : Row). s.key.serial.0) rs j ∙ ap (option_map (λ (s : Row). s.key.serial.0)) at
+
+-- each is found under its key
+pub sites_found : (rs : List Row) (xs : List Site) (t : Table) (j : ℕ) (r : Row) (x : Site) → IsStrictlySortedBy nat_cmp (row_numbers rs) → slice_get rs j ≡ Some r → slice_get xs j ≡ Some x → r.kept ≡ None
+    → found r.key (with_sites rs xs t) ≡ Some (fresh_watcher r x)
+sites_found [] xs t j r x o at is none = absurd (cc)
+sites_found (q ∷ rs) [] t j r x o at is none = absurd (cc)
+sites_found (q ∷ rs) (y ∷ ys) t zero r x o at is none =
+    let one : q ≡ r = cc in
     let two : y ≡ x = cc in
-    let put : Table = insert_entry key_cmp t (key_on path n) (fresh_watcher o y) in
-    ap (λ (m : ℕ). found (key_on path m) (with_sites path o ns ys put)) one
-    ∙ (sites_other path o ns ys put (key_on path n) (λ j m there e. first_apart n ns j m r there (number_of path n m e))
-    ∙ (put-same (key_on path n) (fresh_watcher o y) t ∙ ap (λ (z : Site). Some (fresh_watcher o z)) two))
-sites_found path o (n ∷ ns) (y ∷ ys) t (suc j) s x r at is =
-    sites_found path o ns ys (insert_entry key_cmp t (key_on path n) (fresh_watcher o y)) j s x (sorted_tail nat_cmp n ns r) at is
+    let kept : q.kept ≡ None = ap (λ (s : Row). s.kept) one ∙ none in
+    ap (λ (s : Row). found s.key (with_sites rs ys (with_row q y t))) (sym one)
+    ∙ (sites_other rs ys (with_row q y t) q.key (λ i s there e. first_apart q.key.serial.0 (row_numbers rs) i s.key.serial.0 o (numbered_at rs i s there) (ap (λ (k : Key). k.serial.0) e))
+    ∙ (row_found q y t kept ∙ (ap (λ (s : Row). Some (fresh_watcher s y)) one ∙ ap (λ (z : Site). Some (fresh_watcher r z)) two)))
+sites_found (q ∷ rs) (y ∷ ys) t (suc j) r x o at is none = sites_found rs ys (with_row q y t) j r x (sorted_tail nat_cmp q.key.serial.0 (row_numbers rs) o) at is none
 
 -- places at rising keys
 pub all_at : (site : Key → Option ℕ) (keys : ℕ → Key) (n : ℕ) (xs : List ℕ) → ((j x : ℕ) → slice_get xs j ≡ Some x → site (keys (n + j)) ≡ Some x) → AllAt site keys n xs
@@ -55,10 +67,10 @@ all_at site keys n (x ∷ xs) each =
     )
 
 -- without sites no watcher is put
-pub sites_end : (path : List ℕ) (o : ℕ) (ss : List ℕ) (xs : List Site) (t : Table) → length xs ≡ 0 → with_sites path o ss xs t ≡ t
-sites_end path o [] xs t e = refl
-sites_end path o (s ∷ ss) [] t e = refl
-sites_end path o (s ∷ ss) (x ∷ xs) t e = absurd (omega (arith, e))
+pub sites_end : (rs : List Row) (xs : List Site) (t : Table) → length xs ≡ 0 → with_sites rs xs t ≡ t
+sites_end [] xs t e = refl
+sites_end (r ∷ rs) [] t e = refl
+sites_end (r ∷ rs) (x ∷ xs) t e = absurd (omega (arith, e))
 
 -- and without nodes no place is entered
 pub spots_end : (ss ns : List ℕ) (m : List (ℕ × ℕ)) → length ns ≡ 0 → spots_by ss ns m ≡ m

@@ -15,7 +15,8 @@ use Rattle.ng_drawing.specs.Looks.{Seen}
 use Rattle.ng_drawing.specs.Nodes.{part_nodes, content_nodes, nodes}
 use Rattle.ng_drawing.specs.Template as template
 use Rattle.ng_drawing.specs.Template.{word, hole, while_true, while_false, PartClass, PartValue, always, unless_empty, flag, classes, PartAttributes, Part, Contents, Parts, text_part, comment_part, element_part, anchor_part, children, bound, no_parts, part_then, parts_from}
-use Rattle.ng_link.specs.Shape.{linked_pieces, linked_hiding, linked_class, linked_value, linked_values, part_shape, content_shape, shape, unfilled, part_holes, holes}
+use Rattle.ng_link.specs.Shape.{linked_pieces, linked_hiding, linked_class, linked_value, linked_values, part_shape, content_shape, shape, unfilled, piece_holes, part_holes, holes}
+use Rattle.ng_parts.specs.Numbering.{hole_numbers}
 use Rattle.ng_link.specs.State.{look_of}
 use Rattle.ng_link.specs.Building.{Homed, HomedAll}
 
@@ -122,3 +123,9 @@ holes-push m k [] q e = append-nil (part_holes m q) ∙ ap (λ (n : ℕ). part_h
 holes-push m k (p ∷ ps) q e =
     ap (λ (xs : List ℕ). part_holes m p ++ xs) (holes-push (m + part_nodes p) k ps q (omega (arith, e)))
     ∙ sym (append_assoc (part_holes m p) (holes (m + part_nodes p) (parts_from ps)) (part_holes k q))
+
+-- the holes of a text are noted as often as they have numbers
+pub holes_numbered : (n : ℕ) (ps : List template.Piece) → piece_holes n ps ≡ map (λ (_ : ℕ). n) (hole_numbers ps)
+holes_numbered n [] = refl
+holes_numbered n (word w ∷ ps) = holes_numbered n ps
+holes_numbered n (hole k ∷ ps) = ap (λ (xs : List ℕ). n ∷ xs) (holes_numbered n ps)

@@ -1,109 +1,42 @@
--- Nothing is drawn from a site that fills outlets, so that what it has kept may be forgotten.
-use Rattle.std.proofs.Common.{◌≡◌, ◌<◌, ℕ, zero, suc, Bool, true, false, cond, List, [], ◌∷◌, Option, Some, None, refl, ap, ◌∙◌, sym, subst, length, arith}
-use Rattle.std.specs.Prelude.{◌+◌, ◌||◌, ◌==◌, nat_lt, slice_index_or}
+-- Nothing is drawn from a site that fills outlets, or from one of a binding, so that what it has kept may be forgotten.
+use Rattle.std.proofs.Common.{◌≡◌, ◌<◌, ℕ, zero, suc, Bool, true, false, List, [], ◌∷◌, Option, Some, refl, ap, ◌∙◌, sym, subst, length, slice_get, arith}
+use Rattle.std.specs.Prelude.{◌+◌, ◌||◌, ◌==◌, not, is_some, nat_lt, slice_index_or}
 use Rattle.std.proofs.lemmas.Bool.{eq-eqb, ltb-true}
+use Rattle.std.proofs.lemmas.Option.{slice_get-get_or}
 use Rattle.std.specs.List.{AllByRecursion, list_all}
 use Rattle.std.specs.List.Sorted.{IsStrictlySortedBy}
 use Rattle.std.specs.Ordering.{nat_cmp}
 use Rattle.std.proofs.lemmas.Map.Keys.{sorted_head, sorted_tail}
 use Rattle.ng_base.specs.declared.path.Key.{Key}
 use Rattle.ng_dom.specs.Document.{next_name, Holds}
-use Rattle.ng_dom.specs.Drawing.{Look, Stand, Stands, Bodies, text_stands, comment_stands, element_stands, block_stands, none_stand, stand_then, no_bodies, body_then, HolesAt, AttributesAt, show, shows, show_bodies, drawn_attributes, DifferAt}
-use Rattle.ng_dom.specs.Nodes.{NamedNode, NamedForest, named_text, named_element, named_anchor, named_then, group_then}
+use Rattle.ng_dom.specs.Drawing.{Look, Stands, none_stand, DifferAt}
+use Rattle.ng_dom.specs.Nodes.{NamedForest}
 use Rattle.ng_dom.specs.declared.dom.Dom.{Dom}
-use Rattle.ng_dom.proofs.Attributes.{same_joined, same_attributes}
-use Rattle.ng_drawing.specs.Nodes.{part_nodes}
-use Rattle.ng_drawing.specs.Template.{Outlet, Fragment, Part, Contents, Parts, text_part, comment_part, element_part, anchor_part, children, bound, no_parts, part_then}
-use Rattle.ng_drawing.specs.declared.origin.Home.{Home}
-use Rattle.ng_template.specs.Numbering.{is_within, is_apart, are_drawn, part_draws, contents_draw, parts_draw, is_outlet, is_body, is_undrawn, is_whole}
-use Rattle.ng_template.proofs.Ranges.{parts_within}
-use Rattle.ng_link.specs.Calls.{fills_any, outlet_on, outlets_on}
-use Rattle.ng_link.specs.Instances.{OutletState, Linked, Instances, linked_at, is_path, is_filled_by, keys_of, bodies_from, groups_from, stands_join}
-use Rattle.ng_link.specs.Shape.{part_shape, content_shape, shape}
-use Rattle.ng_link.specs.Standing.{IsUndrawn, AreUndrawn, IsPlaced, ArePlaced, IsBuilt}
+use Rattle.ng_drawing.specs.Template.{Outlet, Fragment, Parts}
+use Rattle.ng_drawing.specs.declared.origin.Origin.{Origin}
+use Rattle.ng_parts.specs.Numbering.{is_within, is_apart, is_outlet, is_body, is_undrawn, is_whole}
+use Rattle.ng_parts.proofs.Ranges.{parts_within}
+use Rattle.ng_link.specs.Bindings.{bound_in_table, is_unbound}
+use Rattle.ng_link.specs.Calls.{fills_any, round_by, outlet_on, outlets_from, outlets_on}
+use Rattle.ng_link.specs.Instances.{OutletState, Linked, Instances, Inners, linked_at, linked_for, instance_path, is_path, is_filled_by, key_in, keys_of, groups_from, stands_join}
+use Rattle.ng_link.specs.Registering.{Ground, Round}
+use Rattle.ng_link.specs.Showing.{parts_show}
+use Rattle.ng_link.specs.Standing.{IsUndrawn, AreUndrawn, IsPlaced, ArePlaced, IsBuilt, AreInner}
 use Rattle.ng_link.proofs.Below.{within, apart}
+use Rattle.ng_link.proofs.Free.{AreFree, all_agree, parts_free, groups_free}
 use Rattle.ng_link.proofs.Grown.{each_found}
-use Rattle.ng_link.proofs.Holding.{drawn_holes, drawn_values}
+use Rattle.ng_link.proofs.Inner.{keys_at, key_leads}
 use Rattle.ng_link.proofs.Keys.{equal_numbers, same_key, other_key}
 use Rattle.ng_link.proofs.Numbers.{both_true, whole_numbers, whole_undrawn}
-use Rattle.ng_link.proofs.Paths.{path_is, same_path}
-use Rattle.ng_link.proofs.ReadOff.{read_all}
+use Rattle.ng_link.proofs.Paths.{path_is, not_path}
+use Rattle.ng_link.proofs.ReadOff.{at_path, read_all}
+use Rattle.ng_link.proofs.Showing.{parts_showing}
 use Rattle.ng_watch.specs.Keys.{is_key}
 use Rattle.ng_link.proofs.Serials.{above}
 
--- what stands is drawn from other keys alone
-module _ (k : Key) where
-  abbrev free_in : ℕ → Key → Option ℕ
-  free_in n q = cond (is_key k q) None (Some n)
-
-  abbrev mutual
-    pub IsFree : Stand → Type 0
-    IsFree (text_stands n ps) = HolesAt (free_in n) n ps
-    IsFree (comment_stands n t) = Unit {0}
-    IsFree (element_stands n e ats ms) = AttributesAt (free_in n) n ats × AreFree ms
-    IsFree (block_stands n bs) = BodiesFree bs
-
-    pub AreFree : Stands → Type 0
-    AreFree none_stand = Unit {0}
-    AreFree (stand_then m ms) = IsFree m × AreFree ms
-
-    pub BodiesFree : Bodies → Type 0
-    BodiesFree no_bodies = Unit {0}
-    BodiesFree (body_then ms bs) = AreFree ms × BodiesFree bs
-
-  -- so it shows the same, whatever this key shows
-  module _ (v w : Key → Look) (off : DifferAt k v w) where
-    agree : (n : ℕ) (q : Key) → free_in n q ≡ Some n → v q ≡ w q
-    agree n q e = off q (λ same. let two : None ≡ Some n = ap (λ (b : Bool). cond b None (Some n)) (sym (ap (is_key k) same ∙ same_key k)) ∙ e in cc)
-
-    mutual
-      one_agrees : (m : Stand) → IsFree m → show v m ≡ show w m
-      one_agrees (text_stands n ps) h = ap (named_text n) (same_joined (free_in n) n v w (agree n) ps h)
-      one_agrees (comment_stands n t) h = refl
-      one_agrees (element_stands n e ats ms) h =
-          ap (λ (us : List (List ℕ × List ℕ)). named_element n e us (shows v ms)) (same_attributes (free_in n) n v w (agree n) ats [] h.0) ∙ ap (named_element n e (drawn_attributes w ats)) (all_agree ms h.1)
-      one_agrees (block_stands n bs) h = ap (named_anchor n) (bodies_agree bs h)
-
-      pub all_agree : (ms : Stands) → AreFree ms → shows v ms ≡ shows w ms
-      all_agree none_stand h = refl
-      all_agree (stand_then m ms) h = ap (λ (x : NamedNode). named_then x (shows v ms)) (one_agrees m h.0) ∙ ap (named_then (show w m)) (all_agree ms h.1)
-
-      bodies_agree : (bs : Bodies) → BodiesFree bs → show_bodies v bs ≡ show_bodies w bs
-      bodies_agree no_bodies h = refl
-      bodies_agree (body_then ms bs) h = ap (λ (x : NamedForest). group_then x (show_bodies v bs)) (all_agree ms h.0) ∙ ap (group_then (shows w ms)) (bodies_agree bs h.1)
-
-  -- parts that are drawn from sites of other keys
-  module _ (keys : ℕ → Key) (test : ℕ → Bool) (others : (j : ℕ) → test j ≡ true → is_key k (keys j) ≡ false) (groups : ℕ → Bodies) (inside : (o : ℕ) → BodiesFree (groups o)) where
-    at : (n j : ℕ) → test j ≡ true → free_in n (keys j) ≡ Some n
-    at n j e = ap (λ (b : Bool). cond b None (Some n)) (others j e)
-
-    mutual
-      part_free : (n : ℕ) (p : Part) → part_draws test p ≡ true → IsFree (part_shape keys n groups p)
-      part_free n (text_part ps) e = drawn_holes (free_in n) keys n test (at n) ps e
-      part_free n (comment_part t) e = tt
-      part_free n (element_part name own acts ats c) e =
-          let two = both_true (are_drawn test ats) (contents_draw test c) e in
-          (drawn_values (free_in n) keys n test (at n) ats two.0, contents_free (n + 1) c two.1)
-      part_free n (anchor_part outlet own starts) e = inside outlet
-
-      contents_free : (n : ℕ) (c : Contents) → contents_draw test c ≡ true → AreFree (content_shape keys n groups c)
-      contents_free n (children ps) e = parts_free n ps e
-      contents_free n (bound b) e = ((at n b e, tt), tt)
-
-      pub parts_free : (n : ℕ) (ps : Parts) → parts_draw test ps ≡ true → AreFree (shape keys n groups ps)
-      parts_free n no_parts e = tt
-      parts_free n (part_then p ps) e =
-          let two = both_true (part_draws test p) (parts_draw test ps) e in
-          (part_free n p two.0, parts_free (n + part_nodes p) ps two.1)
-
-  list_free : (tss : List Stands) → AllByRecursion AreFree tss → BodiesFree (bodies_from tss)
-  list_free [] all = tt
-  list_free (ts ∷ tss) all = (all.0, list_free tss all.1)
-
-  groups_free : (tsss : List (List Stands)) → AllByRecursion (AllByRecursion AreFree) tsss → (o : ℕ) → BodiesFree (groups_from tsss o)
-  groups_free [] all o = tt
-  groups_free (tss ∷ tsss) all zero = list_free tss all.0
-  groups_free (tss ∷ tsss) all (suc o) = groups_free tsss all.1 o
+-- all keys but one
+abbrev but : Key → Key → Bool
+but k q = not (is_key k q)
 
 -- numbers that rise differ
 rising_above : (s : ℕ) (ns : List ℕ) (j : ℕ) → IsStrictlySortedBy nat_cmp (s ∷ ns) → j < length ns → s < slice_index_or ns j 0
@@ -121,9 +54,9 @@ rising_differ (n ∷ ns) zero (suc j) o l u ne same = let lt = rising_above n ns
 rising_differ (n ∷ ns) (suc i) zero o l u ne same = let lt = rising_above n ns i o (omega (arith, l)) in omega (arith, same, lt)
 rising_differ (n ∷ ns) (suc i) (suc j) o l u ne same = rising_differ ns i j (sorted_tail nat_cmp n ns o) (omega (arith, l)) (omega (arith, u)) (λ e. ne (ap suc e)) same
 
--- an outlet that a site fills
+-- a number from whose site nothing is drawn, where it fills an outlet
 abbrev IsFilledAt : List ℕ → Parts → ℕ → Type 0
-IsFilledAt serials ps serial = (n : ℕ) × ((n < length serials) × ((slice_index_or serials n 0 ≡ serial) × (parts_draw (is_apart n 0 (length serials)) ps ≡ true)))
+IsFilledAt serials ps serial = (n : ℕ) × ((n < length serials) × ((slice_index_or serials n 0 ≡ serial) × (parts_show (is_apart n 0 (length serials)) ps ≡ true)))
 
 filled_at : (serials : List ℕ) (ps : Parts) (serial : ℕ) (os : List OutletState) → AreUndrawn serials ps os → fills_any serial os ≡ true → IsFilledAt serials ps serial
 filled_at serials ps serial [] all e = absurd (cc)
@@ -133,73 +66,120 @@ filled_at serials ps serial (x ∷ xs) all e = by_test (is_filled_by serial x) r
     by_test true is f more = let u = all.0 in (u.0, (u.1.0, (u.1.1.0 ∙ sym (equal_numbers serial x.serial is), u.1.1.1)))
     by_test false is f more = more f
 
--- what a site that fills outlets has kept is drawn nowhere
-module _ (places : Key → Option ℕ) (looks same : Key → Look) (d : Dom) (is : Instances) (ts : Stands) (b : IsBuilt places looks d is ts) (k : Key) (l : Linked)
-    (found : linked_at k.path is ≡ Some l) (fills : fills_any k.serial.0 l.page.outlets ≡ true) (off : DifferAt k looks same) where
+-- what is kept under a key is drawn nowhere, where nothing is drawn from the sites of its number
+module _ (places : Key → Option ℕ) (looks same : Key → Look) (d : Dom) (is : Instances) (ts : Stands) (b : IsBuilt places looks d is ts) (k : Key) (off : DifferAt k looks same) where
   abbrev JoinsFree : List ℕ × Linked → Type 0
-  JoinsFree e = (tsss : List (List Stands)) → AllByRecursion (AllByRecursion (AreFree k)) tsss → AreFree k (stands_join e.1 tsss)
+  JoinsFree e = (tsss : List (List Stands)) → AllByRecursion (AllByRecursion (AreFree (but k))) tsss → AreFree (but k) (stands_join e.1 tsss)
+
+  -- another key
+  is_other : (q : Key) → (q ≡ k → ⊥) → but k q ≡ true
+  is_other q ne = ap not (other_key k q ne)
 
   -- on another path all keys are others
-  elsewhere : (p : List ℕ) (m : Linked) → IsPlaced places (next_name d) p m → (p ≡ k.path → ⊥) → JoinsFree (p, m)
+  elsewhere : (p : List ℕ) (m : Linked) → IsPlaced places (next_name d) p m → ((j : ℕ) → is_within 0 (length m.fragment.sites) j ≡ true → keys_of m.page j ≡ k → ⊥) → JoinsFree (p, m)
   elsewhere p m placed ne tsss all =
-      parts_free k (keys_of m.page) (is_within 0 (length m.fragment.sites)) (λ j e. other_key k (keys_of m.page j) (λ one. ne (sym placed.path ∙ ap (λ (q : Key). q.path) one))) (groups_from tsss) (groups_free k tsss all) m.page.node
-      m.fragment.parts (parts_within 0 (length m.fragment.sites) m.fragment.parts placed.numbered).1
+      parts_free (but k) (keys_of m.page) (is_within 0 (length m.fragment.sites)) (λ j e. is_other (keys_of m.page j) (ne j e)) (groups_from tsss) (groups_free (but k) tsss all) m.page.node
+      m.fragment.parts (parts_showing (is_within 0 (length m.fragment.sites)) m.fragment.parts (parts_within 0 (length m.fragment.sites) m.fragment.parts placed.numbered).1)
 
   -- on its own path it has the number of one from which nothing is drawn
-  on_path : (p : List ℕ) (m : Linked) → IsPlaced places (next_name d) p m → m ≡ l → JoinsFree (p, m)
-  on_path p m placed one tsss all =
-      let which = filled_at m.page.serials m.fragment.parts k.serial.0 m.page.outlets placed.undrawn (ap (λ (x : Linked). fills_any k.serial.0 x.page.outlets) one ∙ fills) in
-      parts_free k (keys_of m.page) (is_apart which.0 0 (length m.page.serials))
-      (λ j e.
-      let lies = apart which.0 0 (length m.page.serials) j e in
-      let bounds = within 0 (length m.page.serials) j lies.0 in
-      other_key k (keys_of m.page j)
-      (λ same_key_as. rising_differ m.page.serials j which.0 placed.rising bounds.1 which.1.0 (λ at_j. differ j which.0 lies.1 at_j)
-      (ap (λ (q : Key). q.serial.0) same_key_as ∙ sym which.1.1.0)))
-      (groups_from tsss) (groups_free k tsss all) m.page.node m.fragment.parts which.1.1.1
-    where
-      differ : (i j : ℕ) → (i == j) ≡ false → i ≡ j → ⊥
-      differ i j e same_number = let two : true ≡ false = sym (eq-eqb i j same_number) ∙ e in cc
+  module _ (p : List ℕ) (m : Linked) (placed : IsPlaced places (next_name d) p m) (test : ℕ → Bool) (draws : parts_show test m.fragment.parts ≡ true) (others : (j : ℕ) → test j ≡ true → keys_of m.page j ≡ k → ⊥) where
+    pub on_path : JoinsFree (p, m)
+    on_path tsss all = parts_free (but k) (keys_of m.page) test (λ j e. is_other (keys_of m.page j) (others j e)) (groups_from tsss) (groups_free (but k) tsss all) m.page.node m.fragment.parts draws
 
-  each_free : (es : Instances) → ArePlaced places (next_name d) es → AllByRecursion (λ (e : List ℕ × Linked). linked_at e.0 is ≡ Some e.1) es → AllByRecursion JoinsFree es
-  each_free [] placed at = tt
-  each_free (e ∷ es) placed at = (by_path (is_path k.path e.0) refl, each_free es placed.1 at.1)
-    where
-      by_path : (t : Bool) → is_path k.path e.0 ≡ t → JoinsFree e
-      by_path true is_it =
-          let two : Some e.1 ≡ Some l = sym at.0 ∙ (ap (λ (p : List ℕ). linked_at p is) (sym (path_is k.path e.0 is_it)) ∙ found) in
-          on_path e.0 e.1 placed.0 (let one : e.1 ≡ l = cc in one)
-      by_path false off_path = elsewhere e.0 e.1 placed.0 (λ same_path_as. let two : true ≡ false = sym (same_path k.path) ∙ (ap (is_path k.path) (sym same_path_as) ∙ off_path) in cc)
+  module _ (all_free : AllByRecursion JoinsFree is) where
+    stands_free : AreFree (but k) ts
+    stands_free = subst (AreFree (but k)) (sym b.stands) (read_all none_stand stands_join (AreFree (but k)) tt is all_free [])
 
-  all_free : AreFree k ts
-  all_free = subst (AreFree k) (sym b.stands) (read_all none_stand stands_join (AreFree k) tt is (each_free is b.each (each_found is b.ordered)) [])
+    alike : (q : Key) → but k q ≡ true → looks q ≡ same q
+    alike q e = off q (λ same_key_as. let two : false ≡ true = sym (ap not (ap (is_key k) same_key_as ∙ same_key k)) ∙ e in cc)
 
-  pub filling_forgotten : IsBuilt places same d is ts
-  filling_forgotten = record {
-    holds = subst (λ (f : NamedForest). Holds d f) (all_agree k looks same off ts all_free) b.holds;
-    stands = b.stands;
-    homed = b.homed;
-    ordered = b.ordered;
-    each = b.each;
-    apart = b.apart;
-    bodies = b.bodies;
-  }
+    pub key_forgotten : IsBuilt places same d is ts
+    key_forgotten = record {
+      holds = subst (λ (f : NamedForest). Holds d f) (all_agree (but k) looks same alike ts stands_free) b.holds;
+      stands = b.stands;
+      homed = b.homed;
+      ordered = b.ordered;
+      each = b.each;
+      apart = b.apart;
+      bodies = b.bodies;
+    }
+
+-- the number of a key that an instance has
+key_number : (l : Linked) (count : ℕ) → length l.page.serials ≡ count → (j : ℕ) → is_within 0 count j ≡ true → (k : Key) → keys_of l.page j ≡ k → slice_index_or l.page.serials j 0 ≡ k.serial.0
+key_number l count many j e k same =
+    let lt : j < length l.page.serials = let bounds = within 0 count j e in omega (arith, bounds.1, many) in
+    let at : slice_get l.page.serials j ≡ Some (slice_index_or l.page.serials j 0) = slice_get-get_or l.page.serials j 0 lt in
+    ap (λ (q : Key). q.serial.0) (sym (keys_at l.page j (slice_index_or l.page.serials j 0) at) ∙ same)
+
+-- from a site that fills outlets nothing is drawn
+module _ (places : Key → Option ℕ) (looks same : Key → Look) (d : Dom) (inner : Inners) (is : Instances) (ts : Stands) (b : IsBuilt places looks d is ts) (g : AreInner inner is) (k : Key) (l : Linked)
+    (found : linked_for inner k.path is ≡ Some l) (off : DifferAt k looks same) where
+  -- the key of a site is on a scope of its instance
+  apart_from : (p : List ℕ) (m : Linked) → linked_at p is ≡ Some m → IsPlaced places (next_name d) p m → (p ≡ instance_path inner k.path → ⊥) → (j : ℕ) → is_within 0 (length m.fragment.sites) j ≡ true → keys_of m.page j ≡ k → ⊥
+  apart_from p m at placed ne j e same =
+      let lt : j < length m.page.serials = let bounds = within 0 (length m.fragment.sites) j e in let count = placed.count in omega (arith, bounds.1, count) in
+      let s : ℕ = slice_index_or m.page.serials j 0 in
+      let key : keys_of m.page j ≡ key_in m.page s = keys_at m.page j s (slice_get-get_or m.page.serials j 0 lt) in
+      ne (sym (key_leads inner is g p m at placed.path s) ∙ ap (λ (q : Key). instance_path inner q.path) (sym key ∙ same))
+
+  module _ (test : ℕ → Bool) (draws : parts_show test l.fragment.parts ≡ true) (others : (j : ℕ) → test j ≡ true → keys_of l.page j ≡ k → ⊥) where
+    each_free : (es : Instances) → ArePlaced places (next_name d) es → AllByRecursion (λ (e : List ℕ × Linked). linked_at e.0 is ≡ Some e.1) es → AllByRecursion (JoinsFree places looks same d is ts b k off) es
+    each_free [] placed at = tt
+    each_free (e ∷ es) placed at = (by_path (is_path (instance_path inner k.path) e.0) refl, each_free es placed.1 at.1)
+      where
+        by_path : (t : Bool) → is_path (instance_path inner k.path) e.0 ≡ t → JoinsFree places looks same d is ts b k off e
+        by_path true is_it =
+            let two : Some e.1 ≡ Some l = sym at.0 ∙ (ap (λ (p : List ℕ). linked_at p is) (sym (path_is (instance_path inner k.path) e.0 is_it)) ∙ found) in
+            let one : e.1 ≡ l = cc in
+            on_path places looks same d is ts b k off e.0 e.1 placed.0 test (ap (λ (x : Linked). parts_show test x.fragment.parts) one ∙ draws)
+            (λ j t same_as. others j t (ap (λ (x : Linked). keys_of x.page j) (sym one) ∙ same_as))
+        by_path false off_path = elsewhere places looks same d is ts b k off e.0 e.1 placed.0 (apart_from e.0 e.1 at.0 placed.0 (λ same_path_as. not_path (instance_path inner k.path) e.0 off_path (sym same_path_as)))
+
+    pub drawn_nowhere : IsBuilt places same d is ts
+    drawn_nowhere = key_forgotten places looks same d is ts b k off (each_free is b.each (each_found is b.ordered))
+
+  placed : IsPlaced places (next_name d) (instance_path inner k.path) l
+  placed = at_path (λ (e : List ℕ × Linked). IsPlaced places (next_name d) e.0 e.1) (instance_path inner k.path) l is b.each found
+
+  differ : (i j : ℕ) → (i == j) ≡ false → i ≡ j → ⊥
+  differ i j e same_number = let two : true ≡ false = sym (eq-eqb i j same_number) ∙ e in cc
+
+  pub filling_forgotten : fills_any k.serial.0 l.page.outlets ≡ true → IsBuilt places same d is ts
+  filling_forgotten fills =
+      let which = filled_at l.page.serials l.fragment.parts k.serial.0 l.page.outlets placed.undrawn fills in
+      drawn_nowhere (is_apart which.0 0 (length l.page.serials)) which.1.1.1
+      (λ j e same_as.
+      let lies = apart which.0 0 (length l.page.serials) j e in
+      let bounds = within 0 (length l.page.serials) j lies.0 in
+      rising_differ l.page.serials j which.0 placed.rising bounds.1 which.1.0 (λ at_j. differ j which.0 lies.1 at_j)
+      (key_number l (length l.page.serials) refl j lies.0 k same_as ∙ sym which.1.1.0))
+
+  -- nor is it from one of a binding
+  pub binding_forgotten : is_some (bound_in_table k.serial.0 l.page.bounds) ≡ true → IsBuilt places same d is ts
+  binding_forgotten noted =
+      drawn_nowhere (is_unbound l.page.serials l.page.bounds) placed.unbound
+      (λ j e same_as.
+      let two = both_true (is_within 0 (length l.page.serials) j) (not (is_some (bound_in_table (slice_index_or l.page.serials j 0) l.page.bounds))) e in
+      let number = key_number l (length l.page.serials) refl j two.0 k same_as in
+      let no : not (is_some (bound_in_table k.serial.0 l.page.bounds)) ≡ true = ap (λ (n : ℕ). not (is_some (bound_in_table n l.page.bounds))) (sym number) ∙ two.1 in
+      let none : not true ≡ true = ap not (sym noted) ∙ no in
+      cc)
 
 -- the outlets of a whole fragment
-one_undrawn : (serials : List ℕ) (f : Fragment) → length serials ≡ length f.sites → (bodies : ℕ) (home : Home) (o : Outlet) (a : ℕ) → is_outlet (length f.sites) bodies o ≡ true → is_undrawn (length f.sites) f.parts o ≡ true
-    → IsUndrawn serials f.parts (outlet_on home serials o a)
-one_undrawn serials f many bodies home o a e u =
+one_undrawn : (serials : List ℕ) (f : Fragment) → length serials ≡ length f.sites → (bodies : ℕ) (r : Round) (o : Outlet) (a : ℕ) → is_outlet (length f.sites) bodies o ≡ true → is_undrawn (length f.sites) f.parts o ≡ true
+    → IsUndrawn serials f.parts (outlet_on r serials o a)
+one_undrawn serials f many bodies r o a e u =
     let lt : o.site < length f.sites = ltb-true o.site (length f.sites) (both_true (nat_lt o.site (length f.sites)) (is_body bodies o.filling) e).0 in
-    (o.site, (omega (arith, lt, many), (refl, ap (λ (n : ℕ). parts_draw (is_apart o.site 0 n) f.parts) many ∙ u)))
+    (o.site, (omega (arith, lt, many), (refl, ap (λ (n : ℕ). parts_show (is_apart o.site 0 n) f.parts) many ∙ parts_showing (is_apart o.site 0 (length f.sites)) f.parts u)))
 
-all_undrawn : (serials : List ℕ) (f : Fragment) → length serials ≡ length f.sites → (bodies : ℕ) (home : Home) (os : List Outlet) (names : List ℕ) → list_all (is_outlet (length f.sites) bodies) os ≡ true
-    → list_all (is_undrawn (length f.sites) f.parts) os ≡ true → AreUndrawn serials f.parts (outlets_on home serials os names)
-all_undrawn serials f many bodies home [] names e u = tt
-all_undrawn serials f many bodies home (o ∷ os) [] e u = tt
-all_undrawn serials f many bodies home (o ∷ os) (a ∷ names) e u =
+all_undrawn : (which : Origin) (g : Ground) (serials : List ℕ) (f : Fragment) → length serials ≡ length f.sites → (bodies i : ℕ) (os : List Outlet) (names : List ℕ) → list_all (is_outlet (length f.sites) bodies) os ≡ true
+    → list_all (is_undrawn (length f.sites) f.parts) os ≡ true → AreUndrawn serials f.parts (outlets_from which g serials f i os names)
+all_undrawn which g serials f many bodies i [] names e u = tt
+all_undrawn which g serials f many bodies i (o ∷ os) [] e u = tt
+all_undrawn which g serials f many bodies i (o ∷ os) (a ∷ names) e u =
     let first = both_true (is_outlet (length f.sites) bodies o) (list_all (is_outlet (length f.sites) bodies) os) e in
     let second = both_true (is_undrawn (length f.sites) f.parts o) (list_all (is_undrawn (length f.sites) f.parts) os) u in
-    (one_undrawn serials f many bodies home o a first.0 second.0, all_undrawn serials f many bodies home os names first.1 second.1)
+    (one_undrawn serials f many bodies (round_by which g (slice_get f.spots i)) o a first.0 second.0, all_undrawn which g serials f many bodies (i + 1) os names first.1 second.1)
 
-pub outlets_undrawn : (home : Home) (serials : List ℕ) (f : Fragment) → length serials ≡ length f.sites → (bodies : ℕ) → is_whole bodies f ≡ true → (names : List ℕ) → AreUndrawn serials f.parts (outlets_on home serials f.outlets names)
-outlets_undrawn home serials f many bodies whole names = all_undrawn serials f many bodies home f.outlets names (whole_numbers bodies f whole) (whole_undrawn bodies f whole)
+pub outlets_undrawn : (which : Origin) (g : Ground) (serials : List ℕ) (f : Fragment) → length serials ≡ length f.sites → (bodies : ℕ) → is_whole bodies f ≡ true → (names : List ℕ) → AreUndrawn serials f.parts (outlets_on which g serials f names)
+outlets_undrawn which g serials f many bodies whole names = all_undrawn which g serials f many bodies 0 f.outlets names (whole_numbers bodies f whole) (whole_undrawn bodies f whole)

@@ -1,5 +1,5 @@
 -- What is left stands, where a body is unlinked.
-use Rattle.std.proofs.Common.{◌≡◌, ℕ, Bool, true, false, cond, List, [], ◌∷◌, Option, Some, None, refl, ap, ◌∙◌, sym, subst}
+use Rattle.std.proofs.Common.{◌≡◌, ℕ, Bool, true, false, cond, List, [], ◌∷◌, Option, Some, None, refl, ap, ◌∙◌, sym, subst, arith}
 use Rattle.std.specs.Prelude.{IsSome, not, option_and_then, option_map}
 use Rattle.std.specs.BTreeMap.{BTreeMap, is_at}
 use Rattle.std.specs.List.{filter}
@@ -13,15 +13,15 @@ use Rattle.ng_dom.specs.Document.{next_name}
 use Rattle.ng_dom.specs.Drawing.{at_block_all}
 use Rattle.ng_dom.specs.declared.dom.Dom.{Dom}
 use Rattle.ng_drawing.specs.Looks.{seen_by}
-use Rattle.ng_template.specs.Kept.{Named}
+use Rattle.ng_compose.specs.Kept.{Named}
 use Rattle.ng_value.specs.Snaps.{snap_of}
 use Rattle.ng_value.specs.declared.snapshot.Snap.{Snap}
 use Rattle.ng_watch.specs.Keys.{is_key, begins}
 use Rattle.ng_watch.specs.Table.{found}
 use Rattle.ng_link.specs.Calls.{cut_at}
 use Rattle.ng_link.specs.Controls.{Controls, state_under}
-use Rattle.ng_link.specs.Instances.{OutletState, Linked, Instances, Owners, is_path, linked_at, with_outlets, outlets_changed, body_gone, without_below, owners_less, owners_without, unlinked}
-use Rattle.ng_link.specs.Standing.{IsPlaced, IsBuilt, IsHeldIn, IsStanding}
+use Rattle.ng_link.specs.Instances.{OutletState, Linked, Instances, Inners, Owners, is_path, linked_at, instance_path, key_in, keys_of, with_outlets, outlets_changed, body_gone, without_below, inner_without, owners_less, owners_without, unlinked}
+use Rattle.ng_link.specs.Standing.{IsBelow, IsPlaced, IsBuilt, AreInner, IsHeldIn, IsStanding}
 use Rattle.ng_link.specs.State.{Resting, kept_or, kept_in, look_of, linked_of, instances_of, resting_of, spot_at, spot_in, places_of, looks_in, state_of, templates_of}
 use Rattle.ng_link.specs.Unlinking.{IsHeldAt, body_cut, CutsOut}
 use Rattle.ng_link.specs.declared.works.Linked as code
@@ -29,10 +29,11 @@ use Rattle.ng_link.specs.declared.works.Works.{Works}
 use Rattle.ng_link.proofs.BuiltLess.{built_less}
 use Rattle.ng_link.proofs.BodiesAt.{bodies_cut}
 use Rattle.ng_link.proofs.Cuts.{gone_cut}
-use Rattle.ng_link.proofs.Grown.{no_some}
+use Rattle.ng_link.proofs.Grown.{no_some, is_some_of}
+use Rattle.ng_link.proofs.Inner.{path_alone, keys_case, key_leads, changed_inner, still_linked, on_stays, stays_off, left_path, left_gone, cut_inner}
 use Rattle.ng_link.proofs.Keys.{key_is}
-use Rattle.ng_link.proofs.Paths.{path_is}
-use Rattle.ng_link.proofs.ReadOff.{at_path}
+use Rattle.ng_link.proofs.Paths.{path_is, below_longer, begins_length, not_begins}
+use Rattle.ng_link.proofs.ReadOff.{in_held, at_path}
 use Rattle.ng_link.proofs.Tables.{filtered-seen}
 
 -- the outlets of an instance change alike
@@ -75,42 +76,38 @@ instances_kept all p (e ∷ es) = by_test (begins p e.0) (instances_kept all p e
     by_test true more = more
     by_test false more = ap (λ (xs : Instances). (e.0, linked_of all e.0 e.1) ∷ xs) more
 
--- where the sites of instances that stay are drawn
-module _ (p : List ℕ) (es : List (List ℕ × code.Linked)) (k : Key) where
-  same_path_same : (q : List ℕ) → is_path k.path q ≡ true → not (begins p q) ≡ not (begins p k.path)
-  same_path_same q is = ap (λ (r : List ℕ). not (begins p r)) (sym (path_is k.path q is))
-
-  pub spots_kept : spot_in (filter (λ e. not (begins p e.0)) es) k ≡ option_and_then (λ i. spot_at i k) (cond (not (begins p k.path)) (lookup (is_path k.path) es) None)
-  spots_kept = ap (option_and_then (λ i. spot_at i k)) (lookup-filter-keys (is_path k.path) (λ q. not (begins p q)) (not (begins p k.path)) same_path_same es)
-
-module _ (w : Works) (cuts : BTreeMap (List ℕ) code.Linked) (is : BTreeMap (List ℕ) code.Linked) (d : Dom) (os : BTreeMap ℕ (List ℕ)) (rs : BTreeMap Key (Option Snap)) (cs : BTreeMap Key ControlState) (holder p : List ℕ) (o i : ℕ)
+module _ (w : Works) (cuts : BTreeMap (List ℕ) code.Linked) (is : BTreeMap (List ℕ) code.Linked) (d : Dom) (os : BTreeMap ℕ (List ℕ)) (ps : BTreeMap (List ℕ) (List ℕ)) (rs : BTreeMap Key (Option Snap)) (cs : BTreeMap Key ControlState) (holder p : List ℕ) (o i : ℕ)
     (stands : IsStanding w) (holds : IsHeldIn holder p (state_of w).instances) (at : IsHeldAt p o i holds.0.page.outlets)
-    (cut : instances_of (templates_of w) cuts.entries ≡ outlets_changed holder (body_cut o i) (state_of w).instances) (spots : (k : Key) → spot_in cuts.entries k ≡ places_of w k)
+    (cut : instances_of (templates_of w) cuts.entries ≡ outlets_changed holder (body_cut o i) (state_of w).instances) (spots : (k : Key) → spot_in w.inner.entries cuts.entries k ≡ places_of w k)
     (nodes : CutsOut at.0.anchor i w.dom d)
     (left : is.entries ≡ filter (λ e. not (begins p e.0)) cuts.entries) (owned : os.entries ≡ owners_less (λ (one : code.Linked). one.node) p cuts.entries w.owners.entries)
+    (scopes : ps.entries ≡ inner_without p w.inner.entries)
     (rest : rs.entries ≡ filter (λ e. not (begins p e.0.path)) w.resting.entries) (fewer : cs.entries ≡ filter (λ e. not (begins p e.0.path)) w.controls.entries) where
   abbrev pub after : Works
-  after = record w { instances = is; dom = d; owners = os; resting = rs; controls = cs }
+  after = record w { instances = is; dom = d; owners = os; inner = ps; resting = rs; controls = cs }
 
   abbrev all : List Named
   all = templates_of w
 
-  placed : IsPlaced (places_of w) (next_name w.dom) holder holds.0
-  placed = at_path (λ (e : List ℕ × Linked). IsPlaced (places_of w) (next_name w.dom) e.0 e.1) holder holds.0 (state_of w).instances stands.1.built.each holds.1
+  abbrev were : Instances
+  were = (state_of w).instances
 
-  changed : outlets_changed holder (body_cut o i) (state_of w).instances ≡ outlets_changed holder (body_gone p) (state_of w).instances
+  placed : IsPlaced (places_of w) (next_name w.dom) holder holds.0
+  placed = at_path (λ (e : List ℕ × Linked). IsPlaced (places_of w) (next_name w.dom) e.0 e.1) holder holds.0 were stands.1.built.each holds.1
+
+  changed : outlets_changed holder (body_cut o i) were ≡ outlets_changed holder (body_gone p) were
   changed =
-      alike_changed holder (body_cut o i) (body_gone p) (state_of w).instances
+      alike_changed holder (body_cut o i) (body_gone p) were
       (λ l there.
       let two : Some holds.0 ≡ Some l = sym holds.1 ∙ there in
       let same : holds.0 ≡ l = cc in
       subst (λ (m : Linked). body_cut o i m.page.outlets ≡ body_gone p m.page.outlets) same (sym (gone_cut p holds.0.page.outlets o i at (placed.once p))))
 
-  gone : (state_of after).instances ≡ unlinked holder p (state_of w).instances
+  gone : (state_of after).instances ≡ unlinked holder p were
   gone = ap (instances_of all) left ∙ (instances_kept all p cuts.entries ∙ ap (without_below p) (cut ∙ changed))
 
-  less : os.entries ≡ owners_without p (state_of w).instances (state_of w).owners
-  less = owned ∙ (owners_kept all p cuts.entries w.owners.entries ∙ (ap (λ (xs : Instances). owners_without p xs w.owners.entries) cut ∙ owners_changed p holder (body_cut o i) (state_of w).instances w.owners.entries))
+  less : os.entries ≡ owners_without p were (state_of w).owners
+  less = owned ∙ (owners_kept all p cuts.entries w.owners.entries ∙ (ap (λ (xs : Instances). owners_without p xs w.owners.entries) cut ∙ owners_changed p holder (body_cut o i) were w.owners.entries))
 
   resting : resting_of rs.entries ≡ filter (λ e. not (begins p e.0.path)) (state_of w).resting
   resting = ap resting_of rest ∙ filtered-seen (λ (s : Option Snap). option_map snap_of s) (λ (k : Key). not (begins p k.path)) w.resting.entries
@@ -121,24 +118,60 @@ module _ (w : Works) (cuts : BTreeMap (List ℕ) code.Linked) (is : BTreeMap (Li
   pub unlinked_state : state_of after ≡ cut_at holder p (state_of w)
   unlinked_state =
       ap (λ (xs : Instances). record (state_of after) { instances = xs }) gone
-      ∙ (ap (λ (ns : Owners). record (state_of after) { instances = unlinked holder p (state_of w).instances; owners = ns }) less
-      ∙ (ap (λ (r : Resting). record (state_of after) { instances = unlinked holder p (state_of w).instances; owners = owners_without p (state_of w).instances (state_of w).owners; resting = r }) resting
+      ∙ (ap (λ (ns : Owners). record (state_of after) { instances = unlinked holder p were; owners = ns }) less
+      ∙ (ap (λ (t : Inners). record (state_of after) { instances = unlinked holder p were; owners = owners_without p were (state_of w).owners; inner = t }) scopes
+      ∙ (ap (λ (r : Resting). record (state_of after) { instances = unlinked holder p were; owners = owners_without p were (state_of w).owners; inner = inner_without p (state_of w).inner; resting = r }) resting
       ∙ (ap (λ (x : Controls). record (cut_at holder p (state_of w)) { controls = x; next_node = next_name d }) fewer
-      ∙ ap (λ (n : ℕ). record (cut_at holder p (state_of w)) { next_node = n }) next)))
+      ∙ ap (λ (n : ℕ). record (cut_at holder p (state_of w)) { next_node = n }) next))))
 
-  -- sites that stay are drawn where they were, and show what they showed
-  place : (k : Key) → places_of after k ≡ option_and_then (λ (x : code.Linked). spot_at x k) (cond (not (begins p k.path)) (lookup (is_path k.path) cuts.entries) None)
-  place k = ap (λ (es : List (List ℕ × code.Linked)). spot_in es k) left ∙ spots_kept p cuts.entries k
+  -- what is linked to an inner scope goes with it
+  there : IsSome (linked_at p were)
+  there = stands.1.built.bodies.linked holder p holds
+
+  abbrev on : Key → List ℕ
+  on k = instance_path w.inner.entries k.path
+
+  -- where the sites of instances that stay are drawn
+  place : (k : Key) → places_of after k ≡ option_and_then (λ (x : code.Linked). spot_at x k) (cond (not (begins p (instance_path ps.entries k.path))) (lookup (is_path (instance_path ps.entries k.path)) cuts.entries) None)
+  place k =
+      let q : List ℕ = instance_path ps.entries k.path in
+      ap (λ (es : List (List ℕ × code.Linked)). spot_in ps.entries es k) left
+      ∙ ap (option_and_then (λ (x : code.Linked). spot_at x k))
+      (lookup-filter-keys (is_path q) (λ (r : List ℕ). not (begins p r)) (not (begins p q)) (λ r same. ap (λ (s : List ℕ). not (begins p s)) (sym (path_is q r same))) cuts.entries)
 
   old : (k : Key) → begins p k.path ≡ false → places_of after k ≡ places_of w k
-  old k off = place k ∙ (ap (λ (b : Bool). option_and_then (λ (x : code.Linked). spot_at x k) (cond (not b) (lookup (is_path k.path) cuts.entries) None)) off ∙ spots k)
+  old k off =
+      let same : instance_path ps.entries k.path ≡ on k = ap (λ (t : Inners). instance_path t k.path) scopes ∙ left_path p w.inner.entries were stands.1.inner there k.path off in
+      let stays : begins p (on k) ≡ false = on_stays p w.inner.entries were stands.1.inner there k.path off in
+      place k
+      ∙ (ap (λ (q : List ℕ). option_and_then (λ (x : code.Linked). spot_at x k) (cond (not (begins p q)) (lookup (is_path q) cuts.entries) None)) same
+      ∙ (ap (λ (b : Bool). option_and_then (λ (x : code.Linked). spot_at x k) (cond (not b) (lookup (is_path (on k)) cuts.entries) None)) stays ∙ spots k))
 
+  -- a site that has a place stays
   stays : (k : Key) → IsSome (places_of after k) → begins p k.path ≡ false
   stays k some = by_test (begins p k.path) refl
     where
       by_test : (b : Bool) → begins p k.path ≡ b → b ≡ false
-      by_test true on = absurd (no_some (places_of after k) (place k ∙ ap (λ (b : Bool). option_and_then (λ (x : code.Linked). spot_at x k) (cond (not b) (lookup (is_path k.path) cuts.entries) None)) on) some)
+      by_test true on_path =
+          let q_is : instance_path ps.entries k.path ≡ k.path = ap (λ (t : Inners). instance_path t k.path) scopes ∙ path_alone (inner_without p w.inner.entries) k.path (left_gone p w.inner.entries were stands.1.inner there k.path on_path) in
+          absurd (no_some (places_of after k)
+          (place k
+          ∙ (ap (λ (q : List ℕ). option_and_then (λ (x : code.Linked). spot_at x k) (cond (not (begins p q)) (lookup (is_path q) cuts.entries) None)) q_is
+          ∙ ap (λ (b : Bool). option_and_then (λ (x : code.Linked). spot_at x k) (cond (not b) (lookup (is_path k.path) cuts.entries) None)) on_path)) some)
       by_test false off = refl
+
+  -- the keys of an instance that stays are on paths that stay
+  still : (q : List ℕ) (l : Linked) → linked_at q were ≡ Some l → begins p q ≡ false → (j y : ℕ) → places_of w (keys_of l.page j) ≡ Some y → places_of after (keys_of l.page j) ≡ Some y
+  still q l at_q off j y e =
+      let own = (at_path (λ (x : List ℕ × Linked). IsPlaced (places_of w) (next_name w.dom) x.0 x.1) q l were stands.1.built.each at_q).path in
+      let away : begins p (keys_of l.page j).path ≡ false =
+      keys_case (λ (k : Key). begins p k.path ≡ false) l.page
+      (λ s. stays_off p w.inner.entries were stands.1.inner there (key_in l.page s).path q (key_leads w.inner.entries were stands.1.inner q l at_q own s) off)
+      (root_stays p holder (in_held holder p holds.0.page.outlets placed.bodies holds.2)) j in
+      old (keys_of l.page j) away ∙ e
+    where
+      root_stays : (r h : List ℕ) → IsBelow h r → begins r [] ≡ false
+      root_stays r h below = not_begins r [] (λ on_root. let few = begins_length r [] on_root in let many = below_longer h r below in omega (arith, few, many))
 
   looks : (k : Key) → begins p k.path ≡ false → looks_in (state_of w) k ≡ looks_in (state_of after) k
   looks k off =
@@ -151,14 +184,27 @@ module _ (w : Works) (cuts : BTreeMap (List ℕ) code.Linked) (is : BTreeMap (Li
       ap (λ (s : Option (Option ViewTree)). look_of (seen_by (state_under k (state_of w).controls) (kept_or (found k (state_of w).watchers) s))) (sym kept ∙ ap (lookup (is_key k)) (sym resting))
       ∙ ap (λ (c : Option ControlState). look_of (seen_by c (kept_in (state_of w).watchers (resting_of rs.entries) k))) (sym controls)
 
+  inner_left : AreInner ps.entries (unlinked holder p were)
+  inner_left =
+      subst (λ (t : Inners). AreInner t (unlinked holder p were)) (sym scopes)
+      (cut_inner p w.inner.entries (outlets_changed holder (body_gone p) were) (changed_inner holder (body_gone p) were w.inner.entries stands.1.inner) (there_still p there))
+    where
+      there_still : (q : List ℕ) → IsSome (linked_at q were) → IsSome (linked_at q (outlets_changed holder (body_gone p) were))
+      there_still q some = by_found (linked_at q were) refl some
+        where
+          by_found : (x : Option Linked) → linked_at q were ≡ x → IsSome x → IsSome (linked_at q (outlets_changed holder (body_gone p) were))
+          by_found None e none = absurd (cc)
+          by_found (Some m) e one = let then_one = still_linked holder (body_gone p) were q m e in is_some_of (linked_at q (outlets_changed holder (body_gone p) were)) then_one.0 then_one.1.0
+
   pub unlinked_stands : IsStanding after
   unlinked_stands = (
     at_block_all at.0.anchor (bodies_cut i) stands.0,
     record {
       built =
           subst (λ (xs : Instances). IsBuilt (places_of after) (looks_in (state_of after)) d xs (at_block_all at.0.anchor (bodies_cut i) stands.0)) (sym gone)
-          (built_less (places_of w) (places_of after) (looks_in (state_of w)) (looks_in (state_of after)) w.dom nodes.emptied d (state_of w).instances stands.0 holder p holds.0 o at.0 i at.2.0
-          stands.1.built holds.1 at.1 at.2.1 at.2.2 old (λ k q there. looks k (stays k (subst (λ (x : Option ℕ). IsSome x) (sym there) refl))) nodes.empties nodes.becomes nodes.stays);
+          (built_less (places_of w) (places_of after) (looks_in (state_of w)) (looks_in (state_of after)) w.dom nodes.emptied d were stands.0 holder p holds.0 o at.0 i at.2.0
+          stands.1.built holds.1 at.1 at.2.1 at.2.2 still (λ k q place_at. looks k (stays k (subst (λ (x : Option ℕ). IsSome x) (sym place_at) refl))) nodes.empties nodes.becomes nodes.stays);
+      inner = subst (λ (xs : Instances). AreInner ps.entries xs) (sym gone) inner_left;
       below = λ k some. stands.1.below k (subst (λ (x : Option ℕ). IsSome x) (old k (stays k some)) some);
       watched = stands.1.watched;
     },

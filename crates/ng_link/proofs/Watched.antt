@@ -1,7 +1,7 @@
 -- The objects that watchers name are there, whatever watchers come and go.
 use Rattle.std.proofs.Common.{◌≡◌, ◌≤◌, ◌<◌, ℕ, Bool, true, false, cond, List, [], ◌∷◌, Option, Some, None, subst, arith}
 use Rattle.std.specs.BTreeMap.{insert_entry}
-use Rattle.std.specs.List.{filter}
+use Rattle.std.specs.List.{AllByRecursion, filter}
 use Rattle.std.specs.Map.{remove_entry}
 use Rattle.std.specs.Option.{ForSome}
 use Rattle.std.specs.Ordering.{match_ordering}
@@ -14,12 +14,11 @@ use Rattle.ng_drawing.specs.declared.kind.SiteKind.{SiteKind}
 use Rattle.ng_drawing.specs.declared.kind.SiteKind.TheVariants as sites
 use Rattle.ng_watch.specs.Keys.{key_cmp, is_key}
 use Rattle.ng_watch.specs.Seen.{Watcher, DestStands, WatchStands}
-use Rattle.ng_watch.specs.Table.{Table, found, keeping, with_kept, AllStand}
+use Rattle.ng_watch.specs.Table.{Table, found, keeping, with_kept, with_watch, AllStand}
 use Rattle.ng_watch.specs.declared.watch.WatchKind.{WatchKind}
 use Rattle.ng_watch.specs.declared.watch.WatchKind.TheVariants as kinds
 use Rattle.ng_link.specs.Laws.{WatchersAreFound}
-use Rattle.ng_link.specs.Rows.{watch_kind, watching_site, with_sites}
-use Rattle.ng_link.specs.Shape.{key_on}
+use Rattle.ng_link.specs.Rows.{Row, watch_kind, kind_against, kind_with, watching_site, with_first, with_row, with_sites}
 use Rattle.ng_link.specs.Standing.{WatchersStand}
 
 -- objects only come
@@ -83,12 +82,41 @@ module _ (count : ℕ) where
   no_dest sites.Reference = tt
   no_dest sites.Collection = tt
   no_dest sites.Deep = tt
+  no_dest sites.TwoWay = tt
 
-  pub stand_sites : (path : List ℕ) (o : ℕ) (ss : List ℕ) (xs : List Site) (t : Table) → o < count → WatchersStand count t → WatchersStand count (with_sites path o ss xs t)
-  stand_sites path o [] xs t lt h = h
-  stand_sites path o (s ∷ ss) [] t lt h = h
-  stand_sites path o (s ∷ ss) (x ∷ xs) t lt h =
-      stand_sites path o ss xs (insert_entry key_cmp t (key_on path s) (record { watch = watching_site o x; kept = None })) lt (stand_put (key_on path s) (record { watch = watching_site o x; kept = None }) t (lt, no_dest x.kind) h)
+  -- what a row is watched over, and compared with, is there
+  abbrev pub WayStands : Option (ℕ × List ℕ) → Type 0
+  WayStands None = Unit {0}
+  WayStands (Some w) = w.0 < count
+
+  abbrev pub RowStands : Row → Type 0
+  RowStands r = (r.object < count) × WayStands r.way
+
+  dest_with : (kind : SiteKind) (way : Option (ℕ × List ℕ)) → WayStands way → DestStands count (kind_with kind way)
+  dest_with kind None h = no_dest kind
+  dest_with kind (Some w) h = against kind w h
+    where
+      against : (kind : SiteKind) (w : ℕ × List ℕ) → w.0 < count → DestStands count (kind_against kind w)
+      against sites.Text w h = tt
+      against sites.Words w h = tt
+      against sites.Reference w h = tt
+      against sites.Collection w h = tt
+      against sites.Deep w h = tt
+      against sites.TwoWay w h = h
+
+  stand_first : (k : Key) (v : Option ViewTree) (t : Table) → WatchersStand count t → WatchersStand count (with_first k v t)
+  stand_first k None t h = h
+  stand_first k (Some v) t h = stand_kept k (Some v) t h
+
+  stand_row : (r : Row) (x : Site) (t : Table) → RowStands r → WatchersStand count t → WatchersStand count (with_row r x t)
+  stand_row r x t row h =
+      stand_first r.key r.kept (with_watch r.key (watching_site r.object r.way x) t)
+      (stand_put r.key (record { watch = watching_site r.object r.way x; kept = None }) t (row.0, dest_with x.kind r.way row.1) h)
+
+  pub stand_sites : (rs : List Row) (xs : List Site) (t : Table) → AllByRecursion RowStands rs → WatchersStand count t → WatchersStand count (with_sites rs xs t)
+  stand_sites [] xs t all h = h
+  stand_sites (r ∷ rs) [] t all h = h
+  stand_sites (r ∷ rs) (x ∷ xs) t all h = stand_sites rs xs (with_row r x t) all.1 (stand_row r x t all.0 h)
 
 pub watchers_found : WatchersAreFound
 watchers_found count t h = stand_found count t h

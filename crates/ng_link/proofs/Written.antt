@@ -3,8 +3,8 @@ use Rattle.std.proofs.Common.{◌≡◌, ◌<◌, ℕ, zero, suc, Bool, true, fa
 use Rattle.std.specs.Map.{lookup, set_value}
 use Rattle.std.specs.Prelude.{option_and_then}
 use Rattle.ng_base.specs.declared.path.Key.{Key}
-use Rattle.ng_template.specs.Kept.{Named}
-use Rattle.ng_link.specs.Instances.{Body, OutletState, Linked, Instances, is_path, with_outlets, outlets_changed, with_body, body_added, with_bodies, bodies_arranged}
+use Rattle.ng_compose.specs.Kept.{Named}
+use Rattle.ng_link.specs.Instances.{Body, OutletState, Linked, Instances, Inners, instance_path, is_path, with_outlets, outlets_changed, with_body, body_added, with_bodies, bodies_arranged}
 use Rattle.ng_link.specs.State.{outlet_of, linked_of, instances_of, spot_at, spot_in}
 use Rattle.ng_link.specs.declared.works.Linked as code
 use Rattle.ng_link.specs.declared.works.OutletState as code_outlet
@@ -60,26 +60,26 @@ module _ (all : List Named) (holder : List ℕ) (g : List OutletState → List O
       by_test false here more = ap (λ (is : Instances). (e.0, linked_of all e.0 e.1) ∷ is) (more here)
 
 -- each site is drawn where it was
-pub spots_written : (holder : List ℕ) (k : Key) (es : List (List ℕ × code.Linked)) (v w : code.Linked) → lookup (is_path holder) es ≡ Some v → w ≡ record v { outlets = w.outlets } → spot_in (set_value (is_path holder) es w) k ≡ spot_in es k
-spots_written holder k [] v w at same = refl
-spots_written holder k (e ∷ es) v w at same = by_test (is_path holder e.0) at (spots_written holder k es v w)
+pub spots_written : (inner : Inners) (holder : List ℕ) (k : Key) (es : List (List ℕ × code.Linked)) (v w : code.Linked) → lookup (is_path holder) es ≡ Some v → w ≡ record v { outlets = w.outlets } → spot_in inner (set_value (is_path holder) es w) k ≡ spot_in inner es k
+spots_written inner holder k [] v w at same = refl
+spots_written inner holder k (e ∷ es) v w at same = by_test (is_path holder e.0) at (spots_written inner holder k es v w)
   where
     spot_of : Option code.Linked → Option ℕ
     spot_of o = option_and_then (λ (i : code.Linked). spot_at i k) o
 
-    by_test : (b : Bool) → cond b (Some e.1) (lookup (is_path holder) es) ≡ Some v → (lookup (is_path holder) es ≡ Some v → w ≡ record v { outlets = w.outlets } → spot_in (set_value (is_path holder) es w) k ≡ spot_in es k)
-        → spot_in (cond b ((e.0, w) ∷ es) (e ∷ set_value (is_path holder) es w)) k ≡ spot_in (e ∷ es) k
+    by_test : (b : Bool) → cond b (Some e.1) (lookup (is_path holder) es) ≡ Some v → (lookup (is_path holder) es ≡ Some v → w ≡ record v { outlets = w.outlets } → spot_in inner (set_value (is_path holder) es w) k ≡ spot_in inner es k)
+        → spot_in inner (cond b ((e.0, w) ∷ es) (e ∷ set_value (is_path holder) es w)) k ≡ spot_in inner (e ∷ es) k
     by_test true here more =
         let one : e.1 ≡ v = cc in
         let alike : spot_at w k ≡ spot_at e.1 k = ap (λ (i : code.Linked). spot_at i k) same ∙ ap (λ (i : code.Linked). spot_at i k) (sym one) in
-        by_key (is_path k.path e.0) alike
+        by_key (is_path (instance_path inner k.path) e.0) alike
       where
-        by_key : (c : Bool) → spot_at w k ≡ spot_at e.1 k → spot_of (cond c (Some w) (lookup (is_path k.path) es)) ≡ spot_of (cond c (Some e.1) (lookup (is_path k.path) es))
+        by_key : (c : Bool) → spot_at w k ≡ spot_at e.1 k → spot_of (cond c (Some w) (lookup (is_path (instance_path inner k.path)) es)) ≡ spot_of (cond c (Some e.1) (lookup (is_path (instance_path inner k.path)) es))
         by_key true same_spot = same_spot
         by_key false same_spot = refl
-    by_test false here more = by_key (is_path k.path e.0) (more here same)
+    by_test false here more = by_key (is_path (instance_path inner k.path) e.0) (more here same)
       where
-        by_key : (c : Bool) → spot_of (lookup (is_path k.path) (set_value (is_path holder) es w)) ≡ spot_of (lookup (is_path k.path) es)
-            → spot_of (cond c (Some e.1) (lookup (is_path k.path) (set_value (is_path holder) es w))) ≡ spot_of (cond c (Some e.1) (lookup (is_path k.path) es))
+        by_key : (c : Bool) → spot_of (lookup (is_path (instance_path inner k.path)) (set_value (is_path holder) es w)) ≡ spot_of (lookup (is_path (instance_path inner k.path)) es)
+            → spot_of (cond c (Some e.1) (lookup (is_path (instance_path inner k.path)) (set_value (is_path holder) es w))) ≡ spot_of (cond c (Some e.1) (lookup (is_path (instance_path inner k.path)) es))
         by_key true more_spot = refl
         by_key false more_spot = more_spot

@@ -1,5 +1,5 @@
 -- What the calls on the works of a page come to.
-use Rattle.std.specs.Prelude.{ℕ, ◌+◌, ◌&&◌, Bool, false, List, [], ◌∷◌, Option, None, not, Some, slice_index_or, if◌then◌else◌}
+use Rattle.std.specs.Prelude.{ℕ, ◌+◌, ◌&&◌, Bool, false, List, [], ◌∷◌, map, drop, Option, None, not, Some, is_some, slice_get, slice_index_or, if◌then◌else◌}
 use Rattle.std.specs.BTreeMap.{insert_entry}
 use Rattle.std.specs.List.{filter, list_any}
 use Rattle.std.specs.Ordering.{nat_cmp}
@@ -7,29 +7,31 @@ use Rattle.std.specs.Map.{remove_entry}
 use Rattle.ng_core.specs.State as act
 use Rattle.ng_base.specs.Views.{ViewTree}
 use Rattle.ng_base.specs.declared.path.Key.{Key}
-use Rattle.ng_behaviour.specs.Scopes.{path_at, object_at}
+use Rattle.ng_behaviour.specs.Scopes.{Scope, path_at, live_at}
 use Rattle.ng_control.specs.State.{ControlState, with_model}
 use Rattle.ng_drawing.specs.Nodes.{nodes}
 use Rattle.ng_drawing.specs.Origins.{inner_home}
 use Rattle.ng_drawing.specs.Roles.{Role}
-use Rattle.ng_drawing.specs.Template.{Outlet, Fragment}
-use Rattle.ng_drawing.specs.declared.origin.Home.{Home}
+use Rattle.ng_drawing.specs.Template.{Outlet, OutletScope, Fragment}
 use Rattle.ng_drawing.specs.declared.origin.Origin.{Origin}
-use Rattle.ng_template.specs.Kept.{Named}
+use Rattle.ng_parts.specs.Directing.{Programs}
+use Rattle.ng_compose.specs.Kept.{Named}
 use Rattle.ng_watch.specs.Ended.{over, without_over}
 use Rattle.ng_watch.specs.Keys.{key_cmp, is_key, begins}
 use Rattle.ng_watch.specs.Seen.{Watching}
 use Rattle.ng_watch.specs.Table.{Table, with_kept, with_watch, without_watch, under, without_under}
+use Rattle.ng_link.specs.Bindings.{bound_in_table}
 use Rattle.ng_link.specs.Controls.{controlled, controls_begun, control_changed}
-use Rattle.ng_link.specs.Handlers.{handled}
-use Rattle.ng_link.specs.Rows.{with_sites}
-use Rattle.ng_link.specs.Instances.{Body, OutletState, Page, Linked, Instances, linked_at, is_site_of, is_site, is_filled_by, with_instance, outlets_changed, body_added, bodies_arranged, unlinked, owners_without}
-use Rattle.ng_link.specs.Shape.{keys_in, anchors}
+use Rattle.ng_link.specs.Handlers.{handled, scoped}
+use Rattle.ng_link.specs.Registering.{Ground, scope_in_ground, outside_in_ground, Round, Registered, mark_in, marks_from, keys_on, site_rows}
+use Rattle.ng_link.specs.Rows.{Row, with_sites}
+use Rattle.ng_link.specs.Instances.{Body, OutletState, Inner, Page, Linked, Instances, Inners, scope_number, linked_for, is_site_of, is_site, is_filled_by, with_instance, with_inner, outlets_changed, body_added, bodies_arranged, unlinked, owners_without, inner_without}
+use Rattle.ng_link.specs.Shape.{keys_or, anchors}
 use Rattle.ng_link.specs.State.{Listening, Resting, State}
 
 -- nothing is watched and nothing is linked yet
-abbrev pub blank : List Named → act.State → State
-blank all c = record { core = c; templates = all; watchers = []; resting = []; controls = []; declared = []; instances = []; owners = []; next_node = 0 }
+abbrev pub blank : List Named → List Programs → act.State → State
+blank all ds c = record { core = c; templates = all; directives = ds; watchers = []; resting = []; controls = []; declared = []; instances = []; owners = []; inner = []; next_node = 0 }
 
 abbrev pub with_core : act.State → State → State
 with_core c s = record s { core = c }
@@ -42,39 +44,39 @@ with_control_at f k s = record s { controls = control_changed f k s.controls }
 abbrev pub keeping_at : Key → ViewTree → State → State
 keeping_at k v s = record s { watchers = with_kept k (Some v) s.watchers; controls = control_changed (λ c. with_model c v) k s.controls }
 
--- whether the site of a key is drawn: one that fills outlets is not
+-- whether the site of a key is drawn: one that fills outlets is not, nor one of a binding
 abbrev pub fills_any : ℕ → List OutletState → Bool
 fills_any serial os = list_any (is_filled_by serial) os
 
 abbrev pub is_drawn_in : Option Linked → Key → Bool
 is_drawn_in None k = false
-is_drawn_in (Some l) k = is_site_of l.page k.serial.0 && not (fills_any k.serial.0 l.page.outlets)
+is_drawn_in (Some l) k = is_site_of l.page k.serial.0 && (not (fills_any k.serial.0 l.page.outlets) && not (is_some (bound_in_table k.serial.0 l.page.bounds)))
 
 abbrev pub is_drawn : State → Key → Bool
-is_drawn s k = is_drawn_in (linked_at k.path s.instances) k
+is_drawn s k = is_drawn_in (linked_for s.inner k.path s.instances) k
 
--- A declared watch, or a site that fills outlets, keeps nothing any more. The fire of a site that is drawn never faults.
+-- A declared watch, or a site that fills outlets or is a binding's, keeps nothing any more. The fire of a site that is drawn never faults.
 abbrev pub unset_at : Key → State → State
 unset_at k s = if is_drawn s k then s else record s { watchers = with_kept k None s.watchers }
 
 -- a watch is declared, under a key that is no site's
 abbrev pub declared_at : Key → Watching → Listening → State → State
-declared_at k w l s = if is_site s.instances k then s else record s { watchers = with_watch k w s.watchers; declared = insert_entry key_cmp s.declared k l }
+declared_at k w l s = if is_site s.inner s.instances k then s else record s { watchers = with_watch k w s.watchers; declared = insert_entry key_cmp s.declared k l }
 
 -- a declared watch is taken out
 abbrev pub undeclared_at : Key → State → State
-undeclared_at k s = if is_site s.instances k then s else record s { watchers = without_watch k s.watchers; declared = remove_entry (is_key k) s.declared }
+undeclared_at k s = if is_site s.inner s.instances k then s else record s { watchers = without_watch k s.watchers; declared = remove_entry (is_key k) s.declared }
 
 -- sites whose watchers are taken out rest with what they have kept; what is no site's is gone
-abbrev pub rested : Instances → Table → Resting → Resting
-rested is [] r = r
-rested is (e ∷ es) r = rested is es (if is_site is e.0 then insert_entry key_cmp r e.0 e.1.kept else r)
+abbrev pub rested : Inners → Instances → Table → Resting → Resting
+rested inner is [] r = r
+rested inner is (e ∷ es) r = rested inner is es (if is_site inner is e.0 then insert_entry key_cmp r e.0 e.1.kept else r)
 
 -- the watchers of a scope and of those below it are taken out: its sites rest, and its declared watches are no more
 abbrev pub left_at : List ℕ → State → State
 left_at p s = record s {
   watchers = without_under p s.watchers;
-  resting = rested s.instances (under p s.watchers) s.resting;
+  resting = rested s.inner s.instances (under p s.watchers) s.resting;
   declared = filter (λ e. not (begins p e.0.path)) s.declared;
 }
 
@@ -82,34 +84,52 @@ left_at p s = record s {
 abbrev pub ended_at : State → State
 ended_at s = record s {
   watchers = without_over s.core.objects s.watchers;
-  resting = rested s.instances (over s.core.objects s.watchers) s.resting;
+  resting = rested s.inner s.instances (over s.core.objects s.watchers) s.resting;
 }
 
--- the outlets of a fragment whose bodies come from a template, and whose sites have these numbers of registration, at anchors of these names; nothing fills them yet
-abbrev pub outlet_on : Home → List ℕ → Outlet → ℕ → OutletState
-outlet_on home serials o a = record { serial = slice_index_or serials o.site 0; home = home; filling = o.filling; anchor = a; bodies = [] }
+-- the outlets of a fragment whose sites have these numbers of registration, at anchors of these names; nothing fills them yet
+abbrev pub round_by : Origin → Ground → Option OutletScope → Round
+round_by which g None = record { home = inner_home which; scope = scope_in_ground g 0; outsides = g.outsides }
+round_by which g (Some s) = record { home = s.home; scope = scope_in_ground g s.scope; outsides = map (outside_in_ground g) s.outsides }
 
-abbrev pub outlets_on : Home → List ℕ → List Outlet → List ℕ → List OutletState
-outlets_on home serials [] names = []
-outlets_on home serials (o ∷ os) [] = []
-outlets_on home serials (o ∷ os) (a ∷ names) = outlet_on home serials o a ∷ outlets_on home serials os names
+abbrev pub outlet_on : Round → List ℕ → Outlet → ℕ → OutletState
+outlet_on r serials o a = record { serial = slice_index_or serials o.site 0; home = r.home; scope = r.scope; outsides = r.outsides; filling = o.filling; anchor = a; bodies = [] }
+
+abbrev pub outlets_from : Origin → Ground → List ℕ → Fragment → ℕ → List Outlet → List ℕ → List OutletState
+outlets_from which g serials f i [] names = []
+outlets_from which g serials f i (o ∷ os) [] = []
+outlets_from which g serials f i (o ∷ os) (a ∷ names) = outlet_on (round_by which g (slice_get f.spots i)) serials o a ∷ outlets_from which g serials f (i + 1) os names
+
+abbrev pub outlets_on : Origin → Ground → List ℕ → Fragment → List ℕ → List OutletState
+outlets_on which g serials f names = outlets_from which g serials f 0 f.outlets names
 
 -- the instance of a fragment on a scope of a path: its sites have these numbers of registration, its nodes the names
 -- from one on, and its handlers, controls and anchors are entered with these
-abbrev pub page_on : Origin → ℕ → List ℕ → Fragment → List ℕ → ℕ → Page
-page_on which scope path f serials node = record {
+abbrev pub inner_on : List Scope → List ℕ → List Inner
+inner_on scopes ns = map (λ n. record { scope = n; path = path_at scopes n }) (drop 1 ns)
+
+abbrev pub page_on : List Scope → Origin → ℕ → Fragment → Registered → ℕ → Page
+page_on scopes which scope f r node = record {
   origin = which;
   scope = scope;
-  path = path;
-  serials = serials;
+  path = path_at scopes scope;
+  serials = r.serials;
   node = node;
   handlers = handled node f.parts [];
-  controls = controlled (keys_in path serials) node f.parts [];
-  outlets = outlets_on (inner_home which) serials f.outlets (anchors node f.parts);
+  controls = controlled (keys_or (path_at scopes scope) (keys_on scopes f r.at_hand 0 r.serials)) node f.parts [];
+  outlets = outlets_on which r.at_hand r.serials f (anchors node f.parts);
+  inner = inner_on scopes r.at_hand.scopes;
+  marks = marks_from f 0 r.serials [];
+  elements = scoped node f.parts [];
+  bounds = r.bounds;
 }
 
-abbrev pub linked_on : Origin → ℕ → List ℕ → Fragment → List ℕ → ℕ → Linked
-linked_on which scope path f serials node = record { fragment = f; page = page_on which scope path f serials node }
+abbrev pub linked_on : List Scope → Origin → ℕ → Fragment → Registered → ℕ → Linked
+linked_on scopes which scope f r node = record { fragment = f; page = page_on scopes which scope f r node }
+
+-- whether one of an instance's sites is on a scope that lives
+abbrev pub any_on : List Scope → Page → List ℕ → Bool
+any_on scopes p ns = list_any (λ n. live_at scopes (scope_number p (mark_in p.marks n).under)) ns
 
 -- where an instance stands: it is the page's, or a body in an outlet of another instance, which stands for this, and before the i-th of
 -- those that are there, or at the end
@@ -121,19 +141,21 @@ abbrev pub taken_in : Place → List ℕ → Instances → Instances
 taken_in at_top p is = is
 taken_in (in_outlet holder o i role) p is = outlets_changed holder (body_added o i (record { path = p; role = role })) is
 
--- A fragment stands at a place on a scope of a path: its sites are watched over the scope's object, each under its
--- number of registration, its nodes stand, its controls have taken nothing yet, and its instance is noted.
-abbrev pub placed_under : Place → List ℕ → ℕ → Origin → ℕ → Fragment → List ℕ → State → State
-placed_under place path object which scope f serials s = record s {
-  watchers = with_sites path object serials f.sites s.watchers;
-  controls = controls_begun (controlled (keys_in path serials) s.next_node f.parts []) s.controls;
-  instances = taken_in place path (with_instance path (linked_on which scope path f serials s.next_node) s.instances);
+-- A fragment whose steps are done stands at a place on a scope: its sites are watched, each under its number of registration, its nodes stand, its
+-- controls have taken nothing yet, and its instance is noted, with its inner scopes.
+abbrev pub placed_under : Place → List ℕ → Linked → List Row → State → State
+placed_under place path l rows s = record s {
+  watchers = with_sites rows l.fragment.sites s.watchers;
+  controls = controls_begun l.page.controls s.controls;
+  instances = taken_in place path (with_instance path l s.instances);
   owners = insert_entry nat_cmp s.owners s.next_node path;
-  next_node = s.next_node + nodes f.parts;
+  inner = with_inner path l.page.inner s.inner;
+  next_node = s.next_node + nodes l.fragment.parts;
 }
 
-abbrev pub placed_on : Place → Origin → ℕ → Fragment → List ℕ → State → State
-placed_on place which scope f serials s = placed_under place (path_at s.core.scopes scope) (object_at s.core.scopes scope) which scope f serials s
+abbrev pub placed_on : Place → Origin → ℕ → Fragment → Registered → State → State
+placed_on place which scope f r s =
+    placed_under place (path_at s.core.scopes scope) (linked_on s.core.scopes which scope f r s.next_node) (site_rows s.core.scopes f r) s
 
 -- an outlet of an instance has these bodies, which are those that it had, in another order or with other roles
 abbrev pub arranged_at : List ℕ → ℕ → List Body → State → State
@@ -146,6 +168,7 @@ cut_at holder p s = record s {
   controls = filter (λ e. not (begins p e.0.path)) s.controls;
   instances = unlinked holder p s.instances;
   owners = owners_without p s.instances s.owners;
+  inner = inner_without p s.inner;
 }
 
 -- A body that an instance holds is taken out, with those in it: nothing of them is watched or declared, rests, or stands any more.

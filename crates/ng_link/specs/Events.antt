@@ -1,5 +1,8 @@
 -- The document of a page with the names of its nodes, and what handles its events there.
-use Rattle.std.specs.Prelude.{ℕ, Bool, List, [], Option, Some, None, option_and_then}
+use Rattle.std.specs.Prelude.{ℕ, Bool, List, [], Option, Some, None, option_and_then, unwrap_or}
+use Rattle.std.specs.BTreeMap.{is_at}
+use Rattle.std.specs.Map.{lookup}
+use Rattle.std.specs.Ordering.{nat_cmp}
 use Rattle.ng_dom.specs.Drawing.{Stands, shows}
 use Rattle.ng_dom.specs.Nodes.{NamedForest}
 use Rattle.ng_language.specs.Trees.{Trees}
@@ -7,7 +10,7 @@ use Rattle.ng_control.specs.State.{ControlState}
 use Rattle.ng_control.specs.declared.kind.ControlKind.{ControlKind}
 use Rattle.ng_link.specs.Controls.{ControlHere, Controlled, controlled_at, state_under, kind_in}
 use Rattle.ng_link.specs.Handlers.{Handled, programs_at, is_entered}
-use Rattle.ng_link.specs.Instances.{Linked, linked_at, stands_at, owner_of}
+use Rattle.ng_link.specs.Instances.{Linked, linked_at, scope_number, stands_at, owner_of}
 use Rattle.ng_link.specs.State.{State, looks_in}
 
 -- what stands of what is linked
@@ -54,6 +57,10 @@ state_by (Some c) s = state_under c.key s.controls
 abbrev pub kind_at : State → ℕ → Option ControlKind
 kind_at s n = kind_in (state_by (control_at s n) s)
 
--- The scope of a node: that of the instance to which it belongs.
+-- The scope of a node: that of the instance to which it belongs, or the inner one of its element.
+abbrev pub element_scope : ℕ → Option Linked → ℕ
+element_scope n None = 0
+element_scope n (Some l) = scope_number l.page (unwrap_or (lookup (is_at (nat_cmp n)) l.page.elements) 0)
+
 abbrev pub scope_of : State → ℕ → ℕ
-scope_of s n = scope_in (instance_of_node s n)
+scope_of s n = element_scope n (instance_of_node s n)

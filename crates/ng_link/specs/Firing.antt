@@ -40,7 +40,7 @@ WritesAt v (Some n) d e = Writes v n d e
 
 -- the node of a key's site shows what is kept now, and all else is as before
 pub record Fires (k : Key) (old new : Works) : Type 0 where
-  pub dom : WritesAt (looks_in (state_of old)) (spot_in old.instances.entries k) old.dom new.dom
+  pub dom : WritesAt (looks_in (state_of old)) (spot_in old.inner.entries old.instances.entries k) old.dom new.dom
   pub rest : new ≡ record old { dom = new.dom }
 
 abbrev pub redraw_of : code.Redraw → Redraw

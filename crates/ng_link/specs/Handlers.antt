@@ -1,6 +1,6 @@
 -- Which programs handle the events of the document at the nodes of parts (API: ngClick). Linking enters them in a table, node by
 -- node.
-use Rattle.std.specs.Prelude.{ℕ, ◌+◌, Bool, List, [], ◌∷◌, Option, unwrap_or, is_some, if◌then◌else◌}
+use Rattle.std.specs.Prelude.{ℕ, zero, suc, ◌+◌, Bool, List, [], ◌∷◌, Option, unwrap_or, is_some, if◌then◌else◌}
 use Rattle.std.specs.BTreeMap.{insert_entry, is_at}
 use Rattle.std.specs.Map.{lookup}
 use Rattle.std.specs.Ordering.{nat_cmp}
@@ -37,6 +37,26 @@ abbrev mutual
   pub handled : ℕ → Parts → Handled → Handled
   handled n no_parts t = t
   handled n (part_then p ps) t = handled (n + part_nodes p) ps (part_handled n p t)
+
+-- the scopes of elements, by the names of their nodes, but for the instance's own
+abbrev pub with_scope : ℕ → ℕ → List (ℕ × ℕ) → List (ℕ × ℕ)
+with_scope n zero t = t
+with_scope n (suc s) t = insert_entry nat_cmp t n (suc s)
+
+abbrev mutual
+  pub part_scoped : ℕ → Part → List (ℕ × ℕ) → List (ℕ × ℕ)
+  part_scoped n (text_part ps) t = t
+  part_scoped n (comment_part c) t = t
+  part_scoped n (anchor_part outlet own starts) t = t
+  part_scoped n (element_part e own acts ats c) t = contents_scoped (n + 1) c (with_scope n acts.scopes.own t)
+
+  pub contents_scoped : ℕ → Contents → List (ℕ × ℕ) → List (ℕ × ℕ)
+  contents_scoped n (children ps) t = scoped n ps t
+  contents_scoped n (bound k) t = t
+
+  pub scoped : ℕ → Parts → List (ℕ × ℕ) → List (ℕ × ℕ)
+  scoped n no_parts t = t
+  scoped n (part_then p ps) t = scoped (n + part_nodes p) ps (part_scoped n p t)
 
 -- the programs for an event, in order
 abbrev pub for_event : List ℕ → Handlers → List Trees

@@ -1,7 +1,7 @@
 -- The instances that stand, by the paths of their scopes (guide: Scopes, "Scope Hierarchies"; HTML Compiler). The page's template stands on
 -- the root. Each body of a block has a child scope of its own, so that its path names it for ever, and it stands after the instance
 -- that it is in.
-use Rattle.std.specs.Prelude.{ℕ, zero, suc, Bool, false, List, [], ◌∷◌, map, not, nat_le, Option, None, Some, slice_index_or, if◌then◌else◌}
+use Rattle.std.specs.Prelude.{ℕ, zero, suc, Bool, false, List, [], ◌∷◌, map, not, nat_le, Option, None, Some, option_and_then, unwrap_or, slice_index_or, if◌then◌else◌}
 use Rattle.std.specs.BTreeMap.{insert_entry, is_at}
 use Rattle.std.specs.List.{filter, list_any}
 use Rattle.std.specs.Map.{lookup, remove_entry}
@@ -15,27 +15,37 @@ use Rattle.ng_drawing.specs.Template.{Fragment, Filling}
 use Rattle.ng_drawing.specs.declared.origin.Home.{Home}
 use Rattle.ng_drawing.specs.declared.origin.Origin.{Origin}
 use Rattle.ng_watch.specs.Keys.{begins}
+use Rattle.ng_link.specs.Bindings.{Bound, Bounds, bound_in_table}
 use Rattle.ng_link.specs.Controls.{Controlled}
 use Rattle.ng_link.specs.Handlers.{Handled}
-use Rattle.ng_link.specs.Shape.{keys_in, shape}
+use Rattle.ng_link.specs.Registering.{Marks, mark_in}
+use Rattle.ng_link.specs.Shape.{key_on, keys_by, shape}
 
 -- a body, by the path of its scope, and what it stands for
 pub record Body : Type 0 where
   pub path : List ℕ
   pub role : Role
 
--- An outlet that stands: the number of registration of its site; how it is filled, and where the bodies come from; the name of its anchor's
--- node; and its bodies in order
+-- An outlet that stands: the number of registration of its site; how it is filled, and where the bodies come from; the scope round them, and the scopes
+-- outside what the slots in them are given; the name of its anchor's node; and its bodies in order
 pub record OutletState : Type 0 where
   pub serial : ℕ
   pub home : Home
+  pub scope : ℕ
+  pub outsides : List ℕ
   pub filling : Filling
   pub anchor : ℕ
   pub bodies : List Body
 
--- an instance that stands: the fragment that it is one of, and the number of its scope; the path of its sites' keys, and
--- their numbers of registration in the order of its sites; the name of its first node; what handles events at its nodes; its controls, by
--- their nodes; its outlets
+-- a scope of an instance beside its own, with its path
+pub record Inner : Type 0 where
+  pub scope : ℕ
+  pub path : List ℕ
+
+-- an instance that stands: the fragment that it is one of, and the number of its scope; the path of that, and the
+-- numbers of registration of its sites in their order; the name of its first node; what handles events at its nodes; its controls, by
+-- their nodes; its outlets; its inner scopes, which are numbered from 1 on, the scopes of its sites and of its elements that are on these, and what
+-- the sites of bindings write
 pub record Page : Type 0 where
   pub origin : Origin
   pub scope : ℕ
@@ -45,15 +55,33 @@ pub record Page : Type 0 where
   pub handlers : Handled
   pub controls : Controlled
   pub outlets : List OutletState
-
--- the keys of its sites by number
-abbrev pub keys_of : Page → ℕ → Key
-keys_of p = keys_in p.path p.serials
+  pub inner : List Inner
+  pub marks : Marks
+  pub elements : List (ℕ × ℕ)
+  pub bounds : Bounds
 
 -- a fragment that is linked
 pub record Linked : Type 0 where
   pub fragment : Fragment
   pub page : Page
+
+-- a scope of an instance by its number, and its path
+abbrev pub inner_or : Inner → ℕ → List Inner → Inner
+inner_or i zero is = i
+inner_or i (suc n) is = slice_index_or is n i
+
+abbrev pub scope_number : Page → ℕ → ℕ
+scope_number p n = (inner_or (record { scope = p.scope; path = p.path }) n p.inner).scope
+
+abbrev pub scope_path : Page → ℕ → List ℕ
+scope_path p n = (inner_or (record { scope = p.scope; path = p.path }) n p.inner).path
+
+-- the keys of its sites by number: each on the path of the scope that it stands on
+abbrev pub key_in : Page → ℕ → Key
+key_in p serial = key_on (scope_path p (mark_in p.marks serial).under) serial
+
+abbrev pub keys_of : Page → ℕ → Key
+keys_of p = keys_by (map (key_in p) p.serials)
 
 -- what is linked, in the order of the paths
 abbrev pub Instances : Type 0
@@ -102,9 +130,32 @@ abbrev pub is_site_in : Option Linked → Key → Bool
 is_site_in None k = false
 is_site_in (Some l) k = is_site_of l.page k.serial.0
 
+-- The instances by the paths of their inner scopes
+abbrev pub Inners : Type 0
+Inners = List (List ℕ × List ℕ)
+
+-- the path of the instance that has a scope of a path
+abbrev pub instance_path : Inners → List ℕ → List ℕ
+instance_path inner p = unwrap_or (lookup (is_path p) inner) p
+
+abbrev pub linked_for : Inners → List ℕ → Instances → Option Linked
+linked_for inner p is = linked_at (instance_path inner p) is
+
 -- whether a key is that of a site of what is linked; the path of the key says of which instance
-abbrev pub is_site : Instances → Key → Bool
-is_site is k = is_site_in (linked_at k.path is) k
+abbrev pub is_site : Inners → Instances → Key → Bool
+is_site inner is k = is_site_in (linked_for inner k.path is) k
+
+-- what the fire of the site of a key writes
+abbrev pub bound_for : Inners → Instances → Key → Option Bound
+bound_for inner is k = option_and_then (λ (l : Linked). bound_in_table k.serial.0 l.page.bounds) (linked_for inner k.path is)
+
+-- the inner scopes of an instance are noted with its path
+abbrev pub with_inner : List ℕ → List Inner → Inners → Inners
+with_inner p [] t = t
+with_inner p (i ∷ is) t = with_inner p is (insert_entry path_cmp t i.path p)
+
+abbrev pub inner_without : List ℕ → Inners → Inners
+inner_without p t = filter (λ e. not (begins p e.0)) t
 
 -- the outlets of an instance are changed
 abbrev pub with_outlets : (List OutletState → List OutletState) → Linked → Linked

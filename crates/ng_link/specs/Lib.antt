@@ -1,5 +1,6 @@
 pub mod Seen
 pub mod Sources
+pub mod Showing
 pub mod Shape
 pub mod Holes
 pub mod Rows
@@ -21,3 +22,8 @@ pub mod Arranging
 pub mod Firing
 pub mod Laws
 pub mod Untroubled
+pub mod RowOf
+pub mod Bindings
+pub mod BoundOf
+pub mod Registering
+pub mod MarksOf

@@ -10,14 +10,19 @@ use Rattle.ng_dom.specs.declared.record.Piece.TheVariants.{Words, Hole}
 use Rattle.ng_drawing.specs.Nodes.{part_nodes, nodes, node_limit}
 use Rattle.ng_drawing.specs.Template as template
 use Rattle.ng_drawing.specs.Template.{word, hole, PartAttributes, Part, Contents, Parts, text_part, comment_part, element_part, anchor_part, children, bound, no_parts, part_then}
+use Rattle.ng_parts.specs.Numbering.{bound_numbers}
 
 -- the key of a number on a scope's path
 abbrev pub key_on : List ℕ → ℕ → Key
 key_on path serial = record { path = path; serial = record { 0 = serial } }
 
--- the keys of sites by their numbers in the template, where each has a number of registration on a scope's path
-abbrev pub keys_in : List ℕ → List ℕ → ℕ → Key
-keys_in path serials n = key_on path (slice_index_or serials n 0)
+-- the keys of sites by their numbers
+abbrev pub keys_by : List Key → ℕ → Key
+keys_by ks n = slice_index_or ks n (key_on [] 0)
+
+-- and on a path, where there is none of a number
+abbrev pub keys_or : List ℕ → List Key → ℕ → Key
+keys_or path ks n = slice_index_or ks n (key_on path 0)
 
 abbrev pub linked_piece : (ℕ → Key) → template.Piece → Piece
 linked_piece keys (word w) = Words w
@@ -89,7 +94,7 @@ abbrev pub own_node : ℕ → Contents → ℕ → ℕ
 own_node n (children ps) k = n
 own_node n (bound b) k = if k == b then n + 1 else n
 
--- the names of the nodes in which the sites are drawn, in document order
+-- the names of the nodes in which the sites are drawn, in document order; those of the bindings of an element's directives are said to be in it
 abbrev pub piece_holes : ℕ → List template.Piece → List ℕ
 piece_holes n [] = []
 piece_holes n (word w ∷ ps) = piece_holes n ps
@@ -99,7 +104,7 @@ abbrev mutual
   pub part_holes : ℕ → Part → List ℕ
   part_holes n (text_part ps) = piece_holes n ps
   part_holes n (comment_part t) = []
-  part_holes n (element_part e own acts ats c) = map (own_node n c) own ++ content_holes (n + 1) c
+  part_holes n (element_part e own acts ats c) = map (λ _. n) (bound_numbers acts) ++ (map (own_node n c) own ++ content_holes (n + 1) c)
   part_holes n (anchor_part outlet own starts) = map (λ _. n) own
 
   pub content_holes : ℕ → Contents → List ℕ

@@ -22,11 +22,13 @@ use Rattle.ng_drawing.specs.Template.{Template, no_fragment}
 use Rattle.ng_language.specs.Trees.{Trees}
 use Rattle.ng_markup.specs.Forest.{Forest}
 use Rattle.ng_parse.specs.ProgramOf.{program}
-use Rattle.ng_template.specs.Kept.{Named, fragments_in}
-use Rattle.ng_template.specs.FragmentOf.{filling_of}
-use Rattle.ng_template.specs.Kept as templates
-use Rattle.ng_template.specs.Seen.{handler_of}
-use Rattle.ng_template.specs.declared.acts.Handler.{Handler}
+use Rattle.ng_compose.specs.Kept.{Named, fragments_in}
+use Rattle.ng_parts.specs.FragmentOf.{filling_of}
+use Rattle.ng_compose.specs.Kept as templates
+use Rattle.ng_parts.specs.Directing.{Programs}
+use Rattle.ng_compose.specs.DirectivesOf.{directives_of}
+use Rattle.ng_parts.specs.Seen.{handler_of}
+use Rattle.ng_parts.specs.declared.acts.Handler.{Handler}
 use Rattle.ng_value.specs.Snaps.{snap_of}
 use Rattle.ng_value.specs.declared.snapshot.Snap.{Snap}
 use Rattle.ng_watch.specs.Keys.{is_key}
@@ -34,8 +36,10 @@ use Rattle.ng_watch.specs.Seen.{Watcher}
 use Rattle.ng_watch.specs.Table.{Table, watchers_of, found}
 use Rattle.ng_link.specs.Controls.{ControlHere, Controlled, Controls, state_under}
 use Rattle.ng_link.specs.Handlers.{Handled}
-use Rattle.ng_link.specs.Instances.{Body, OutletState, Page, Linked, Instances, Owners, is_path, linked_at, read, read_after}
-use Rattle.ng_link.specs.Shape.{key_on}
+use Rattle.ng_link.specs.BoundOf.{bounds_of, inner_of}
+use Rattle.ng_link.specs.Instances.{Body, OutletState, Page, Linked, Instances, Inners, Owners, is_path, linked_at, instance_path, scope_number, key_in, read, read_after}
+use Rattle.ng_link.specs.MarksOf.{marks_of}
+use Rattle.ng_link.specs.Registering.{mark_in}
 use Rattle.ng_link.specs.declared.works.Body as code_body
 use Rattle.ng_link.specs.declared.works.ControlHere as code_control
 use Rattle.ng_link.specs.declared.works.OutletState as code_outlet
@@ -56,18 +60,21 @@ Resting = List (Key × Option ViewTree)
 abbrev pub Declared : Type 0
 Declared = List (Key × Listening)
 
--- The state of a page: the core; the templates, each with the name that it is included by; the live watchers, with what they have
+-- The state of a page: the core; the templates, each with the name that it is included by; what directives do; the live watchers, with what they have
 -- kept; the sites that rest, with what they had kept; the states of controls, by the keys of their models' sites; the programs of declared
--- watches; what is linked; to which instance a node belongs; and the name of the next node. All lists but that of the templates are in key order.
+-- watches; what is linked; to which instance a node belongs, and to which an inner scope; and the name of the next node. All lists but that of the
+-- templates are in key order.
 pub record State : Type 0 where
   pub core : act.State
   pub templates : List Named
+  pub directives : List Programs
   pub watchers : Table
   pub resting : Resting
   pub controls : Controls
   pub declared : Declared
   pub instances : Instances
   pub owners : Owners
+  pub inner : Inners
   pub next_node : ℕ
 
 -- what a watcher has kept, or else what had been kept at rest
@@ -98,7 +105,7 @@ abbrev pub site_state : Table → Resting → Controls → ℕ → Key → SiteS
 site_state t r cs scope k = record { key = k; scope = scope; kept = kept_in t r k; rests = not (is_some (found k t)); control = state_under k cs }
 
 abbrev pub site_states : Table → Resting → Controls → Page → List SiteState
-site_states t r cs p = map (λ n. site_state t r cs p.scope (key_on p.path n)) p.serials
+site_states t r cs p = map (λ n. site_state t r cs (scope_number p (mark_in p.marks n).over) (key_in p n)) p.serials
 
 -- what the bodies of an outlet stand for
 abbrev pub roles_in : List Body → List Role
@@ -163,7 +170,7 @@ abbrev pub body_of : code_body.Body → Body
 body_of b = record { path = b.path; role = role_of b.role }
 
 abbrev pub outlet_of : code_outlet.OutletState → OutletState
-outlet_of o = record { serial = o.serial; home = o.home; filling = filling_of o.filling; anchor = o.anchor; bodies = map body_of o.bodies.items }
+outlet_of o = record { serial = o.serial; home = o.home; scope = o.scope.0; outsides = map (λ s. s.0) o.outsides.items; filling = filling_of o.filling; anchor = o.anchor; bodies = map body_of o.bodies.items }
 
 -- an instance keeps under the number of each site the node that it is drawn in
 abbrev pub page_of : List ℕ → code.Linked → Page
@@ -176,6 +183,10 @@ page_of path i = record {
   handlers = handled_of i.handlers.entries;
   controls = controlled_of i.controls.entries;
   outlets = map outlet_of i.outlets.items;
+  inner = map inner_of i.inner.items;
+  marks = marks_of i.marks.entries;
+  elements = i.elements.entries;
+  bounds = bounds_of i.bounds.entries;
 }
 
 abbrev pub linked_of : List Named → List ℕ → code.Linked → Linked
@@ -197,12 +208,14 @@ abbrev pub state_of : Works → State
 state_of w = record {
   core = cores.state_of w.core;
   templates = templates_of w;
+  directives = directives_of w.templates;
   watchers = watchers_of w.watchers;
   resting = resting_of w.resting.entries;
   controls = w.controls.entries;
   declared = declared_of w.declared.entries;
   instances = instances_of (templates_of w) w.instances.entries;
   owners = w.owners.entries;
+  inner = w.inner.entries;
   next_node = next_name w.dom;
 }
 
@@ -210,9 +223,9 @@ state_of w = record {
 abbrev pub spot_at : code.Linked → Key → Option ℕ
 spot_at i k = lookup (is_at (nat_cmp k.serial.0)) i.spots.entries
 
-abbrev pub spot_in : List (List ℕ × code.Linked) → Key → Option ℕ
-spot_in is k = option_and_then (λ i. spot_at i k) (lookup (is_path k.path) is)
+abbrev pub spot_in : Inners → List (List ℕ × code.Linked) → Key → Option ℕ
+spot_in inner is k = option_and_then (λ i. spot_at i k) (lookup (is_path (instance_path inner k.path)) is)
 
 -- the node that the site of a key is drawn in, among all that stands
 abbrev pub places_of : Works → Key → Option ℕ
-places_of w k = spot_in w.instances.entries k
+places_of w k = spot_in w.inner.entries w.instances.entries k

@@ -1,10 +1,10 @@
 //! The bodies of an outlet in another order, with other roles (API: ngRepeat).
 ghost use Rattle.std.specs.Prelude.{List, ◌≡◌, map, OnOk, IfOk};
 ghost use Rattle.ng_base.specs.declared.path.Key.{Key};
-ghost use Rattle.ng_template.specs.Kept.{Named};
+ghost use Rattle.ng_compose.specs.Kept.{Named};
 ghost use Rattle.ng_link.specs.Arranging.{are_alike as alike_of, ArePlaces, AreAt, IsPlaceOf, IsOrder, PicksBy, IsRearranged};
 ghost use Rattle.ng_link.specs.Calls.{arranged_at};
-ghost use Rattle.ng_link.specs.Instances.{Body as BodyOf, with_bodies, bodies_arranged, outlets_changed, linked_at};
+ghost use Rattle.ng_link.specs.Instances.{Body as BodyOf, Inners, with_bodies, bodies_arranged, outlets_changed, linked_at};
 ghost use Rattle.ng_link.specs.PlaceOf.{outlet_of_linked};
 ghost use Rattle.ng_link.specs.Standing.{IsStanding};
 ghost use Rattle.ng_link.specs.State.{body_of, outlet_of, instances_of, spot_in, state_of, templates_of};
@@ -135,7 +135,7 @@ fn set_bodies(outlets: &mut Vec<OutletState>, outlet: usize, bodies: Vec<Body>)
 /// An outlet of an instance gets other bodies.
 fn set_held(instances: &mut BTreeMap<Path, Linked>, holder: &Path, outlet: usize, bodies: Vec<Body>)
     ensures arranged { (all : List Named) → instances_of all instances.new.entries ≡ outlets_changed holder.now (bodies_arranged outlet (map body_of bodies.items)) (instances_of all instances.old.entries) }
-    ensures spots { (k : Key) → spot_in instances.new.entries k ≡ spot_in instances.old.entries k }
+    ensures spots { (inner : Inners) → (k : Key) → spot_in inner instances.new.entries k ≡ spot_in inner instances.old.entries k }
 {
     match instances.get_mut(holder) {
         None => {}

@@ -6,23 +6,26 @@ ghost use Rattle.ng_dom.specs.Drawing.{stand_then, none_stand, no_bodies, commen
 ghost use Rattle.ng_dom.specs.Making.{new_part, node_limit as dom_limit};
 ghost use Rattle.ng_dom.specs.Nodes.{names_of};
 ghost use Rattle.ng_drawing.specs.Nodes.{part_nodes, content_nodes, nodes};
-ghost use Rattle.ng_drawing.specs.Template.{parts_from, text_part, bound};
-ghost use Rattle.ng_template.specs.PieceOf.{piece_of as seen_piece};
-ghost use Rattle.ng_template.specs.Seen.{part_of, contents_of};
+ghost use Rattle.std.specs.List.{flat_map};
+ghost use Rattle.ng_drawing.specs.Template.{Binding as BindingOf, parts_from, text_part, bound};
+ghost use Rattle.ng_parts.specs.PieceOf.{piece_of as seen_piece};
+ghost use Rattle.ng_parts.specs.ActsOf.{acts_of, binding_of, source_of};
+ghost use Rattle.ng_parts.specs.Numbering.{source_numbers, bound_numbers};
+ghost use Rattle.ng_parts.specs.Seen.{part_of, contents_of};
 ghost use Rattle.ng_link.specs.Building.{unset, parent_name, IsThere, IsMade, Builds};
-ghost use Rattle.ng_link.specs.Shape.{keys_in, linked_values, part_shape, content_shape, shape, unfilled, own_node, piece_holes, part_holes, content_holes, holes};
+ghost use Rattle.ng_link.specs.Shape.{keys_by, linked_values, part_shape, content_shape, shape, unfilled, own_node, piece_holes, part_holes, content_holes, holes};
 ghost use Rattle.ng_link.specs.Seen.{fault_of, named_as};
 
 use crate::attributes::unset_attributes;
 use crate::copying::{copied_attributes, copied_pieces, key_at, unset_text};
 use ng_base::fault::Fault;
 use ng_base::name::NodeId;
-use ng_base::path::Path;
+use ng_base::path::Key;
 use ng_base::txt::Txt;
 use ng_dom::dom::Dom;
 use ng_dom::fault::DomFault;
 use ng_dom::record::{Group, Home, NewNode, Part as DomPart, Piece as DrawnPiece};
-use ng_template::{Attributes, Contents, Part, Piece, Pieces};
+use ng_parts::{Acts, Attributes, Binding, Contents, Part, Piece, Pieces, Source};
 use std::alloc::{AllocError, Global};
 
 /// The fault of a page that a document's fault is.
@@ -104,18 +107,17 @@ fn note_bound(
 fn build_text(
     alloc: Global,
     dom: &mut Dom,
-    path: &Path,
-    serials: &[u64],
+    keys: &[Key],
     parent: Option<NodeId>,
     pieces: &Pieces,
 ) -> Result<NodeId, Fault>
     requires there { IsThere dom.old parent }
     requires room { live_count dom.old < dom_limit }
     ensures name { IfOk result (λ n. n.made.0 ≡ next_name dom.old) }
-    ensures builds { OnOk result (Builds (parent_name parent) (stand_then (part_shape (keys_in path.now serials.now) (next_name dom.old) unfilled (text_part pieces.now)) none_stand) 1 dom.old dom.new) }
+    ensures builds { OnOk result (Builds (parent_name parent) (stand_then (part_shape (keys_by keys.now) (next_name dom.old) unfilled (text_part pieces.now)) none_stand) 1 dom.old dom.new) }
     ensures faults { IfErr result (λ e. is_memory e ≡ true) }
 {
-    let drawn = copied_pieces(alloc, path, serials, pieces.as_slice())?;
+    let drawn = copied_pieces(alloc, keys, pieces.as_slice())?;
     let text = unset_text(alloc, drawn.as_slice())?;
     make(
         dom,
@@ -146,19 +148,18 @@ fn build_comment(dom: &mut Dom, parent: Option<NodeId>, text: &Txt) -> Result<No
 fn build_bound(
     alloc: Global,
     dom: &mut Dom,
-    path: &Path,
-    serials: &[u64],
+    keys: &[Key],
     parent: Option<NodeId>,
     b: u32,
 ) -> Result<NodeId, Fault>
     requires there { IsThere dom.old parent }
     requires room { live_count dom.old < dom_limit }
     ensures name { IfOk result (λ n. n.made.0 ≡ next_name dom.old) }
-    ensures builds { OnOk result (Builds (parent_name parent) (content_shape (keys_in path.now serials.now) (next_name dom.old) unfilled (bound b)) 1 dom.old dom.new) }
+    ensures builds { OnOk result (Builds (parent_name parent) (content_shape (keys_by keys.now) (next_name dom.old) unfilled (bound b)) 1 dom.old dom.new) }
     ensures faults { IfErr result (λ e. is_memory e ≡ true) }
 {
     let mut drawn = Vec::new(alloc);
-    drawn.push(DrawnPiece::Hole(key_at(path, serials, b as u64)?))?;
+    drawn.push(DrawnPiece::Hole(key_at(keys, b as u64)?))?;
     make(
         dom,
         parent,
@@ -171,8 +172,7 @@ fn build_bound(
 fn build_element(
     alloc: Global,
     dom: &mut Dom,
-    path: &Path,
-    serials: &[u64],
+    keys: &[Key],
     parent: Option<NodeId>,
     name: &Txt,
     attributes: &Attributes,
@@ -180,10 +180,10 @@ fn build_element(
     requires there { IsThere dom.old parent }
     requires room { live_count dom.old < dom_limit }
     ensures name { IfOk result (λ n. n.made.0 ≡ next_name dom.old) }
-    ensures builds { OnOk result (Builds (parent_name parent) (stand_then (element_stands (next_name dom.old) name.now (linked_values (keys_in path.now serials.now) attributes.now) none_stand) none_stand) 1 dom.old dom.new) }
+    ensures builds { OnOk result (Builds (parent_name parent) (stand_then (element_stands (next_name dom.old) name.now (linked_values (keys_by keys.now) attributes.now) none_stand) none_stand) 1 dom.old dom.new) }
     ensures faults { IfErr result (λ e. is_memory e ≡ true) }
 {
-    let drawn = copied_attributes(alloc, path, serials, attributes.as_slice())?;
+    let drawn = copied_attributes(alloc, keys, attributes.as_slice())?;
     let shown = unset_attributes(alloc, drawn.as_slice())?;
     let name = name.copied()?;
     let n = make(
@@ -209,13 +209,47 @@ fn build_anchor(dom: &mut Dom, parent: Option<NodeId>) -> Result<NodeId, Fault>
     make(dom, parent, DomPart::Anchor, Home::Plain)
 }
 
+/// Notes the node of each site of a binding.
+#[tactic(auto, using(crate::proofs::Shapes::holes_numbered))]
+fn note_source(spots: &mut Vec<u64>, n: NodeId, source: &Source) -> Result<(), AllocError>
+    ensures { OnOk result (spots.new.items ≡ spots.old.items ++ map (λ _. n.made.0) (source_numbers (source_of source.now))) }
+{
+    match source {
+        Source::Text(pieces) => note_holes(spots, n, pieces.as_slice())?,
+        Source::OneWay(_) => spots.push(n.made.0)?,
+        Source::TwoWay(_, _) => spots.push(n.made.0)?,
+        Source::Nothing => {}
+        Source::Call(_) => {}
+    }
+    Ok(())
+}
+
+/// Notes the node of each site of bindings.
+fn note_bindings(spots: &mut Vec<u64>, n: NodeId, bindings: &[Binding]) -> Result<(), AllocError>
+    ensures { OnOk result (spots.new.items ≡ spots.old.items ++ map (λ _. n.made.0) (flat_map (λ (b : BindingOf). source_numbers b.source) (map binding_of bindings.now))) }
+{
+    for binding in bindings {
+        note_source(spots, n, &binding.source)?;
+    }
+    Ok(())
+}
+
+/// Notes the node of each site of the bindings of an element's directives.
+fn note_uses(spots: &mut Vec<u64>, n: NodeId, acts: &Acts) -> Result<(), AllocError>
+    ensures { OnOk result (spots.new.items ≡ spots.old.items ++ map (λ _. n.made.0) (bound_numbers (acts_of acts.now))) }
+{
+    match &acts.uses {
+        None => Ok(()),
+        Some(uses) => note_bindings(spots, n, uses.bindings.as_slice()),
+    }
+}
+
 /// The node of a part, with all that it holds.
 #[cycle(build)]
 fn build_part(
     alloc: Global,
     dom: &mut Dom,
-    path: &Path,
-    serials: &[u64],
+    keys: &[Key],
     spots: &mut Vec<u64>,
     parent: Option<NodeId>,
     part: &Part,
@@ -223,13 +257,13 @@ fn build_part(
     requires there { IsThere dom.old parent }
     requires room { live_count dom.old + part_nodes (part_of part.now) ≤ dom_limit }
     ensures name { IfOk result (λ n. n.made.0 ≡ next_name dom.old) }
-    ensures builds { OnOk result (Builds (parent_name parent) (stand_then (part_shape (keys_in path.now serials.now) (next_name dom.old) unfilled (part_of part.now)) none_stand) (part_nodes (part_of part.now)) dom.old dom.new) }
+    ensures builds { OnOk result (Builds (parent_name parent) (stand_then (part_shape (keys_by keys.now) (next_name dom.old) unfilled (part_of part.now)) none_stand) (part_nodes (part_of part.now)) dom.old dom.new) }
     ensures holes { OnOk result (spots.new.items ≡ spots.old.items ++ part_holes (next_name dom.old) (part_of part.now)) }
     ensures faults { IfErr result (λ e. is_memory e ≡ true) }
 {
     match part {
         Part::Text(pieces) => {
-            let n = build_text(alloc, dom, path, serials, parent, pieces)?;
+            let n = build_text(alloc, dom, keys, parent, pieces)?;
             note_holes(spots, n, pieces.as_slice())?;
             Ok(n)
         }
@@ -242,17 +276,17 @@ fn build_part(
         Part::Element {
             name,
             own,
+            acts,
             attributes,
             contents,
-            ..
         } => build_whole(
             alloc,
             dom,
-            path,
-            serials,
+            keys,
             spots,
             parent,
             name,
+            acts,
             own.as_slice(),
             attributes,
             contents,
@@ -265,11 +299,11 @@ fn build_part(
 fn build_whole(
     alloc: Global,
     dom: &mut Dom,
-    path: &Path,
-    serials: &[u64],
+    keys: &[Key],
     spots: &mut Vec<u64>,
     parent: Option<NodeId>,
     name: &Txt,
+    acts: &Acts,
     own: &[u32],
     attributes: &Attributes,
     contents: &Contents,
@@ -277,12 +311,13 @@ fn build_whole(
     requires there { IsThere dom.old parent }
     requires room { live_count dom.old + (1 + content_nodes (contents_of contents.now)) ≤ dom_limit }
     ensures name { IfOk result (λ n. n.made.0 ≡ next_name dom.old) }
-    ensures builds { OnOk result (Builds (parent_name parent) (stand_then (element_stands (next_name dom.old) name.now (linked_values (keys_in path.now serials.now) attributes.now) (content_shape (keys_in path.now serials.now) (next_name dom.old + 1) unfilled (contents_of contents.now))) none_stand) (1 + content_nodes (contents_of contents.now)) dom.old dom.new) }
-    ensures holes { OnOk result (spots.new.items ≡ spots.old.items ++ (map (own_node (next_name dom.old) (contents_of contents.now)) own.now ++ content_holes (next_name dom.old + 1) (contents_of contents.now))) }
+    ensures builds { OnOk result (Builds (parent_name parent) (stand_then (element_stands (next_name dom.old) name.now (linked_values (keys_by keys.now) attributes.now) (content_shape (keys_by keys.now) (next_name dom.old + 1) unfilled (contents_of contents.now))) none_stand) (1 + content_nodes (contents_of contents.now)) dom.old dom.new) }
+    ensures holes { OnOk result (spots.new.items ≡ spots.old.items ++ (map (λ _. next_name dom.old) (bound_numbers (acts_of acts.now)) ++ (map (own_node (next_name dom.old) (contents_of contents.now)) own.now ++ content_holes (next_name dom.old + 1) (contents_of contents.now)))) }
     ensures faults { IfErr result (λ e. is_memory e ≡ true) }
 {
-    let n = build_element(alloc, dom, path, serials, parent, name, attributes)?;
-    let kids = build_contents(alloc, dom, path, serials, spots, n, own, contents)?;
+    let n = build_element(alloc, dom, keys, parent, name, attributes)?;
+    note_uses(spots, n, acts)?;
+    let kids = build_contents(alloc, dom, keys, spots, n, own, contents)?;
     dom.fill(n, kids);
     Ok(n)
 }
@@ -292,8 +327,7 @@ fn build_whole(
 fn build_contents(
     alloc: Global,
     dom: &mut Dom,
-    path: &Path,
-    serials: &[u64],
+    keys: &[Key],
     spots: &mut Vec<u64>,
     n: NodeId,
     own: &[u32],
@@ -302,18 +336,18 @@ fn build_contents(
     requires there { IsLive dom.old n.made.0 }
     requires last { next_name dom.old ≡ n.made.0 + 1 }
     requires room { live_count dom.old + content_nodes (contents_of contents.now) ≤ dom_limit }
-    ensures names { IfOk result (λ g. g.nodes.items ≡ names_of (shows unset (content_shape (keys_in path.now serials.now) (next_name dom.old) unfilled (contents_of contents.now)))) }
-    ensures builds { OnOk result (Builds (Some n.made.0) (content_shape (keys_in path.now serials.now) (next_name dom.old) unfilled (contents_of contents.now)) (content_nodes (contents_of contents.now)) dom.old dom.new) }
+    ensures names { IfOk result (λ g. g.nodes.items ≡ names_of (shows unset (content_shape (keys_by keys.now) (next_name dom.old) unfilled (contents_of contents.now)))) }
+    ensures builds { OnOk result (Builds (Some n.made.0) (content_shape (keys_by keys.now) (next_name dom.old) unfilled (contents_of contents.now)) (content_nodes (contents_of contents.now)) dom.old dom.new) }
     ensures holes { OnOk result (spots.new.items ≡ spots.old.items ++ (map (own_node n.made.0 (contents_of contents.now)) own.now ++ content_holes (next_name dom.old) (contents_of contents.now))) }
     ensures faults { IfErr result (λ e. is_memory e ≡ true) }
 {
     match contents {
         Contents::Children(parts) => {
             note_own(spots, n, own)?;
-            build_parts(alloc, dom, path, serials, spots, Some(n), parts.as_slice())
+            build_parts(alloc, dom, keys, spots, Some(n), parts.as_slice())
         }
         Contents::Bound(b) => {
-            let text = build_bound(alloc, dom, path, serials, Some(n), *b)?;
+            let text = build_bound(alloc, dom, keys, Some(n), *b)?;
             note_bound(spots, n, text, *b, own)?;
             let mut group = Group::new(alloc);
             group.push(text)?;
@@ -327,22 +361,21 @@ fn build_contents(
 pub(crate) fn build_parts(
     alloc: Global,
     dom: &mut Dom,
-    path: &Path,
-    serials: &[u64],
+    keys: &[Key],
     spots: &mut Vec<u64>,
     parent: Option<NodeId>,
     parts: &[Part],
 ) -> Result<Group, Fault>
     requires there { IsThere dom.old parent }
     requires room { live_count dom.old + nodes (parts_from (map part_of parts.now)) ≤ dom_limit }
-    ensures names { IfOk result (λ g. g.nodes.items ≡ names_of (shows unset (shape (keys_in path.now serials.now) (next_name dom.old) unfilled (parts_from (map part_of parts.now))))) }
-    ensures builds { OnOk result (Builds (parent_name parent) (shape (keys_in path.now serials.now) (next_name dom.old) unfilled (parts_from (map part_of parts.now))) (nodes (parts_from (map part_of parts.now))) dom.old dom.new) }
+    ensures names { IfOk result (λ g. g.nodes.items ≡ names_of (shows unset (shape (keys_by keys.now) (next_name dom.old) unfilled (parts_from (map part_of parts.now))))) }
+    ensures builds { OnOk result (Builds (parent_name parent) (shape (keys_by keys.now) (next_name dom.old) unfilled (parts_from (map part_of parts.now))) (nodes (parts_from (map part_of parts.now))) dom.old dom.new) }
     ensures holes { OnOk result (spots.new.items ≡ spots.old.items ++ holes (next_name dom.old) (parts_from (map part_of parts.now))) }
     ensures faults { IfErr result (λ e. is_memory e ≡ true) }
 {
     let mut group = Group::new(alloc);
     for part in parts {
-        let n = build_part(alloc, dom, path, serials, spots, parent, part)?;
+        let n = build_part(alloc, dom, keys, spots, parent, part)?;
         group.push(n)?;
     }
     Ok(group)

@@ -9,16 +9,16 @@ ghost use Rattle.ng_dom.specs.Drawing.{Stands};
 ghost use Rattle.ng_drawing.specs.Nodes.{part_nodes, content_nodes, nodes};
 ghost use Rattle.ng_drawing.specs.Template.{parts_from};
 ghost use Rattle.ng_parse.specs.ProgramOf.{program};
-ghost use Rattle.ng_template.specs.Seen.{control_of as template_control, part_of, contents_of};
+ghost use Rattle.ng_parts.specs.Seen.{control_of as template_control, part_of, contents_of};
 ghost use Rattle.ng_value.specs.Snaps.{snap_of};
 ghost use Rattle.ng_link.specs.Calls.{with_control_at};
 ghost use Rattle.ng_link.specs.Controls.{control_here, with_control, part_controlled, contents_controlled, controlled, controls_begun, control_changed, state_under, IsOfKind, read_as, kind_in};
 ghost use Rattle.ng_link.specs.Events.{control_at, kind_at};
-ghost use Rattle.ng_link.specs.Shape.{keys_in};
+ghost use Rattle.ng_link.specs.Shape.{keys_or};
 ghost use Rattle.ng_link.specs.Standing.{Standing};
 ghost use Rattle.ng_link.specs.State.{control_of, controlled_of, state_of, templates_of};
 
-use crate::copying::{copied_key, key_at};
+use crate::copying::{copied_key, key_on};
 use crate::works::{ControlHere, Works};
 use ng_base::fault::Memory;
 use ng_base::path::{Key, Path};
@@ -26,9 +26,9 @@ use ng_base::txt::Txt;
 use ng_base::value::Value;
 use ng_control::{Control, ControlKind};
 use ng_parse::Program;
-use ng_template::{Contents, Modelled, Part};
+use ng_parts::{Contents, Modelled, Part};
 use ng_value::snapshot::Snap;
-use std::alloc::Global;
+use std::alloc::{AllocError, Global};
 use std::collections::BTreeMap;
 
 /// Programs again, which are shared.
@@ -42,17 +42,22 @@ fn copied_programs(alloc: Global, programs: &[Program]) -> Result<Vec<Program>, 
     Ok(copies)
 }
 
+/// The key of a site by its number; one on the path, where there is none.
+fn key_or(path: &Path, keys: &[Key], n: u32) -> Result<Key, AllocError>
+    ensures { IfOk result (λ k. k ≡ keys_or path.now keys.now n) }
+{
+    match keys.get(n as usize) {
+        None => key_on(path, 0),
+        Some(key) => copied_key(key),
+    }
+}
+
 /// The control of an element, with the key of its site.
-fn here(
-    alloc: Global,
-    path: &Path,
-    serials: &[u64],
-    control: &Modelled,
-) -> Result<ControlHere, Memory>
-    ensures { IfOk result (λ c. control_of c ≡ control_here (keys_in path.now serials.now) (template_control control.now)) }
+fn here(alloc: Global, path: &Path, keys: &[Key], control: &Modelled) -> Result<ControlHere, Memory>
+    ensures { IfOk result (λ c. control_of c ≡ control_here (keys_or path.now keys.now) (template_control control.now)) }
 {
     Ok(ControlHere {
-        key: key_at(path, serials, control.site as u64)?,
+        key: key_or(path, keys, control.site)?,
         kind: control.kind,
         writes: control.writes.copied(alloc)?,
         changes: copied_programs(alloc, control.changes.as_slice())?,
@@ -76,13 +81,13 @@ fn enter_one(
     alloc: Global,
     table: &mut BTreeMap<u64, ControlHere>,
     path: &Path,
-    serials: &[u64],
+    keys: &[Key],
     n: u64,
     control: &Modelled,
 ) -> Result<(), Memory>
-    ensures { OnOk result (controlled_of table.new.entries ≡ insert_entry nat_cmp (controlled_of table.old.entries) n (control_here (keys_in path.now serials.now) (template_control control.now))) }
+    ensures { OnOk result (controlled_of table.new.entries ≡ insert_entry nat_cmp (controlled_of table.old.entries) n (control_here (keys_or path.now keys.now) (template_control control.now))) }
 {
-    let one = here(alloc, path, serials, control)?;
+    let one = here(alloc, path, keys, control)?;
     let _ = table.insert(n, one)?;
     Ok(())
 }
@@ -92,15 +97,15 @@ fn enter(
     alloc: Global,
     table: &mut BTreeMap<u64, ControlHere>,
     path: &Path,
-    serials: &[u64],
+    keys: &[Key],
     n: u64,
     control: &Option<Modelled>,
 ) -> Result<(), Memory>
-    ensures { OnOk result (controlled_of table.new.entries ≡ with_control (keys_in path.now serials.now) n (option_map template_control control.now) (controlled_of table.old.entries)) }
+    ensures { OnOk result (controlled_of table.new.entries ≡ with_control (keys_or path.now keys.now) n (option_map template_control control.now) (controlled_of table.old.entries)) }
 {
     match control {
         None => Ok(()),
-        Some(control) => enter_one(alloc, table, path, serials, n, control),
+        Some(control) => enter_one(alloc, table, path, keys, n, control),
     }
 }
 
@@ -120,20 +125,20 @@ fn enter_part(
     alloc: Global,
     table: &mut BTreeMap<u64, ControlHere>,
     path: &Path,
-    serials: &[u64],
+    keys: &[Key],
     n: u64,
     part: &Part,
 ) -> Result<u64, Memory>
     ensures next { IfOk result (λ m. m ≡ n + part_nodes (part_of part.now)) }
-    ensures entered { OnOk result (controlled_of table.new.entries ≡ part_controlled (keys_in path.now serials.now) n (part_of part.now) (controlled_of table.old.entries)) }
+    ensures entered { OnOk result (controlled_of table.new.entries ≡ part_controlled (keys_or path.now keys.now) n (part_of part.now) (controlled_of table.old.entries)) }
 {
     match part {
         Part::Text(_) => after(n),
         Part::Comment(_) => after(n),
         Part::Anchor { .. } => after(n),
         Part::Element { acts, contents, .. } => {
-            enter(alloc, table, path, serials, n, &acts.control)?;
-            enter_contents(alloc, table, path, serials, after(n)?, contents)
+            enter(alloc, table, path, keys, n, &acts.control)?;
+            enter_contents(alloc, table, path, keys, after(n)?, contents)
         }
     }
 }
@@ -144,16 +149,16 @@ fn enter_contents(
     alloc: Global,
     table: &mut BTreeMap<u64, ControlHere>,
     path: &Path,
-    serials: &[u64],
+    keys: &[Key],
     n: u64,
     contents: &Contents,
 ) -> Result<u64, Memory>
     ensures next { IfOk result (λ m. m ≡ n + content_nodes (contents_of contents.now)) }
-    ensures entered { OnOk result (controlled_of table.new.entries ≡ contents_controlled (keys_in path.now serials.now) n (contents_of contents.now) (controlled_of table.old.entries)) }
+    ensures entered { OnOk result (controlled_of table.new.entries ≡ contents_controlled (keys_or path.now keys.now) n (contents_of contents.now) (controlled_of table.old.entries)) }
 {
     match contents {
         Contents::Children(parts) => {
-            enter_controls(alloc, table, path, serials, n, parts.as_slice())
+            enter_controls(alloc, table, path, keys, n, parts.as_slice())
         }
         Contents::Bound(_) => after(n),
     }
@@ -165,16 +170,16 @@ fn enter_controls(
     alloc: Global,
     table: &mut BTreeMap<u64, ControlHere>,
     path: &Path,
-    serials: &[u64],
+    keys: &[Key],
     n: u64,
     parts: &[Part],
 ) -> Result<u64, Memory>
     ensures next { IfOk result (λ m. m ≡ n + nodes (parts_from (map part_of parts.now))) }
-    ensures entered { OnOk result (controlled_of table.new.entries ≡ controlled (keys_in path.now serials.now) n (parts_from (map part_of parts.now)) (controlled_of table.old.entries)) }
+    ensures entered { OnOk result (controlled_of table.new.entries ≡ controlled (keys_or path.now keys.now) n (parts_from (map part_of parts.now)) (controlled_of table.old.entries)) }
 {
     let mut next = n;
     for part in parts {
-        next = enter_part(alloc, table, path, serials, next, part)?;
+        next = enter_part(alloc, table, path, keys, next, part)?;
     }
     Ok(next)
 }
@@ -183,14 +188,14 @@ fn enter_controls(
 pub(crate) fn controls_of(
     alloc: Global,
     path: &Path,
-    serials: &[u64],
+    keys: &[Key],
     n: u64,
     parts: &[Part],
 ) -> Result<BTreeMap<u64, ControlHere>, Memory>
-    ensures { IfOk result (λ t. controlled_of t.entries ≡ controlled (keys_in path.now serials.now) n (parts_from (map part_of parts.now)) []) }
+    ensures { IfOk result (λ t. controlled_of t.entries ≡ controlled (keys_or path.now keys.now) n (parts_from (map part_of parts.now)) []) }
 {
     let mut table = BTreeMap::new(alloc);
-    enter_controls(alloc, &mut table, path, serials, n, parts)?;
+    enter_controls(alloc, &mut table, path, keys, n, parts)?;
     Ok(table)
 }
 

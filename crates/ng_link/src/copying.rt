@@ -2,18 +2,18 @@
 ghost use Rattle.std.specs.Prelude.{◌≡◌, ◌++◌, map, true, IfOk, IfErr};
 ghost use Rattle.ng_base.specs.Faults.{is_memory};
 ghost use Rattle.ng_dom.specs.Drawing.{joined};
-ghost use Rattle.ng_template.specs.PieceOf.{piece_of as seen_piece};
-ghost use Rattle.ng_template.specs.AttributeOf.{hiding_of as seen_hiding, class_of as seen_class, value_of, attribute_of};
+ghost use Rattle.ng_parts.specs.PieceOf.{piece_of as seen_piece};
+ghost use Rattle.ng_parts.specs.AttributeOf.{hiding_of as seen_hiding, class_of as seen_class, value_of, attribute_of};
 ghost use Rattle.ng_link.specs.Seen.{hiding_of, class_of, drawn_value_of, drawn_of};
 ghost use Rattle.ng_link.specs.Building.{unset};
-ghost use Rattle.ng_link.specs.Shape.{key_on, keys_in, linked_piece, linked_pieces, linked_hiding, linked_class, linked_value, linked_values};
+ghost use Rattle.ng_link.specs.Shape.{key_on, keys_by, linked_piece, linked_pieces, linked_hiding, linked_class, linked_value, linked_values};
 
 use ng_base::fault::{Fault, Memory};
 use ng_base::name::Serial;
 use ng_base::path::{Key, Path};
 use ng_base::txt::Txt;
 use ng_dom::record::{Drawn, DrawnClass, DrawnValue, Hiding, Piece};
-use ng_template::{
+use ng_parts::{
     Attribute, AttributeValue, ClassValue, Hiding as TemplateHiding, Piece as TemplatePiece,
 };
 use std::alloc::{AllocError, Global};
@@ -28,7 +28,7 @@ pub(crate) fn key_on(path: &Path, serial: u64) -> Result<Key, AllocError>
     })
 }
 
-/// A key again.
+/// The same key again.
 pub(crate) fn copied_key(key: &Key) -> Result<Key, AllocError>
     ensures { IfOk result (λ k. k ≡ key.now) }
 {
@@ -36,98 +36,86 @@ pub(crate) fn copied_key(key: &Key) -> Result<Key, AllocError>
 }
 
 /// The key of a site by its number.
-pub(crate) fn key_at(path: &Path, serials: &[u64], n: u64) -> Result<Key, Memory>
-    ensures { IfOk result (λ k. k ≡ keys_in path.now serials.now n) }
+pub(crate) fn key_at(keys: &[Key], n: u64) -> Result<Key, Memory>
+    ensures { IfOk result (λ k. k ≡ keys_by keys.now n) }
 {
-    match serials.get(n as usize) {
+    match keys.get(n as usize) {
         None => Err(Memory::Worn),
-        Some(serial) => Ok(key_on(path, *serial)?),
+        Some(key) => Ok(copied_key(key)?),
     }
 }
 
 /// A piece with the key of its hole.
-fn copied_piece(path: &Path, serials: &[u64], piece: &TemplatePiece) -> Result<Piece, Fault>
-    ensures piece { IfOk result (λ p. p ≡ linked_piece (keys_in path.now serials.now) (seen_piece piece.now)) }
+fn copied_piece(keys: &[Key], piece: &TemplatePiece) -> Result<Piece, Fault>
+    ensures piece { IfOk result (λ p. p ≡ linked_piece (keys_by keys.now) (seen_piece piece.now)) }
     ensures faults { IfErr result (λ e. is_memory e ≡ true) }
 {
     match piece {
         TemplatePiece::Word(word) => Ok(Piece::Words(word.copied()?)),
-        TemplatePiece::Hole(n) => Ok(Piece::Hole(key_at(path, serials, *n as u64)?)),
+        TemplatePiece::Hole(n) => Ok(Piece::Hole(key_at(keys, *n as u64)?)),
     }
 }
 
 /// Pieces with the keys of their holes.
 pub(crate) fn copied_pieces(
     alloc: Global,
-    path: &Path,
-    serials: &[u64],
+    keys: &[Key],
     pieces: &[TemplatePiece],
 ) -> Result<Vec<Piece>, Fault>
-    ensures pieces { IfOk result (λ v. v.items ≡ linked_pieces (keys_in path.now serials.now) (map seen_piece pieces.now)) }
+    ensures pieces { IfOk result (λ v. v.items ≡ linked_pieces (keys_by keys.now) (map seen_piece pieces.now)) }
     ensures faults { IfErr result (λ e. is_memory e ≡ true) }
 {
     let mut copy = Vec::new(alloc);
     for piece in pieces {
-        copy.push(copied_piece(path, serials, piece)?)?;
+        copy.push(copied_piece(keys, piece)?)?;
     }
     Ok(copy)
 }
 
 /// The keys of sites.
-fn copied_keys(
-    alloc: Global,
-    path: &Path,
-    serials: &[u64],
-    numbers: &[u32],
-) -> Result<Vec<Key>, Memory>
-    ensures { IfOk result (λ v. v.items ≡ map (keys_in path.now serials.now) numbers.now) }
+fn copied_keys(alloc: Global, keys: &[Key], numbers: &[u32]) -> Result<Vec<Key>, Memory>
+    ensures { IfOk result (λ v. v.items ≡ map (keys_by keys.now) numbers.now) }
 {
-    let mut keys = Vec::new(alloc);
+    let mut all = Vec::new(alloc);
     for n in numbers {
-        keys.push(key_at(path, serials, *n as u64)?)?;
+        all.push(key_at(keys, *n as u64)?)?;
     }
-    Ok(keys)
+    Ok(all)
 }
 
 /// What hides an element, with the key of its site.
-fn copied_hiding(path: &Path, serials: &[u64], hiding: &TemplateHiding) -> Result<Hiding, Memory>
-    ensures { IfOk result (λ h. hiding_of h ≡ linked_hiding (keys_in path.now serials.now) (seen_hiding hiding.now)) }
+fn copied_hiding(keys: &[Key], hiding: &TemplateHiding) -> Result<Hiding, Memory>
+    ensures { IfOk result (λ h. hiding_of h ≡ linked_hiding (keys_by keys.now) (seen_hiding hiding.now)) }
 {
     match hiding {
-        TemplateHiding::WhileTrue(n) => Ok(Hiding::WhileTrue(key_at(path, serials, *n as u64)?)),
-        TemplateHiding::WhileFalse(n) => Ok(Hiding::WhileFalse(key_at(path, serials, *n as u64)?)),
+        TemplateHiding::WhileTrue(n) => Ok(Hiding::WhileTrue(key_at(keys, *n as u64)?)),
+        TemplateHiding::WhileFalse(n) => Ok(Hiding::WhileFalse(key_at(keys, *n as u64)?)),
     }
 }
 
 /// All that hides an element, with the keys of its sites.
 fn copied_hidings(
     alloc: Global,
-    path: &Path,
-    serials: &[u64],
+    keys: &[Key],
     hidings: &[TemplateHiding],
 ) -> Result<Vec<Hiding>, Memory>
-    ensures { IfOk result (λ v. map hiding_of v.items ≡ map (linked_hiding (keys_in path.now serials.now)) (map seen_hiding hidings.now)) }
+    ensures { IfOk result (λ v. map hiding_of v.items ≡ map (linked_hiding (keys_by keys.now)) (map seen_hiding hidings.now)) }
 {
     let mut copy = Vec::new(alloc);
     for hiding in hidings {
-        copy.push(copied_hiding(path, serials, hiding)?)?;
+        copy.push(copied_hiding(keys, hiding)?)?;
     }
     Ok(copy)
 }
 
 /// What a class is drawn from, with the keys of its sites.
-fn copied_class(
-    alloc: Global,
-    path: &Path,
-    serials: &[u64],
-    class: &ClassValue,
-) -> Result<DrawnClass, Fault>
-    ensures class { IfOk result (λ c. class_of c ≡ linked_class (keys_in path.now serials.now) (seen_class class.now)) }
+fn copied_class(alloc: Global, keys: &[Key], class: &ClassValue) -> Result<DrawnClass, Fault>
+    ensures class { IfOk result (λ c. class_of c ≡ linked_class (keys_by keys.now) (seen_class class.now)) }
     ensures faults { IfErr result (λ e. is_memory e ≡ true) }
 {
-    let pieces = copied_pieces(alloc, path, serials, class.pieces.as_slice())?;
-    let words = copied_keys(alloc, path, serials, class.words.as_slice())?;
-    let hidings = copied_hidings(alloc, path, serials, class.hidings.as_slice())?;
+    let pieces = copied_pieces(alloc, keys, class.pieces.as_slice())?;
+    let words = copied_keys(alloc, keys, class.words.as_slice())?;
+    let hidings = copied_hidings(alloc, keys, class.hidings.as_slice())?;
     Ok(DrawnClass {
         written: class.written,
         pieces,
@@ -137,45 +125,35 @@ fn copied_class(
 }
 
 /// What an attribute is drawn from, with the keys of its holes.
-fn copied_value(
-    alloc: Global,
-    path: &Path,
-    serials: &[u64],
-    value: &AttributeValue,
-) -> Result<DrawnValue, Fault>
-    ensures value { IfOk result (λ v. drawn_value_of v ≡ linked_value (keys_in path.now serials.now) (value_of value.now)) }
+fn copied_value(alloc: Global, keys: &[Key], value: &AttributeValue) -> Result<DrawnValue, Fault>
+    ensures value { IfOk result (λ v. drawn_value_of v ≡ linked_value (keys_by keys.now) (value_of value.now)) }
     ensures faults { IfErr result (λ e. is_memory e ≡ true) }
 {
     match value {
         AttributeValue::Always(pieces) => {
-            let copy = copied_pieces(alloc, path, serials, pieces.as_slice())?;
+            let copy = copied_pieces(alloc, keys, pieces.as_slice())?;
             Ok(DrawnValue::Always(copy))
         }
         AttributeValue::UnlessEmpty(pieces) => {
-            let copy = copied_pieces(alloc, path, serials, pieces.as_slice())?;
+            let copy = copied_pieces(alloc, keys, pieces.as_slice())?;
             Ok(DrawnValue::UnlessEmpty(copy))
         }
         AttributeValue::Flag(word, n) => {
-            let key = key_at(path, serials, *n as u64)?;
+            let key = key_at(keys, *n as u64)?;
             Ok(DrawnValue::Flag(word.copied()?, key))
         }
         AttributeValue::Classes(class) => {
-            Ok(DrawnValue::Classes(copied_class(alloc, path, serials, class)?))
+            Ok(DrawnValue::Classes(copied_class(alloc, keys, class)?))
         }
     }
 }
 
 /// An attribute with the keys of its holes.
-fn copied_attribute(
-    alloc: Global,
-    path: &Path,
-    serials: &[u64],
-    attribute: &Attribute,
-) -> Result<Drawn, Fault>
-    ensures attribute { IfOk result (λ a. drawn_of a ≡ ((attribute_of attribute.now).0, linked_value (keys_in path.now serials.now) (attribute_of attribute.now).1)) }
+fn copied_attribute(alloc: Global, keys: &[Key], attribute: &Attribute) -> Result<Drawn, Fault>
+    ensures attribute { IfOk result (λ a. drawn_of a ≡ ((attribute_of attribute.now).0, linked_value (keys_by keys.now) (attribute_of attribute.now).1)) }
     ensures faults { IfErr result (λ e. is_memory e ≡ true) }
 {
-    let value = copied_value(alloc, path, serials, &attribute.value)?;
+    let value = copied_value(alloc, keys, &attribute.value)?;
     let name = attribute.name.copied()?;
     Ok(Drawn { name, value })
 }
@@ -183,16 +161,15 @@ fn copied_attribute(
 /// Attributes with the keys of their holes.
 pub(crate) fn copied_attributes(
     alloc: Global,
-    path: &Path,
-    serials: &[u64],
+    keys: &[Key],
     attributes: &[Attribute],
 ) -> Result<Vec<Drawn>, Fault>
-    ensures attributes { IfOk result (λ v. map drawn_of v.items ≡ linked_values (keys_in path.now serials.now) (map attribute_of attributes.now)) }
+    ensures attributes { IfOk result (λ v. map drawn_of v.items ≡ linked_values (keys_by keys.now) (map attribute_of attributes.now)) }
     ensures faults { IfErr result (λ e. is_memory e ≡ true) }
 {
     let mut copy = Vec::new(alloc);
     for attribute in attributes {
-        copy.push(copied_attribute(alloc, path, serials, attribute)?)?;
+        copy.push(copied_attribute(alloc, keys, attribute)?)?;
     }
     Ok(copy)
 }

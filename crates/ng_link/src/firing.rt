@@ -120,7 +120,7 @@ impl Works {
         ensures rest { self.new ≡ record self.old { dom = self.new.dom } }
         ensures refused { IfErr result (λ e. e ≡ Memory.Refused) }
     {
-        match spot_in(&self.instances, key) {
+        match spot_in(&self.instances, &self.inner, key) {
             None => Ok(()),
             Some(n) => self.draw_anew(n),
         }

@@ -1,12 +1,14 @@
 //! Which programs handle the events of the document, by node (API: ngClick).
-ghost use Rattle.std.specs.Prelude.{◌≡◌, ◌+◌, map, option_and_then, option_copied, IfOk, OnOk};
+ghost use Rattle.std.specs.Prelude.{◌≡◌, ◌+◌, [], map, option_and_then, option_copied, unwrap_or, IfOk, OnOk};
+ghost use Rattle.std.specs.BTreeMap.{is_at};
 ghost use Rattle.std.specs.Map.{lookup};
+ghost use Rattle.std.specs.Ordering.{nat_cmp};
 ghost use Rattle.ng_drawing.specs.Nodes.{part_nodes, content_nodes, nodes};
 ghost use Rattle.ng_drawing.specs.Template.{parts_from};
 ghost use Rattle.ng_parse.specs.ProgramOf.{program};
-ghost use Rattle.ng_template.specs.Seen.{handler_of, part_of, contents_of};
+ghost use Rattle.ng_parts.specs.Seen.{handler_of, part_of, contents_of};
 ghost use Rattle.ng_link.specs.Events.{handlers_at, is_handling, scope_of};
-ghost use Rattle.ng_link.specs.Handlers.{with_handlers, part_handled, contents_handled, handled, for_event, programs_at, is_entered};
+ghost use Rattle.ng_link.specs.Handlers.{with_handlers, part_handled, contents_handled, handled, for_event, programs_at, is_entered, part_scoped, contents_scoped, scoped};
 ghost use Rattle.ng_link.specs.Instances.{is_path, owner_of};
 ghost use Rattle.ng_link.specs.State.{handled_of, state_of};
 
@@ -15,8 +17,8 @@ use ng_base::fault::Memory;
 use ng_base::name::ScopeId;
 use ng_base::txt::Txt;
 use ng_parse::Program;
-use ng_template::acts::Handler;
-use ng_template::{Contents, Part};
+use ng_parts::acts::Handler;
+use ng_parts::{Contents, Part};
 use std::alloc::Global;
 use std::collections::BTreeMap;
 
@@ -110,7 +112,7 @@ fn enter_contents(
 
 /// The handlers of parts are entered, given the name of their first node. The answer is the name after their nodes.
 #[cycle(handled)]
-pub(crate) fn enter_parts(
+fn enter_parts(
     alloc: Global,
     table: &mut BTreeMap<u64, Vec<Handler>>,
     n: u64,
@@ -124,6 +126,74 @@ pub(crate) fn enter_parts(
         next = enter_part(alloc, table, next, part)?;
     }
     Ok(next)
+}
+
+/// The handlers of parts, given the name of their first node.
+pub(crate) fn handlers_of(
+    alloc: Global,
+    n: u64,
+    parts: &[Part],
+) -> Result<BTreeMap<u64, Vec<Handler>>, Memory>
+    ensures { IfOk result (λ t. handled_of t.entries ≡ handled n (parts_from (map part_of parts.now)) []) }
+{
+    let mut table = BTreeMap::new(alloc);
+    enter_parts(alloc, &mut table, n, parts)?;
+    Ok(table)
+}
+
+/// The scopes of a part's elements are entered, but for the instance's own. The answer is the name after its nodes.
+#[cycle(scoped)]
+fn enter_scope(table: &mut BTreeMap<u64, u32>, n: u64, part: &Part) -> Result<u64, Memory>
+    ensures next { IfOk result (λ m. m ≡ n + part_nodes (part_of part.now)) }
+    ensures entered { OnOk result (table.new.entries ≡ part_scoped n (part_of part.now) table.old.entries) }
+{
+    match part {
+        Part::Element { acts, contents, .. } => {
+            if acts.scopes.own != 0 {
+                let _ = table.insert(n, acts.scopes.own)?;
+            }
+            enter_scopes_in(table, after(n)?, contents)
+        }
+        _ => after(n),
+    }
+}
+
+/// The scopes of the elements that an element contains are entered.
+#[cycle(scoped)]
+fn enter_scopes_in(
+    table: &mut BTreeMap<u64, u32>,
+    n: u64,
+    contents: &Contents,
+) -> Result<u64, Memory>
+    ensures next { IfOk result (λ m. m ≡ n + content_nodes (contents_of contents.now)) }
+    ensures entered { OnOk result (table.new.entries ≡ contents_scoped n (contents_of contents.now) table.old.entries) }
+{
+    match contents {
+        Contents::Children(parts) => enter_scopes(table, n, parts.as_slice()),
+        Contents::Bound(_) => after(n),
+    }
+}
+
+/// The scopes of the elements of parts are entered, given the name of their first node. The answer is the name after their nodes.
+#[cycle(scoped)]
+fn enter_scopes(table: &mut BTreeMap<u64, u32>, n: u64, parts: &[Part]) -> Result<u64, Memory>
+    ensures next { IfOk result (λ m. m ≡ n + nodes (parts_from (map part_of parts.now))) }
+    ensures entered { OnOk result (table.new.entries ≡ scoped n (parts_from (map part_of parts.now)) table.old.entries) }
+{
+    let mut next = n;
+    for part in parts {
+        next = enter_scope(table, next, part)?;
+    }
+    Ok(next)
+}
+
+/// The scopes of the elements of parts, given the name of their first node.
+pub(crate) fn scopes_of(alloc: Global, n: u64, parts: &[Part]) -> Result<BTreeMap<u64, u32>, Memory>
+    ensures { IfOk result (λ t. t.entries ≡ scoped n (parts_from (map part_of parts.now)) []) }
+{
+    let mut table = BTreeMap::new(alloc);
+    enter_scopes(&mut table, n, parts)?;
+    Ok(table)
 }
 
 /// The programs for an event, in order.
@@ -147,6 +217,16 @@ impl Linked {
         match self.handlers.get(&n) {
             None => Ok(Vec::new(alloc)),
             Some(handlers) => for_event(alloc, handlers.as_slice(), event),
+        }
+    }
+
+    /// The number of the scope of an element, by its node.
+    fn element_at(&self, n: u64) -> u32
+        ensures { result ≡ unwrap_or (lookup (is_at (nat_cmp n)) self.now.elements.entries) 0 }
+    {
+        match self.elements.get(&n) {
+            None => 0,
+            Some(scope) => *scope,
         }
     }
 
@@ -179,13 +259,13 @@ impl Works {
         }
     }
 
-    /// The scope of a node: that of the instance to which it belongs.
+    /// The scope of a node: that of the instance to which it belongs, or the inner one of its element.
     pub fn scope_of(&self, n: u64) -> ScopeId
         ensures { result.0 ≡ scope_of (state_of self.now) n }
     {
         match self.instance_of_node(n) {
             None => ScopeId(0),
-            Some(one) => one.scope,
+            Some(one) => one.scope_at(one.element_at(n)),
         }
     }
 

@@ -2,7 +2,7 @@
 ghost use Rattle.std.specs.Prelude.{◌≡◌, IfOk, map, option_map};
 ghost use Rattle.ng_drawing.specs.Instance.{instances_from};
 ghost use Rattle.ng_drawing.specs.InstanceOf.{state_of as seen_state, instance_of as seen_instance, group_of as seen_group};
-ghost use Rattle.ng_template.specs.Kept.{fragments_in};
+ghost use Rattle.ng_compose.specs.Kept.{fragments_in};
 ghost use Rattle.ng_value.specs.Snaps.{snap_of};
 ghost use Rattle.ng_link.specs.Controls.{state_under};
 ghost use Rattle.ng_link.specs.Instances.{Body as BodyOf, read_bodies};
@@ -62,8 +62,9 @@ fn site_states(works: &Works, path: &Path, one: &Linked) -> Result<Vec<SiteState
 {
     let mut sites = Vec::new(works.alloc);
     for serial in one.spots.keys() {
-        let key = key_on(path, *serial)?;
-        sites.push(site_state(works, one.scope, key)?)?;
+        let mark = one.mark_at(*serial);
+        let key = key_on(one.path_at(path, mark.under), *serial)?;
+        sites.push(site_state(works, one.scope_at(mark.over), key)?)?;
     }
     Ok(sites)
 }
@@ -73,7 +74,7 @@ fn nothing(works: &Works) -> Instance
     ensures { seen_instance (fragments_in (templates_of works.now)) result ≡ nothing_linked }
 {
     Instance {
-        origin: Origin::plain(Home::first(TplId(u32::MAX)), 0),
+        origin: Origin::plain(Home::first(works.alloc, TplId(u32::MAX)), 0),
         scope: ScopeId(0),
         sites: Vec::new(works.alloc),
         outlets: Vec::new(works.alloc),
@@ -92,7 +93,7 @@ fn instance_on(works: &Works, path: &Path) -> Result<Instance, Memory>
     let sites = site_states(works, path, one)?;
     let outlets = outlets_in(works, path, one.outlets.as_slice())?;
     Ok(Instance {
-        origin: one.origin,
+        origin: one.origin.copied(works.alloc)?,
         scope: one.scope,
         sites,
         outlets,

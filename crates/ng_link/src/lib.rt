@@ -7,7 +7,7 @@
 //! knows the node of each of its sites, and a fire is one look-up and one edit of one node.
 //!
 //! - `link_order` tells in which order a fragment's nodes are made, its programs run and its sites get their numbers of registration,
-//!   and `has_room` whether its nodes find room. The programs are run by the crate above.
+//!   which is read off for whether its nodes find room. The steps are done by the crate above.
 //! - `place` puts a fragment's sites among the watchers, all of them unset, under the numbers that they got, makes its nodes and notes
 //!   its instance. Nodes are made apart, with what each is drawn from, and are shown by one call at the end: at the top, or after the
 //!   bodies of an outlet.
@@ -34,10 +34,11 @@
 //! stands of a fragment, `specs/Instances.antt` what stands of several, `specs/Rows.antt` the watchers of sites, and [`laws`] what it
 //! comes to: the document of a page that stands is the drawing of its instance with what that has kept.
 //!
-//! In reading order: `works`; `counting` counts nodes, `copying` copies pieces with the keys of their holes, `attributes` sets those of
+//! In reading order: `works`; `copying` copies pieces with the keys of their holes, `attributes` sets those of
 //! an element, `building` makes nodes, `ordering` has the order of linking, `placing` the places and watchers of sites, `handling` the
-//! handlers, `outlets` the outlets of an instance, `linking`; `filling` says which of them a site fills; `forgetting` takes keys out of tables; `unlinking`; `looks` says what is seen of a
-//! site, `firing` draws a node anew, `controls`, `declaring`, `resting`; `instance`; `laws`.
+//! handlers, `outlets` the outlets of an instance, `registering` the scopes and keys of sites and how they are watched, `linking`; `filling`
+//! says which of the outlets a site fills; `forgetting` takes keys out of tables; `unlinking`; `looks` says what is seen of a site, `firing`
+//! draws a node anew, `controls`, `declaring`, `resting`; `instance`; `laws`.
 //!
 //! Not here: when a watcher fires, what its snapshot is, and what programs do.
 #![tactic(auto)]
@@ -47,7 +48,6 @@ mod attributes;
 mod building;
 pub mod controls;
 mod copying;
-mod counting;
 mod declaring;
 pub mod filling;
 mod firing;
@@ -60,6 +60,7 @@ mod looks;
 pub mod ordering;
 mod outlets;
 mod placing;
+pub mod registering;
 mod resting;
 pub mod unlinking;
 pub mod works;

@@ -1,21 +1,24 @@
 //! What is seen of a site: the snapshot that it has kept, as a text, as words and as a truth, or the control whose model it is.
 ghost use Rattle.std.specs.Prelude.{◌≡◌, ◌++◌, None, IfOk, OnOk, map, option_map};
 ghost use Rattle.std.specs.List.{flat_map, list_any};
+ghost use Rattle.ng_drawing.specs.Looks.{kept_text};
 ghost use Rattle.ng_dom.specs.Drawing.{joined, is_shown_true, is_shown_false, is_hiding as is_hiding_of};
 ghost use Rattle.ng_value.specs.Snaps.{snap_of};
 ghost use Rattle.ng_watch.specs.Table.{kept_at};
 ghost use Rattle.ng_link.specs.Seen.{hiding_of};
+ghost use Rattle.ng_link.specs.Shape.{key_on as key_of_number};
 ghost use Rattle.ng_link.specs.State.{kept_in, looks_in, state_of};
 
-use crate::copying::add_words;
+use crate::copying::{add_words, key_on};
 use crate::works::Works;
+use ng_base::fault::Memory;
 use ng_base::lists::Words;
-use ng_base::path::Key;
+use ng_base::path::{Key, Path};
 use ng_base::txt::Txt;
 use ng_dom::record::{Hiding, Piece};
 use ng_drawing::controls::{is_seen_false, is_seen_true, push_seen_words, seen_text};
 use ng_value::snapshot::Snap;
-use std::alloc::AllocError;
+use std::alloc::{AllocError, Global};
 
 /// What a site has kept at rest, where it rests.
 fn kept_at_rest<'a>(works: &'a Works, key: &Key) -> Option<&'a Snap>
@@ -47,6 +50,14 @@ fn add_kept(works: &Works, text: &mut Txt, key: &Key) -> Result<(), AllocError>
 {
     let seen = seen_text(works.alloc, works.controls.get(key), kept_in(works, key))?;
     add_words(text, &seen)
+}
+
+/// Adds the text that was kept, whether a control shows it or not.
+fn add_kept_text(alloc: Global, text: &mut Txt, kept: Option<&Snap>) -> Result<(), AllocError>
+    ensures { OnOk result (text.new ≡ text.old ++ kept_text (option_map (λ s. snap_of s.now) kept.entry)) }
+{
+    let words = seen_text(alloc, None, kept)?;
+    add_words(text, &words)
 }
 
 /// The text of pieces.
@@ -120,4 +131,15 @@ pub(crate) fn is_hidden(works: &Works, hidings: &[Hiding]) -> bool
         }
     }
     false
+}
+
+impl Works {
+    /// The text that the site of a number has kept is added, if it has kept one.
+    pub fn push_kept(&self, path: &Path, serial: u64, text: &mut Txt) -> Result<(), Memory>
+        ensures { OnOk result (text.new ≡ text.old ++ kept_text (kept_in (state_of self.now).watchers (state_of self.now).resting (key_of_number path.now serial))) }
+    {
+        let key = key_on(path, serial)?;
+        add_kept_text(self.alloc, text, kept_in(self, &key))?;
+        Ok(())
+    }
 }

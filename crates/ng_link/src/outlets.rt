@@ -1,23 +1,28 @@
 //! The outlets of an instance: at which anchors they stand, and the bodies that fill them.
-ghost use Rattle.std.specs.Prelude.{List, ◌≡◌, ◌+◌, ◌++◌, map, option_map, IfOk, OnOk};
+ghost use Rattle.std.specs.Prelude.{List, ◌≡◌, ◌+◌, ◌++◌, None, Some, map, slice_get, slice_index_or, option_map, IfOk, OnOk};
 ghost use Rattle.ng_base.specs.declared.path.Key.{Key};
 ghost use Rattle.ng_dom.specs.Lists.{put_at};
 ghost use Rattle.ng_drawing.specs.Nodes.{part_nodes, content_nodes, nodes};
 ghost use Rattle.ng_drawing.specs.Template.{parts_from};
-ghost use Rattle.ng_template.specs.FragmentOf.{outlet_of as template_outlet, fragment_of};
-ghost use Rattle.ng_template.specs.Kept.{Named};
-ghost use Rattle.ng_template.specs.Seen.{part_of, contents_of};
-ghost use Rattle.ng_link.specs.Calls.{outlet_on, outlets_on};
-ghost use Rattle.ng_link.specs.Instances.{linked_at, outlets_changed, with_body, body_added};
+ghost use Rattle.ng_parts.specs.ActsOf.{outside_of};
+ghost use Rattle.ng_parts.specs.FragmentOf.{outlet_of as template_outlet, spot_of, fragment_of};
+ghost use Rattle.ng_compose.specs.Kept.{Named};
+ghost use Rattle.ng_parts.specs.Seen.{part_of, contents_of};
+ghost use Rattle.ng_link.specs.BoundOf.{ground_of, round_of};
+ghost use Rattle.ng_link.specs.Calls.{round_by, outlet_on, outlets_on};
+ghost use Rattle.ng_link.specs.Instances.{Inners, linked_at, outlets_changed, with_body, body_added};
 ghost use Rattle.ng_link.specs.PlaceOf.{outlet_of_linked};
+ghost use Rattle.ng_link.specs.Registering.{scope_in_ground, outside_in_ground};
 ghost use Rattle.ng_link.specs.Shape.{part_anchors, content_anchors, anchors};
 ghost use Rattle.ng_link.specs.State.{body_of, outlet_of, instances_of, spot_in};
 
+use crate::filling::copied_scopes;
 use crate::works::{Body, Linked, OutletState};
 use ng_base::fault::Memory;
+use ng_base::name::ScopeId;
 use ng_base::path::Path;
-use ng_drawing::origin::Home;
-use ng_template::{Contents, Fragment, Outlet, Part};
+use ng_drawing::origin::{Home, Origin};
+use ng_parts::{Contents, Fragment, Outlet, OutletScope, Outside, Part};
 use std::alloc::{AllocError, Global};
 use std::collections::BTreeMap;
 
@@ -73,22 +78,140 @@ fn add_anchors(names: &mut Vec<u64>, n: u64, parts: &[Part]) -> Result<u64, Memo
     Ok(next)
 }
 
+/// The scopes of an instance by their numbers: its own and then the inner ones; and those outside what its slots are given.
+#[derive(Drop)]
+pub(crate) struct Ground<'a> {
+    pub(crate) scopes: &'a [ScopeId],
+    pub(crate) outsides: &'a [ScopeId],
+}
+
+/// The first of some scopes.
+fn first_scope(scopes: &[ScopeId]) -> ScopeId
+    ensures { result.0 ≡ slice_index_or (map (λ s. s.0) scopes.now) 0 0 }
+{
+    match scopes.get(0) {
+        None => ScopeId(0),
+        Some(scope) => *scope,
+    }
+}
+
+/// A scope by its number, or the first of them.
+pub(crate) fn scope_among(scopes: &[ScopeId], n: u32) -> ScopeId
+    ensures { result.0 ≡ slice_index_or (map (λ s. s.0) scopes.now) n (slice_index_or (map (λ s. s.0) scopes.now) 0 0) }
+{
+    match scopes.get(n as usize) {
+        None => first_scope(scopes),
+        Some(scope) => *scope,
+    }
+}
+
+impl Ground<'_> {
+    /// A scope by its number; the instance's own, where there is none of that number.
+    pub(crate) fn scope(&self, n: u32) -> ScopeId
+        ensures { result.0 ≡ scope_in_ground (ground_of self.now) n }
+    {
+        scope_among(self.scopes, n)
+    }
+
+    /// A scope outside a directive's element.
+    pub(crate) fn outside(&self, outside: Outside) -> ScopeId
+        ensures { result.0 ≡ outside_in_ground (ground_of self.now) (outside_of outside) }
+    {
+        match outside {
+            Outside::Inside(n) => self.scope(n),
+            Outside::Handed(i) => match self.outsides.get(i as usize) {
+                None => ScopeId(0),
+                Some(scope) => *scope,
+            },
+        }
+    }
+
+    /// Scopes outside directives' elements.
+    fn all_outside(&self, alloc: Global, outsides: &[Outside]) -> Result<Vec<ScopeId>, AllocError>
+        ensures { IfOk result (λ v. map (λ s. s.0) v.items ≡ map (outside_in_ground (ground_of self.now)) (map outside_of outsides.now)) }
+    {
+        let mut all = Vec::new(alloc);
+        for outside in outsides {
+            all.push(self.outside(*outside))?;
+        }
+        Ok(all)
+    }
+}
+
+/// Where the bodies of an outlet come from, the scope round them, and the scopes outside what the slots in them are given.
+#[derive(Drop)]
+struct Round {
+    home: Home,
+    scope: ScopeId,
+    outsides: Vec<ScopeId>,
+}
+
+/// That of an outlet of which nothing is said: it is inside what an origin draws.
+fn round_inside(alloc: Global, origin: &Origin, ground: &Ground<'_>) -> Result<Round, AllocError>
+    ensures { IfOk result (λ r. round_of r ≡ round_by origin.now (ground_of ground.now) None) }
+{
+    Ok(Round {
+        home: origin.inner(alloc)?,
+        scope: ground.scope(0),
+        outsides: copied_scopes(alloc, ground.outsides)?,
+    })
+}
+
+/// That of an outlet of which it is said.
+fn round_at(
+    alloc: Global,
+    origin: &Origin,
+    ground: &Ground<'_>,
+    spot: &OutletScope,
+) -> Result<Round, AllocError>
+    ensures { IfOk result (λ r. round_of r ≡ round_by origin.now (ground_of ground.now) (Some (spot_of spot.now))) }
+{
+    Ok(Round {
+        home: spot.home.copied(alloc)?,
+        scope: ground.scope(spot.scope),
+        outsides: ground.all_outside(alloc, spot.outsides.as_slice())?,
+    })
+}
+
+/// That of an outlet of a fragment of an origin.
+fn round_of(
+    alloc: Global,
+    origin: &Origin,
+    ground: &Ground<'_>,
+    fragment: &Fragment,
+    i: usize,
+) -> Result<Round, AllocError>
+    ensures { IfOk result (λ r. round_of r ≡ round_by origin.now (ground_of ground.now) (slice_get (fragment_of fragment.now).spots i)) }
+{
+    match fragment.spot(i) {
+        None => round_inside(alloc, origin, ground),
+        Some(spot) => round_at(alloc, origin, ground, spot),
+    }
+}
+
 /// An outlet that nothing fills yet.
 fn outlet_at(
     alloc: Global,
-    home: Home,
+    round: Round,
     serials: &[u64],
     outlet: &Outlet,
     anchor: u64,
 ) -> Result<OutletState, AllocError>
-    ensures { IfOk result (λ o. outlet_of o ≡ outlet_on home serials.now (template_outlet outlet.now) anchor) }
+    ensures { IfOk result (λ o. outlet_of o ≡ outlet_on (round_of round) serials.now (template_outlet outlet.now) anchor) }
 {
+    let Round {
+        home,
+        scope,
+        outsides,
+    } = round;
     Ok(OutletState {
         serial: match serials.get(outlet.site as usize) {
             None => 0,
             Some(serial) => *serial,
         },
         home,
+        scope,
+        outsides,
         filling: outlet.filling.copied(alloc)?,
         anchor,
         bodies: Vec::new(alloc),
@@ -98,20 +221,23 @@ fn outlet_at(
 /// The outlets of a fragment, at anchors of these names.
 fn outlets_at(
     alloc: Global,
-    home: Home,
+    origin: &Origin,
+    ground: &Ground<'_>,
     serials: &[u64],
-    outlets: &[Outlet],
+    fragment: &Fragment,
     names: &[u64],
 ) -> Result<Vec<OutletState>, AllocError>
-    ensures { IfOk result (λ v. map outlet_of v.items ≡ outlets_on home serials.now (map template_outlet outlets.now) names.now) }
+    ensures { IfOk result (λ v. map outlet_of v.items ≡ outlets_on origin.now (ground_of ground.now) serials.now (fragment_of fragment.now) names.now) }
 {
     let mut made = Vec::new(alloc);
     let mut left = names;
-    for outlet in outlets {
+    let outlets = fragment.outlets();
+    for i in 0..outlets.len() {
         match left.split_first() {
             None => return Ok(made),
             Some((name, others)) => {
-                made.push(outlet_at(alloc, home, serials, outlet, *name)?)?;
+                let round = round_of(alloc, origin, ground, fragment, i)?;
+                made.push(outlet_at(alloc, round, serials, &outlets[i], *name)?)?;
                 left = others;
             }
         }
@@ -122,16 +248,17 @@ fn outlets_at(
 /// The outlets of a fragment whose nodes have the names from one on.
 pub(crate) fn outlets_of(
     alloc: Global,
-    home: Home,
+    origin: &Origin,
+    ground: &Ground<'_>,
     serials: &[u64],
     fragment: &Fragment,
     node: u64,
 ) -> Result<Vec<OutletState>, Memory>
-    ensures { IfOk result (λ v. map outlet_of v.items ≡ outlets_on home serials.now (fragment_of fragment.now).outlets (anchors node (fragment_of fragment.now).parts)) }
+    ensures { IfOk result (λ v. map outlet_of v.items ≡ outlets_on origin.now (ground_of ground.now) serials.now (fragment_of fragment.now) (anchors node (fragment_of fragment.now).parts)) }
 {
     let mut names = Vec::new(alloc);
     add_anchors(&mut names, node, fragment.parts().as_slice())?;
-    Ok(outlets_at(alloc, home, serials, fragment.outlets(), names.as_slice())?)
+    Ok(outlets_at(alloc, origin, ground, serials, fragment, names.as_slice())?)
 }
 
 /// An outlet of an instance.
@@ -192,7 +319,7 @@ pub(crate) fn take_in(
     body: Body,
 ) -> Result<(), AllocError>
     ensures taken { (all : List Named) → OnOk result (instances_of all instances.new.entries ≡ outlets_changed holder.now (body_added outlet at (body_of body)) (instances_of all instances.old.entries)) }
-    ensures spots { (k : Key) → OnOk result (spot_in instances.new.entries k ≡ spot_in instances.old.entries k) }
+    ensures spots { (inner : Inners) → (k : Key) → OnOk result (spot_in inner instances.new.entries k ≡ spot_in inner instances.old.entries k) }
 {
     match instances.get_mut(holder) {
         None => Ok(()),

@@ -4,7 +4,7 @@ ghost use Rattle.std.specs.BTreeMap.{insert_entry};
 ghost use Rattle.std.specs.List.{filter};
 ghost use Rattle.std.specs.Prelude.{not, option_map};
 ghost use Rattle.ng_dom.specs.Drawing.{Stands};
-ghost use Rattle.ng_template.specs.Kept.{Named};
+ghost use Rattle.ng_compose.specs.Kept.{Named};
 ghost use Rattle.ng_value.specs.Snaps.{snap_of};
 ghost use Rattle.ng_watch.specs.Keys.{key_cmp, begins};
 ghost use Rattle.ng_watch.specs.Table.{watchers_of};
@@ -26,14 +26,15 @@ use std::collections::BTreeMap;
 /// A site whose watcher was taken out rests with what that had kept.
 fn rest(
     instances: &BTreeMap<Path, Linked>,
+    inner: &BTreeMap<Path, Path>,
     resting: &mut BTreeMap<Key, Option<Snap>>,
     key: Key,
     kept: Option<Snap>,
 ) -> Result<(), Memory>
-    ensures rested { (all : List Named) → OnOk result (resting_of resting.new.entries ≡ (if is_site (instances_of all instances.now.entries) key then insert_entry key_cmp (resting_of resting.old.entries) key (option_map snap_of kept) else resting_of resting.old.entries)) }
+    ensures rested { (all : List Named) → OnOk result (resting_of resting.new.entries ≡ (if is_site inner.now.entries (instances_of all instances.now.entries) key then insert_entry key_cmp (resting_of resting.old.entries) key (option_map snap_of kept) else resting_of resting.old.entries)) }
     ensures refused { IfErr result (λ e. e ≡ Memory.Refused) }
 {
-    if is_site(instances, &key) {
+    if is_site(instances, inner, &key) {
         resting.insert(key, kept)?;
     }
     Ok(())
@@ -42,16 +43,17 @@ fn rest(
 /// Sites whose watchers were taken out rest, one after another.
 fn rest_all(
     instances: &BTreeMap<Path, Linked>,
+    inner: &BTreeMap<Path, Path>,
     resting: &mut BTreeMap<Key, Option<Snap>>,
     rows: Vec<(Key, Watched)>,
 ) -> Result<(), Memory>
-    ensures rested { (all : List Named) → OnOk result (resting_of resting.new.entries ≡ rested (instances_of all instances.now.entries) (watchers_of rows.items) (resting_of resting.old.entries)) }
+    ensures rested { (all : List Named) → OnOk result (resting_of resting.new.entries ≡ rested inner.now.entries (instances_of all instances.now.entries) (watchers_of rows.items) (resting_of resting.old.entries)) }
     ensures refused { IfErr result (λ e. e ≡ Memory.Refused) }
 {
     let mut left = rows.into_iter();
     while let Some((key, watched)) = left.next() {
         let Watched { kept, .. } = watched;
-        rest(instances, resting, key, kept)?;
+        rest(instances, inner, resting, key, kept)?;
     }
     Ok(())
 }
@@ -76,7 +78,7 @@ impl Works {
     {
         let _ = self.watchers.count();
         let rows = self.watchers.take_under(self.alloc, p)?;
-        rest_all(&self.instances, &mut self.resting, rows)?;
+        rest_all(&self.instances, &self.inner, &mut self.resting, rows)?;
         leave_listeners(&mut self.declared, p)?;
         Ok(())
     }
@@ -91,7 +93,7 @@ impl Works {
     {
         let _ = self.watchers.count();
         let rows = self.watchers.take_over(self.alloc, &self.core.store)?;
-        rest_all(&self.instances, &mut self.resting, rows)?;
+        rest_all(&self.instances, &self.inner, &mut self.resting, rows)?;
         Ok(())
     }
 }

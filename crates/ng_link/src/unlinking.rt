@@ -6,10 +6,10 @@ ghost use Rattle.std.specs.Map.{lookup, lookup_key, remove_entry};
 ghost use Rattle.std.specs.Ordering.{nat_cmp};
 ghost use Rattle.ng_base.specs.declared.path.Key.{Key as KeyOf};
 ghost use Rattle.ng_dom.specs.Lists.{without_at};
-ghost use Rattle.ng_template.specs.Kept.{Named};
+ghost use Rattle.ng_compose.specs.Kept.{Named};
 ghost use Rattle.ng_watch.specs.Keys.{begins as begins_with};
 ghost use Rattle.ng_link.specs.Calls.{cut_at, unlinked_at};
-ghost use Rattle.ng_link.specs.Instances.{OutletState as OutletOf, is_path, linked_at, outlets_changed, owners_less};
+ghost use Rattle.ng_link.specs.Instances.{OutletState as OutletOf, Inners, is_path, linked_at, outlets_changed, owners_less};
 ghost use Rattle.ng_link.specs.Standing.{IsStanding, IsHeld, IsHeldIn, body_count, held_count};
 ghost use Rattle.ng_link.specs.State.{body_of, outlet_of, instances_of, spot_in, state_of, templates_of};
 ghost use Rattle.ng_link.specs.Unlinking.{IsBodyAt, IsHeldAt, body_cut, CutsOut};
@@ -87,7 +87,7 @@ fn held_at(instances: &BTreeMap<Path, Linked>, holder: &Path, p: &Path) -> Optio
 /// A body is taken out of an instance's outlet. The answer is the outlet's anchor.
 fn cut_held(instances: &mut BTreeMap<Path, Linked>, holder: &Path, o: usize, i: usize) -> u64
     ensures instances { (all : List Named) → instances_of all instances.new.entries ≡ outlets_changed holder.now (body_cut o i) (instances_of all instances.old.entries) }
-    ensures spots { (k : KeyOf) → spot_in instances.new.entries k ≡ spot_in instances.old.entries k }
+    ensures spots { (inner : Inners) → (k : KeyOf) → spot_in inner instances.new.entries k ≡ spot_in inner instances.old.entries k }
     ensures anchor { (all : List Named) (x : OutletOf) → option_and_then (λ l. slice_get l.page.outlets o) (linked_at holder.now (instances_of all instances.old.entries)) ≡ Some x → result ≡ x.anchor }
 {
     match instances.get_mut(holder) {
@@ -129,6 +129,32 @@ fn first_below(instances: &BTreeMap<Path, Linked>, p: &Path) -> Result<Option<Pa
             }
         }
     }
+}
+
+/// The paths of inner scopes from one on that begin with it.
+fn first_inner(inner: &BTreeMap<Path, Path>, p: &Path) -> Result<Option<Path>, AllocError>
+    ensures { IfOk result (λ q. q ≡ lookup_key (begins_with p.now) inner.now.entries) }
+{
+    match inner.range((Bound::Included(p), Bound::Unbounded)).next() {
+        None => Ok(None),
+        Some((path, _)) => {
+            if begins(p.as_slice(), path.as_slice()) {
+                Ok(Some(path.copied()?))
+            } else {
+                Ok(None)
+            }
+        }
+    }
+}
+
+/// The inner scopes on a path and below it are taken out.
+fn forget_inner(inner: &mut BTreeMap<Path, Path>, p: &Path) -> Result<(), AllocError>
+    ensures { OnOk result (inner.new.entries ≡ filter (λ e. not (begins_with p.now e.0)) inner.old.entries) }
+{
+    while let Some(path) = first_inner(inner, p)? {
+        let _ = inner.remove(&path);
+    }
+    Ok(())
 }
 
 /// An instance is taken out, and the name of its first node with it.
@@ -175,6 +201,7 @@ impl Works {
         let anchor = cut_held(&mut self.instances, holder, o, i);
         cut_nodes(&mut self.dom, anchor, i)?;
         forget_below(&mut self.instances, &mut self.owners, p)?;
+        forget_inner(&mut self.inner, p)?;
         forget_on(&mut self.resting, p)?;
         forget_on(&mut self.controls, p)?;
         Ok(())

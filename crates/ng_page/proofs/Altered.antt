@@ -49,13 +49,14 @@ alone_there q (z ∷ xs) (suc o) (suc j) x y once at some there other = alone_th
 pub record IsAlike (o j : ℕ) (x y : OutletState) : Type 0 where
   pub serial : y.serial ≡ x.serial
   pub filling : y.filling ≡ x.filling
+  pub scope : y.scope ≡ x.scope
   pub bodies : (j ≡ o → ⊥) → y.bodies ≡ x.bodies
 
 abbrev pub Altered : ℕ → List OutletState → List OutletState → Type 0
 Altered o xs ys = (j : ℕ) (y : OutletState) → slice_get ys j ≡ Some y → (x : OutletState) × (slice_get xs j ≡ Some x) × IsAlike o j x y
 
 pub altered_first : (o : ℕ) (xs : List OutletState) → Altered o xs xs
-altered_first o xs j y at = (y, at, record { serial = refl; filling = refl; bodies = λ other. refl })
+altered_first o xs j y at = (y, at, record { serial = refl; filling = refl; scope = refl; bodies = λ other. refl })
 
 pub altered_on : (o : ℕ) (xs ys zs : List OutletState) → Altered o xs ys → Altered o ys zs → Altered o xs zs
 altered_on o xs ys zs first next j z at =
@@ -66,6 +67,7 @@ altered_on o xs ys zs first next j z at =
       record {
         serial = two.2.serial ∙ one.2.serial;
         filling = two.2.filling ∙ one.2.filling;
+        scope = two.2.scope ∙ one.2.scope;
         bodies = λ other. two.2.bodies other ∙ one.2.bodies other;
       },
     )
@@ -97,24 +99,25 @@ gone_place p [] j x at = absurd (cc)
 gone_place p (y ∷ xs) zero x at = (y, refl, let same : without_body p y ≡ x = cc in sym same)
 gone_place p (y ∷ xs) (suc j) x at = gone_place p xs j x at
 
--- a change that leaves number and filling
+-- a change that leaves number, filling and scope
 changed_alike : (f : OutletState → OutletState) (o : ℕ) (xs : List OutletState) (j : ℕ) (x : OutletState) → ((y : OutletState) → IsAlike o o y (f y)) → ChangedAt f o xs j x → (y : OutletState) × (slice_get xs j ≡ Some y) × IsAlike o j y x
-changed_alike f o xs j x keeps (y, get, inl h) = (y, get, record { serial = ap (λ (z : OutletState). z.serial) h.1; filling = ap (λ (z : OutletState). z.filling) h.1; bodies = λ other. ap (λ (z : OutletState). z.bodies) h.1 })
+changed_alike f o xs j x keeps (y, get, inl h) = (y, get, record { serial = ap (λ (z : OutletState). z.serial) h.1; filling = ap (λ (z : OutletState). z.filling) h.1; scope = ap (λ (z : OutletState). z.scope) h.1; bodies = λ other. ap (λ (z : OutletState). z.bodies) h.1 })
 changed_alike f o xs j x keeps (y, get, inr h) = (
   y,
   get,
   record {
     serial = ap (λ (z : OutletState). z.serial) h.1 ∙ (keeps y).serial;
     filling = ap (λ (z : OutletState). z.filling) h.1 ∙ (keeps y).filling;
+    scope = ap (λ (z : OutletState). z.scope) h.1 ∙ (keeps y).scope;
     bodies = λ other. absurd (other (sym h.0));
   },
 )
 
 pub added_altered : (o i : ℕ) (b : Body) (xs : List OutletState) → Altered o xs (body_added o i b xs)
-added_altered o i b xs j x at = changed_alike (with_body i b) o xs j x (λ y. record { serial = refl; filling = refl; bodies = λ other. absurd (other refl) }) (added_place o i b xs j x at)
+added_altered o i b xs j x at = changed_alike (with_body i b) o xs j x (λ y. record { serial = refl; filling = refl; scope = refl; bodies = λ other. absurd (other refl) }) (added_place o i b xs j x at)
 
 pub arranged_altered : (o : ℕ) (bs : List Body) (xs : List OutletState) → Altered o xs (bodies_arranged o bs xs)
-arranged_altered o bs xs j x at = changed_alike (with_bodies bs) o xs j x (λ y. record { serial = refl; filling = refl; bodies = λ other. absurd (other refl) }) (arranged_place o bs xs j x at)
+arranged_altered o bs xs j x at = changed_alike (with_bodies bs) o xs j x (λ y. record { serial = refl; filling = refl; scope = refl; bodies = λ other. absurd (other refl) }) (arranged_place o bs xs j x at)
 
 -- a body that only one of them has goes
 pub gone_altered : (o : ℕ) (p : List ℕ) (xs : List OutletState) → ((j : ℕ) (x : OutletState) → slice_get xs j ≡ Some x → (j ≡ o → ⊥) → body_count p x.bodies ≡ 0) → Altered o xs (body_gone p xs)
@@ -125,6 +128,7 @@ gone_altered o p xs apart j x at =
       record {
         serial = ap (λ (z : OutletState). z.serial) was.2;
         filling = ap (λ (z : OutletState). z.filling) was.2;
+        scope = ap (λ (z : OutletState). z.scope) was.2;
         bodies = λ other. ap (λ (z : OutletState). z.bodies) was.2 ∙ filter_none p was.0.bodies (apart j was.0 was.1 other);
       },
     )

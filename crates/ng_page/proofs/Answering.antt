@@ -78,7 +78,7 @@ dispatched_some x n p new os s t z d settled h = record {
   step = d;
   displays = works_display new.engine.works h.works;
   settled = settled;
-  renders = when_done (IsSettled (state_of new)) (rendering (state_of new) ≡ shown_as (shown (state_of new))) (last_digest (told_all os)) settled (λ y. settled_renders (state_of new) y h.watched h.fits);
+  renders = when_done (IsSettled (state_of new)) (rendering (state_of new) ≡ shown_as (shown (state_of new))) (last_digest (told_all os)) settled (λ y. settled_renders (state_of new) y h.watched h.works.whole.standing.1.inner h.fits);
   page = λ _. h;
 }
 

@@ -7,7 +7,7 @@ use Rattle.ng_dom.specs.Lists.{put_at}
 use Rattle.ng_drawing.specs.Cases.{Case}
 use Rattle.ng_drawing.specs.Rows.{is_filled}
 use Rattle.ng_drawing.specs.Template.{Filling, Outlet}
-use Rattle.ng_link.specs.Instances.{Body, OutletState, is_path, with_body, body_added, without_body, body_gone}
+use Rattle.ng_link.specs.Instances.{Body, OutletState, is_path, with_body, body_added, body_gone}
 use Rattle.ng_link.specs.Standing.{body_count, held_count}
 use Rattle.ng_link.specs.State.{roles_in}
 use Rattle.ng_page.specs.Settled.{CallsFor, AreOutlets}
@@ -27,7 +27,7 @@ module _ (p : List ℕ) where
   abbrev stays : Body → Bool
   stays b = not (is_path p b.path)
 
-  filter_all : (P : Body → Type 0) (bs : List Body) → AllByRecursion P bs → AllByRecursion P (filter stays bs)
+  pub filter_all : (P : Body → Type 0) (bs : List Body) → AllByRecursion P bs → AllByRecursion P (filter stays bs)
   filter_all P [] all = tt
   filter_all P (b ∷ bs) all = by_test (stays b) (filter_all P bs all.1)
     where
@@ -57,9 +57,6 @@ module _ (p : List ℕ) where
   gone_outlets serials [] (x ∷ xs) h = h
   gone_outlets serials (o ∷ os) [] h = h
   gone_outlets serials (o ∷ os) (x ∷ xs) h = (h.0, gone_outlets serials os xs h.1)
-
-  pub gone_bodies : (P : Body → Type 0) (xs : List OutletState) → AllByRecursion (λ (x : OutletState). AllByRecursion P x.bodies) xs → AllByRecursion (λ (x : OutletState). AllByRecursion P x.bodies) (body_gone p xs)
-  gone_bodies P xs all = all_mapped (λ (x : OutletState). AllByRecursion P x.bodies) (λ (x : OutletState). AllByRecursion P x.bodies) (without_body p) xs (λ x h. filter_all P x.bodies h) all
 
   pub gone_count : (q : List ℕ) (xs : List OutletState) → held_count q (body_gone p xs) ≤ held_count q xs
   gone_count q [] = omega arith

@@ -166,10 +166,11 @@ module _ (n : ℕ) (cases : List Case) (v : ViewTree) where
   abbrev pub AreReady : List Due → List OutletState → Type 0
   AreReady ds xs = (j : ℕ) (x : OutletState) → slice_get xs j ≡ Some x → is_filled_by n x ≡ true → IsReady ds j x
 
-  -- those that are due are the site's, and filled as they say
+  -- those that are due are the site's, filled as they say, and on their scopes
   pub record IsOfDue (d : Due) (x : OutletState) : Type 0 where
     pub site : is_filled_by n x ≡ true
     pub filling : x.filling ≡ d.filling
+    pub scope : x.scope ≡ d.scope
 
   abbrev pub AreOfSite : List Due → List OutletState → Type 0
   AreOfSite ds xs = AllByRecursion (λ (d : Due). (x : OutletState) → slice_get xs d.outlet ≡ Some x → IsOfDue d x) ds
@@ -232,7 +233,7 @@ module _ (n : ℕ) (cases : List Case) (v : ViewTree) where
   of_from i (y ∷ xs) = by_test (is_filled_by n y) refl (all_map (OfSiteFrom (i + 1) xs) (OfSiteFrom i (y ∷ xs)) (due_from n (i + 1) xs) (later_of i y xs) (of_from (i + 1) xs))
     where
       here : is_filled_by n y ≡ true → (j : ℕ) (x : OutletState) → i ≡ i + j → slice_get (y ∷ xs) j ≡ Some x → IsOfDue (due_at i y) x
-      here on zero x e get = let same : y ≡ x = cc in record { site = ap (is_filled_by n) (sym same) ∙ on; filling = ap (λ (z : OutletState). z.filling) (sym same) }
+      here on zero x e get = let same : y ≡ x = cc in record { site = ap (is_filled_by n) (sym same) ∙ on; filling = ap (λ (z : OutletState). z.filling) (sym same); scope = ap (λ (z : OutletState). z.scope) (sym same) }
       here on (suc j) x e get = absurd (omega (arith, e))
 
       by_test : (t : Bool) → is_filled_by n y ≡ t → AllByRecursion (OfSiteFrom i (y ∷ xs)) (due_from n (i + 1) xs) → AllByRecursion (OfSiteFrom i (y ∷ xs)) (cond t (due_at i y ∷ due_from n (i + 1) xs) (due_from n (i + 1) xs))
@@ -257,7 +258,7 @@ module _ (n : ℕ) (cases : List Case) (v : ViewTree) where
       by_old : (d : Due) → OfSiteFrom 0 xs d → (y : OutletState) → (x : OutletState) × (slice_get xs d.outlet ≡ Some x) × IsSpared n v x y → IsOfDue d y
       by_old d h y (x, get, was) =
           let one = h.1 d.outlet x (omega arith) get in
-          record { site = ap (λ (m : ℕ). is_at (nat_cmp n) m) was.serial ∙ one.site; filling = was.filling ∙ one.filling }
+          record { site = ap (λ (m : ℕ). is_at (nat_cmp n) m) was.serial ∙ one.site; filling = was.filling ∙ one.filling; scope = was.scope ∙ one.scope }
 
   -- ---- one after another
 
@@ -369,7 +370,7 @@ module _ (n : ℕ) (cases : List Case) (v : ViewTree) where
   of_next o ds xs ys altered all = all_map (λ (d : Due). (x : OutletState) → slice_get xs d.outlet ≡ Some x → IsOfDue d x) (λ (d : Due). (y : OutletState) → slice_get ys d.outlet ≡ Some y → IsOfDue d y) ds (λ d h y at. by_old d h y (altered d.outlet y at)) all
     where
       by_old : (d : Due) → ((x : OutletState) → slice_get xs d.outlet ≡ Some x → IsOfDue d x) → (y : OutletState) → (x : OutletState) × (slice_get xs d.outlet ≡ Some x) × IsAlike o d.outlet x y → IsOfDue d y
-      by_old d h y (x, get, like) = record { site = ap (λ (m : ℕ). is_at (nat_cmp n) m) like.serial ∙ (h x get).site; filling = like.filling ∙ (h x get).filling }
+      by_old d h y (x, get, like) = record { site = ap (λ (m : ℕ). is_at (nat_cmp n) m) like.serial ∙ (h x get).site; filling = like.filling ∙ (h x get).filling; scope = like.scope ∙ (h x get).scope }
 
   -- once none is due, all have what is called for
   any_roles : (bs : List Body) → has_roles (roles_in bs) ≡ has_bodies bs

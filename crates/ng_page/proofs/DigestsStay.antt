@@ -7,7 +7,7 @@ use Rattle.ng_base.specs.declared.path.Key.{Key}
 use Rattle.ng_digest.specs.declared.rounds.DigestFault.{DigestFault}
 use Rattle.ng_digest.specs.Plain.{Plain, PlainDigests}
 use Rattle.ng_fire.specs.SiteFires.{site_fired}
-use Rattle.ng_fire.specs.Fires.{fired as fires, fire_of_site, fire_run, fired_by as fired_run}
+use Rattle.ng_fire.specs.Fires.{fired as fires, fire_of_site, fire_run, fired_by as fired_run, value_at}
 use Rattle.ng_fire.specs.Runs.{ran}
 use Rattle.ng_fire.specs.Settling as settling
 use Rattle.ng_fire.specs.Settling.{unset_all}
@@ -15,12 +15,12 @@ use Rattle.ng_link.specs.Calls.{with_core, keeping_at, is_drawn, unset_at}
 use Rattle.ng_link.specs.Instances.{Instances, is_site}
 use Rattle.ng_link.specs.State as link
 use Rattle.ng_link.specs.Untroubled.{untroubled}
-use Rattle.ng_watch.specs.Table.{with_kept}
+use Rattle.ng_watch.specs.Table.{with_kept, kept_at}
 use Rattle.ng_page.specs.PageLaws.{by_test, unset_core}
 use Rattle.ng_page.specs.PageMachine.{State, is_told, told_at, handed_on_at, with_faulted, fired_to, fired_by, fired, settled, failed, page_machine, readied}
 use Rattle.ng_page.specs.Settled.{IsWatched, Fits}
 use Rattle.ng_act.proofs.Programs.{some_first}
-use Rattle.ng_page.proofs.EventsStay.{part, Stays, stays_refl, stays_trans, fault_stays}
+use Rattle.ng_page.proofs.EventsStay.{part, Less, less_refl, less_trans, less_of, fault_stays}
 use Rattle.ng_page.proofs.FiresFit.{fires_fit}
 use Rattle.ng_page.proofs.FiresTold.{FireTold, fires_told}
 use Rattle.ng_page.proofs.Fitting.{fits_stays, fits_fewer, fits_unset_all}
@@ -57,7 +57,7 @@ unset_watched (k ∷ ks) s h = unset_watched ks (unset_at k s) (either_watched (
 
 -- at its end all have them, or keep nothing
 given_up_fitting : (ks : List Key) (s : link.State) → AreFitting ks s → AreFitting [] (settling.given_up ks s)
-given_up_fitting ks s h = record { watched = unset_watched ks s h.watched; fits = fits_unset_all ks s h.fits }
+given_up_fitting ks s h = record { watched = unset_watched ks s h.watched; fits = fits_unset_all ks s h.watched.apart h.fits }
 
 settled_fitting : (ks : List Key) (s : link.State) → AreFitting ks s → AreFitting [] (settling.settled ks s).0
 settled_fitting ks s h = fitting_stays [] (unset_all ks s) (settling.settled ks s).0 (finished_sites (unset_all ks s)) (given_up_fitting ks s h)
@@ -79,7 +79,7 @@ fitting_each = record {
 
 -- a digest begins without a fault
 pub untroubled_fitting : (s : link.State) → AreFitting [] s → AreFitting [] (with_core (untroubled s.core) s)
-untroubled_fitting s h = record { watched = watched_core s (untroubled s.core) (scopes_refl s.core.scopes) (omega arith) h.watched; fits = h.fits }
+untroubled_fitting s h = record { watched = watched_core s (untroubled s.core) (scopes_refl s.core.scopes) (omega arith) (λ g. g) h.watched; fits = h.fits }
 
 pub digest_fitting : (s : link.State) (r : Result (ℕ × ℕ) DigestFault) (p : Plain State) → PlainDigests page_machine (readied s) r p → AreFitting [] (with_core (untroubled s.core) s) → AreFitting [] p.state.works
 digest_fitting s r p d h =
@@ -100,7 +100,7 @@ pub record AreTold (s : State) : Type 0 where
   pub tests : (k : Key) → is_told s.told k ≡ true → HasHandedOver s
   pub fires : has_any s.faulted ≡ true → HasHandedOver s
 
-told_stays_with : (s t : State) → t.told ≡ s.told → t.faulted ≡ s.faulted → Stays (part s.works.core) (part t.works.core) → AreTold s → AreTold t
+told_stays_with : (s t : State) → t.told ≡ s.told → t.faulted ≡ s.faulted → Less (part s.works.core) (part t.works.core) → AreTold s → AreTold t
 told_stays_with s t e f h a = record {
   tests = λ k i. h.some (a.tests k (ap (λ ts. is_told ts k) (sym e) ∙ i));
   fires = λ i. h.some (a.fires (sym (ap has_any f) ∙ i));
@@ -117,26 +117,27 @@ told_fired s k r h a = record {
     by_fault false e i = h.stays.some (a.fires i)
 
 -- what keeps nothing any more leaves the core
-unset_stays : (ks : List Key) (s : link.State) → Stays (part s.core) (part (unset_all ks s).core)
-unset_stays ks s = subst (λ (c : act.State). Stays (part s.core) (part c)) (sym (unset_core ks s)) (stays_refl (part s.core))
+unset_stays : (ks : List Key) (s : link.State) → Less (part s.core) (part (unset_all ks s).core)
+unset_stays ks s = subst (λ (c : act.State). Less (part s.core) (part c)) (sym (unset_core ks s)) (less_refl (part s.core))
 
 -- a digest keeps what no program takes back
-stays_each : (c : act.State) → KeepsEach page_machine (λ u. Stays (part c) (part u.works.core))
+stays_each : (c : act.State) → KeepsEach page_machine (λ u. Less (part c) (part u.works.core))
 stays_each c = record {
-  tests = λ t k h. by_test (λ u. Stays (part c) (part u.works.core)) t k h (λ f. stays_trans (part c) (part t.works.core) (part (act.with_fault f t.works.core)) h (fault_stays f (part t.works.core)));
-  fires = λ t k h. by_fire (λ u. Stays (part c) (part u.works.core)) t k h (λ v. stays_trans (part c) (part t.works.core) (part (fires k v t.works).0.core) h (fires_told k v t.works).stays);
-  runs = λ t h. stays_trans (part c) (part t.works.core) (part (ran t.works).core) h (ran_sites t.works).core;
-  settles = λ t h. stays_trans (part c) (part t.works.core) (part (settled t).works.core) h (unset_stays t.faulted t.works);
-  fails = λ t h. stays_trans (part c) (part t.works.core) (part (failed t).works.core) h (unset_stays t.faulted t.works);
+  tests = λ t k h. by_test (λ u. Less (part c) (part u.works.core)) t k h
+      (λ f. less_trans (part c) (part t.works.core) (part (act.with_fault f t.works.core)) h (less_of (part t.works.core) (part (act.with_fault f t.works.core)) (fault_stays f (part t.works.core))));
+  fires = λ t k h. by_fire (λ u. Less (part c) (part u.works.core)) t k h (λ v. less_trans (part c) (part t.works.core) (part (fires k v t.works).0.core) h (fires_told k v t.works).stays);
+  runs = λ t h. less_trans (part c) (part t.works.core) (part (ran t.works).core) h (less_of (part t.works.core) (part (ran t.works).core) (ran_sites t.works).core);
+  settles = λ t h. less_trans (part c) (part t.works.core) (part (settled t).works.core) h (unset_stays t.faulted t.works);
+  fails = λ t h. less_trans (part c) (part t.works.core) (part (failed t).works.core) h (unset_stays t.faulted t.works);
 }
 
-pub digest_stays : (s : link.State) (r : Result (ℕ × ℕ) DigestFault) (p : Plain State) → PlainDigests page_machine (readied s) r p → Stays (part (untroubled s.core)) (part p.state.works.core)
-digest_stays s r p d = digest_keeps page_machine (λ u. Stays (part (untroubled s.core)) (part u.works.core)) (stays_each (untroubled s.core)) d (stays_refl (part (untroubled s.core)))
+pub digest_stays : (s : link.State) (r : Result (ℕ × ℕ) DigestFault) (p : Plain State) → PlainDigests page_machine (readied s) r p → Less (part (untroubled s.core)) (part p.state.works.core)
+digest_stays s r p d = digest_keeps page_machine (λ u. Less (part (untroubled s.core)) (part u.works.core)) (stays_each (untroubled s.core)) d (less_refl (part (untroubled s.core)))
 
 -- where nothing is linked, a digest links nothing
 bare_fires : (k : Key) (v : ViewTree) (s : link.State) → s.instances ≡ [] → (fires k v s).0.instances ≡ []
 bare_fires k v s none =
-    ap (λ (b : Bool). (cond b (fire_of_site (site_fired k v (keeping_at k v s))) (fired_run (fire_run k s) (keeping_at k v s))).0.instances) (ap (λ (is : Instances). is_site is k) none)
+    ap (λ (b : Bool). (cond b (fire_of_site (site_fired k v (value_at s k) (kept_at k s.watchers) (keeping_at k v s))) (fired_run (fire_run k s) (keeping_at k v s))).0.instances) (ap (λ (is : Instances). is_site s.inner is k) none)
     ∙ ((run_sites k s (keeping_at k v s) refl).instances ∙ none)
 
 unset_one : (b : Bool) (s t : link.State) → t.instances ≡ s.instances → (cond b s t).instances ≡ s.instances
@@ -163,7 +164,7 @@ told_each : KeepsEach page_machine AreTold
 told_each = record {
   tests = λ t k h. by_test AreTold t k h (λ f. record { tests = λ j i. some_first t.works.core.handed.first f; fires = λ i. some_first t.works.core.handed.first f });
   fires = λ t k h. by_fire AreTold t k h (λ v. told_fired t k (fires k v t.works) (fires_told k v t.works) h);
-  runs = λ t h. told_stays_with t (record t { works = ran t.works }) refl refl (ran_sites t.works).core h;
+  runs = λ t h. told_stays_with t (record t { works = ran t.works }) refl refl (less_of (part t.works.core) (part (ran t.works).core) (ran_sites t.works).core) h;
   settles = λ t h. told_stays_with t (settled t) refl refl (unset_stays t.faulted t.works) h;
   fails = λ t h. told_stays_with t (failed t) refl refl (unset_stays t.faulted t.works) h;
 }

@@ -19,7 +19,7 @@ use Rattle.ng_page.proofs.Wholes.{works_display}
 
 -- a page that is settled shows its rendering
 pub page_renders : (s : link.State) (o : Outcome) (p : Page) → s ≡ state_of p → PageIs p.engine.works → WhenOk o.digest (IsSettled (state_of p)) → WhenOk o.digest (rendering (state_of p) ≡ shown_as (shown (state_of p)))
-page_renders s o p e h settled = when_done (IsSettled (state_of p)) (rendering (state_of p) ≡ shown_as (shown (state_of p))) o.digest settled (λ x. settled_renders (state_of p) x h.watched h.fits)
+page_renders s o p e h settled = when_done (IsSettled (state_of p)) (rendering (state_of p) ≡ shown_as (shown (state_of p))) o.digest settled (λ x. settled_renders (state_of p) x h.watched h.works.whole.standing.1.inner h.fits)
 
 pub ended_well : (s : link.State) (o : Outcome) (new : Page) → new.spent ≡ false → Ends s (outcome_of o) (state_of new) → EndsShort s o.digest (state_of new) → WhenOk o.digest (IsSettled (state_of new)) → PageIs new.engine.works
     → Ended (Ok tt) s (Ok o) new

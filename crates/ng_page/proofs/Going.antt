@@ -189,13 +189,14 @@ module _ (n : ℕ) (v : ViewTree) where
   pub record IsSpared (x y : OutletState) : Type 0 where
     pub serial : y.serial ≡ x.serial
     pub filling : y.filling ≡ x.filling
+    pub scope : y.scope ≡ x.scope
     pub bodies : leaves x ≡ false → y.bodies ≡ x.bodies
 
   abbrev pub AreSpared : List OutletState → List OutletState → Type 0
   AreSpared xs ys = (j : ℕ) (y : OutletState) → slice_get ys j ≡ Some y → (x : OutletState) × (slice_get xs j ≡ Some x) × IsSpared x y
 
   pub spared_first : (xs : List OutletState) → AreSpared xs xs
-  spared_first xs j y at = (y, at, record { serial = refl; filling = refl; bodies = λ off. refl })
+  spared_first xs j y at = (y, at, record { serial = refl; filling = refl; scope = refl; bodies = λ off. refl })
 
   same_leaves : (x y : OutletState) → y.serial ≡ x.serial → y.filling ≡ x.filling → leaves y ≡ leaves x
   same_leaves x y serial filling = ap (λ (m : ℕ). is_at (nat_cmp n) m && goes y.filling v) serial ∙ ap (λ (f : Filling). is_at (nat_cmp n) x.serial && goes f v) filling
@@ -217,6 +218,7 @@ module _ (n : ℕ) (v : ViewTree) where
             record {
               serial = ap (λ (o : OutletState). o.serial) same ∙ was.2.serial;
               filling = ap (λ (o : OutletState). o.filling) same ∙ was.2.filling;
+              scope = ap (λ (o : OutletState). o.scope) same ∙ was.2.scope;
               bodies = λ off. ap (λ (o : OutletState). o.bodies) same ∙ (filter_none b.path y.bodies (g.apart (same_leaves was.0 y was.2.serial was.2.filling ∙ off)).0 ∙ was.2.bodies off);
             },
           )

@@ -1,6 +1,5 @@
 -- What no step of a page takes back: its templates, and the numbers of registration that were given.
 use Rattle.std.proofs.Common.{◌≡◌, ◌≤◌, ◌-◌, ◌∙◌, ℕ, Bool, true, false, cond, List, [], ◌∷◌, Option, Some, None, Result, Ok, Err, refl, sym, subst, arith}
-use Rattle.std.specs.List.{AllByRecursion}
 use Rattle.ng_core.specs.State as act
 use Rattle.ng_core.specs.State.{Run}
 use Rattle.ng_base.specs.Views.{ViewTree}
@@ -15,12 +14,11 @@ use Rattle.ng_drawing.specs.Nodes.{node_limit}
 use Rattle.ng_drawing.specs.Origins.{is_too_deep}
 use Rattle.ng_drawing.specs.Template.{Fragment}
 use Rattle.ng_drawing.specs.declared.origin.Origin.{Origin}
-use Rattle.ng_fire.proofs.Numbered.{linking_numbered}
 use Rattle.ng_fire.proofs.RepeatWalks.{outlets_keep}
 use Rattle.ng_fire.specs.Blocks.{Firing, begins_firing, ended, gone, all_gone, child_run, linked_then, told_on, body_made, filled, goes, outlet_emptied, outlets_emptied, cases_due, body_linked}
-use Rattle.ng_fire.specs.SiteFires.{outlets_filled, outlets_fired, site_fired}
-use Rattle.ng_fire.specs.Fires.{fired as fires}
-use Rattle.ng_fire.specs.Links.{Linking, begins_linking, steps_linked, link_by, link_at}
+use Rattle.ng_fire.specs.SiteFires.{outlets_filled, outlets_fired, site_fired_by, site_fired}
+use Rattle.ng_fire.specs.Fires.{fired as fires, value_at}
+use Rattle.ng_fire.specs.Links.{Linking, begins_linking, steps_linked, first_of, ended_link, link_at}
 use Rattle.ng_fire.specs.Runs.{followed, destroy_run}
 use Rattle.ng_fire.specs.Settling.{unset_all}
 use Rattle.ng_language.specs.Trees.{Trees}
@@ -28,13 +26,13 @@ use Rattle.ng_link.specs.Calls.{with_core, keeping_at, is_drawn, unset_at, left_
 use Rattle.ng_link.specs.Due.{Due, all_due}
 use Rattle.ng_link.specs.Controls.{ControlHere}
 use Rattle.ng_link.specs.Events.{control_at, handlers_at, scope_of, scope_in}
-use Rattle.ng_link.specs.Instances.{Body, Linked, linked_at, is_site}
-use Rattle.ng_link.specs.Linking.{steps, steps_within}
-use Rattle.ng_link.specs.Shape.{linked}
+use Rattle.ng_link.specs.Instances.{Body, linked_at, linked_for, instance_path, bound_for, is_site}
+use Rattle.ng_link.specs.Linking.{steps, steps_within, fault_in}
+use Rattle.ng_link.specs.Bindings.{Bound}
 use Rattle.ng_link.specs.State.{State, live_nodes}
-use Rattle.ng_template.specs.Kept.{Named, fragments_in}
+use Rattle.ng_compose.specs.Kept.{Named, fragments_in}
 use Rattle.ng_members.specs.Leaves.{Local}
-use Rattle.ng_watch.specs.Table.{with_kept}
+use Rattle.ng_watch.specs.Table.{with_kept, kept_at}
 use Rattle.ng_page.specs.Answered.{DigestsWhere}
 use Rattle.ng_page.specs.Commands.{Asked, begun, asked_run}
 use Rattle.ng_page.specs.Dispatch.{Happening, Event, unmade, awaited, made, refused, Going, Told, way, ready, handling_run, rested, handled, has_turn, touch_run, touched, has_touch, is_stopped, MayTakeTurn, Handles, MayTouch, HandlesAt, Unless, before, Bubbles, Dispatches}
@@ -44,9 +42,10 @@ use Rattle.ng_page.specs.PageMachine as machine
 use Rattle.ng_page.specs.PageMachine.{page_machine, readied}
 use Rattle.ng_page.specs.Steps.{Outcome, Ends, Steps}
 use Rattle.ng_page.proofs.DigestsStay.{by_fire, digest_stays}
-use Rattle.ng_page.proofs.FiresTold.{steps_sites, rested_sites, discarded_sites}
+use Rattle.ng_page.proofs.FiresTold.{bound_set}
+use Rattle.ng_page.proofs.LinksStay.{steps_templates, all_rested_sites, given_up_sites, discarded_sites}
 use Rattle.ng_page.proofs.Keeps.{KeepsEach, digest_keeps}
-use Rattle.ng_page.proofs.Registered.{steps_above}
+use Rattle.ng_page.proofs.Registered.{steps_new}
 use Rattle.ng_page.proofs.Sites.{SitesStay, sites_cond, left_sites}
 use Rattle.ng_page.proofs.StepsStay.{asked_sites, destroyed_stays, finished_sites, followed_sites, ran_sites, run_sites}
 use Rattle.ng_page.proofs.Turns.{handling_sites}
@@ -68,57 +67,68 @@ all_gone_has : (ts : List Named) (holder : List ℕ) (bs : List Body) (g : Firin
 all_gone_has ts holder [] g h = h
 all_gone_has ts holder (b ∷ bs) g h = all_gone_has ts holder bs (gone holder b g) (gone_has ts holder b g h)
 
-by_room : (place : Place) (which : Origin) (scope : ℕ) (f : Fragment) (r : Result (Unit {0}) Fault) (s : State) → (link_by place which scope f r s).state.templates ≡ s.templates
-by_room place which scope f (Ok u) s =
-    let g : Linking = steps_linked scope (steps f.parts) (begins_linking s) in
-    (rested_sites scope (placed_on place which scope f g.serials g.state)).templates ∙ (steps_sites scope (steps f.parts) (begins_linking s)).templates
-by_room place which scope f (Err e) s = (steps_sites scope (steps_within (node_limit - live_nodes s) (steps f.parts)) (begins_linking s)).templates
+link_templates : (place : Place) (which : Origin) (scope : ℕ) (outsides : List ℕ) (f : Fragment) (s : State) → (link_at place which scope outsides f s).state.templates ≡ s.templates
+link_templates place which scope outsides f s = by_end (first_of g.fault (fault_in room (steps f.parts)))
+  where
+    room : ℕ
+    room = node_limit - live_nodes s
 
-link_templates : (place : Place) (which : Origin) (scope : ℕ) (f : Fragment) (s : State) → (link_at place which scope f s).state.templates ≡ s.templates
-link_templates place which scope f s = by_room place which scope f (linked (live_nodes s) f.parts) s
+    g : Linking
+    g = steps_linked f (steps_within room (steps f.parts)) (begins_linking scope outsides s)
 
-linked_has : (ts : List Named) (scope : ℕ) (r : Result (Unit {0}) Fault) (l : Linking) (g : Firing) → l.state.templates ≡ ts → Has ts (linked_then scope r l g)
-linked_has ts scope (Ok u) l g h = h
-linked_has ts scope (Err e) l g h = (discarded_sites scope l.state).templates ∙ h
+    begun : g.state.templates ≡ s.templates
+    begun = steps_templates f (steps_within room (steps f.parts)) (begins_linking scope outsides s)
+
+    by_end : (e : Option Fault) → (ended_link place which scope f e g).state.templates ≡ s.templates
+    by_end None = (all_rested_sites g.made.at_hand.scopes (placed_on place which scope f g.made g.state)).templates ∙ begun
+    by_end (Some e) = (given_up_sites e g).templates ∙ begun
+
+linked_has : (ts : List Named) (scope : ℕ) (o : Option Fault) (l : Linking) (g : Firing) → l.state.templates ≡ ts → Has ts (linked_then scope o l g)
+linked_has ts scope None l g h = h
+linked_has ts scope (Some e) l g h = (discarded_sites scope l.state).templates ∙ h
 
 either_has : (ts : List Named) (b : Bool) (g h : Firing) → Has ts g → Has ts h → Has ts (cond b g h)
 either_has ts true g h one two = one
 either_has ts false g h one two = two
 
-made_has : (ts : List Named) (place : Place) (names : List Local) (which : Origin) (f : Fragment) (c : act.State) (r : Result ℕ Fault) (g : Firing) → Has ts g → Has ts (body_made place names which f c r g)
-made_has ts place names which f c (Err e) g h = h
-made_has ts place names which f c (Ok child) g h =
+made_has : (ts : List Named) (place : Place) (outsides : List ℕ) (names : List Local) (which : Origin) (f : Fragment) (c : act.State) (r : Result ℕ Fault) (g : Firing) → Has ts g → Has ts (body_made place outsides names which f c r g)
+made_has ts place outsides names which f c (Err e) g h = h
+made_has ts place outsides names which f c (Ok child) g h =
     let s : State = with_core (told_on child names c) g.state in
-    either_has ts (is_too_deep which) (linked_then child (Err Depth) (begins_linking s) g) (body_linked place which f child s g) (linked_has ts child (Err Depth) (begins_linking s) g h)
-    (linked_has ts child (linked (live_nodes s) f.parts) (link_at place which child f s) g (link_templates place which child f s ∙ h))
+    let l : Linking = link_at place which child outsides f s in
+    either_has ts (is_too_deep which) (linked_then child (Some Depth) (begins_linking child outsides s) g) (body_linked place which f child outsides s g) (linked_has ts child (Some Depth) (begins_linking child outsides s) g h)
+    (linked_has ts child l.fault l g (link_templates place which child outsides f s ∙ h))
 
-filled_has : (ts : List Named) (place : Place) (scope : ℕ) (names : List Local) (which : Origin) (g : Firing) → Has ts g → Has ts (filled place scope names which g)
-filled_has ts place scope names which g h =
+filled_has : (ts : List Named) (place : Place) (scope : ℕ) (outsides : List ℕ) (names : List Local) (which : Origin) (g : Firing) → Has ts g → Has ts (filled place scope outsides names which g)
+filled_has ts place scope outsides names which g h =
     let r : Run ℕ = child_run scope g.state.core in
-    made_has ts place names which (fragments_in g.state.templates which) r.0 r.1 g h
+    made_has ts place outsides names which (fragments_in g.state.templates which) r.0 r.1 g h
 
 emptied_has : (ts : List Named) (holder : List ℕ) (v : ViewTree) (ds : List Due) (g : Firing) → Has ts g → Has ts (outlets_emptied holder v ds g)
 emptied_has ts holder v [] g h = h
 emptied_has ts holder v (d ∷ ds) g h =
     emptied_has ts holder v ds (outlet_emptied holder v d g) (either_has ts (goes d.filling v) (all_gone holder d.bodies g) g (all_gone_has ts holder d.bodies g h) h)
 
-come_has : (ts : List Named) (holder : List ℕ) (scope : ℕ) (cases : List Case) (v : ViewTree) (ds : List Due) (g : Firing) → Has ts g → Has ts (outlets_filled holder scope cases v ds g)
+come_has : (ts : List Named) (holder : List ℕ) (cases : List Case) (v : ViewTree) (ds : List Due) (g : Firing) → Has ts g → Has ts (outlets_filled holder cases v ds g)
 come_has ts = outlets_keep (Has ts) (λ _ _ _ h. h) (λ _ _ h. h) (λ _ _ h. h) (ended_has ts) (λ _ _ _ h. h) (λ _ _ _ _ h. h) (filled_has ts)
 
-outlets_has : (ts : List Named) (holder : List ℕ) (scope : ℕ) (v : ViewTree) (ds : List Due) (g : Firing) → Has ts g → Has ts (outlets_fired holder scope v ds g)
-outlets_has ts holder scope v ds g h = come_has ts holder scope (cases_due ds) v ds (outlets_emptied holder v ds g) (emptied_has ts holder v ds g h)
+outlets_has : (ts : List Named) (holder : List ℕ) (v : ViewTree) (ds : List Due) (g : Firing) → Has ts g → Has ts (outlets_fired holder v ds g)
+outlets_has ts holder v ds g h = come_has ts holder (cases_due ds) v ds (outlets_emptied holder v ds g) (emptied_has ts holder v ds g h)
 
-site_templates : (k : Key) (v : ViewTree) (s : State) → (site_fired k v s).state.templates ≡ s.templates
-site_templates k v s =
-    let l : Option Linked = linked_at k.path s.instances in
-    outlets_has s.templates k.path (scope_in l) v (all_due k.serial.0 l) (begins_firing s) refl
+site_templates : (k : Key) (v : ViewTree) (value former : Option ViewTree) (s : State) → (site_fired k v value former s).state.templates ≡ s.templates
+site_templates k v value former s = by_bound (bound_for s.inner s.instances k) value
+  where
+    by_bound : (b : Option Bound) (value : Option ViewTree) → (site_fired_by b k v value former s).state.templates ≡ s.templates
+    by_bound None value = outlets_has s.templates (instance_path s.inner k.path) v (all_due k (linked_for s.inner k.path s.instances)) (begins_firing s) refl
+    by_bound (Some b) None = refl
+    by_bound (Some b) (Some w) = (bound_set b k.path w former (begins_firing s)).sites.templates
 
 one_of : (ts : List Named) (b : Bool) (p q : State × Bool) → p.0.templates ≡ ts → q.0.templates ≡ ts → (let r : State × Bool = cond b p q in r.0.templates ≡ ts)
 one_of ts true p q h k = h
 one_of ts false p q h k = k
 
 fires_templates : (k : Key) (v : ViewTree) (s : State) → (fires k v s).0.templates ≡ s.templates
-fires_templates k v s = one_of s.templates (is_site s.instances k) _ _ (site_templates k v (keeping_at k v s)) (run_sites k s (keeping_at k v s) refl).templates
+fires_templates k v s = one_of s.templates (is_site s.inner s.instances k) _ _ (site_templates k v (value_at s k) (kept_at k s.watchers) (keeping_at k v s)) (run_sites k s (keeping_at k v s) refl).templates
 
 -- ---- a digest
 
@@ -237,11 +247,5 @@ steps_last = (command_lasts, event_lasts)
 
 -- ---- numbers that a linking gives
 
-both : (P Q : ℕ → Type 0) (ns : List ℕ) → AllByRecursion P ns → AllByRecursion Q ns → AllByRecursion (λ n. P n × Q n) ns
-both P Q [] h g = tt
-both P Q (n ∷ ns) h g = ((h.0, g.0), both P Q ns h.1 g.1)
-
 pub linked_anew : LinkedSitesGetNewNumbers
-linked_anew scope xs s =
-    let h = linking_numbered scope xs s in
-    (h.rising, both _ _ _ (steps_above s.core.serial scope xs s (omega arith)) h.below)
+linked_anew = steps_new

@@ -14,7 +14,10 @@ pub mod KeptRows
 pub mod TrackedKeys
 pub mod RowsFit
 pub mod Unlinking
+pub mod NewRows
+pub mod Plain
 pub mod Placing
+pub mod LinksStay
 pub mod FiresTold
 pub mod Going
 pub mod Coming
@@ -27,6 +30,7 @@ pub mod SettledLaws
 pub mod Digested
 pub mod Rendering
 pub mod Rendered
+pub mod Agreeing
 pub mod Opened
 pub mod Stages
 pub mod Ahead

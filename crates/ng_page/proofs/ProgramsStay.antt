@@ -30,7 +30,7 @@ kept = record {
   same = λ s. record { stays = stays_refl (part s); count = refl };
   on = λ s t u a b. record { stays = stays_trans (part s) (part t) (part u) a.stays b.stays; count = b.count ∙ a.count };
   count = λ s t a. a.count;
-  others = λ s t o n f es eh. record { stays = record { some = f; scopes = rw es (scopes_refl s.scopes); serial = n; grown = o }; count = ap (λ (x : List Scope). length x) es };
+  others = λ s t o n f es eh. record { stays = record { some = f; scopes = rw es (scopes_refl s.scopes); serial = n; grown = o; tree = rw es (λ g. g) }; count = ap (λ (x : List Scope). length x) es };
   off = λ s id. record { stays = stays_refl (part s); count = refl };
   listened = λ scope name p s live. record { stays = stays_refl (part s); count = refl };
   buried = λ sc s l. record { stays = buried_stay sc s; count = ap (λ (x : List Scope). length x) (buried_scopes sc s) ∙ dead-length (path_at s.scopes sc) s.scopes };

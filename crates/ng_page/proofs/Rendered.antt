@@ -1,6 +1,9 @@
 -- The rendering of a page is that of its instance, over scopes and objects that are there.
 use Rattle.std.proofs.Common.{◌≡◌, ◌<◌, ℕ, zero, suc, Bool, true, false, List, [], ◌∷◌, map, length, cond, Option, Some, None, refl, ap, sym, subst, slice_get}
-use Rattle.std.specs.Prelude.{option_map, option_and_then}
+use Rattle.std.specs.Prelude.{option_map, option_and_then, unwrap_or}
+use Rattle.std.specs.BTreeMap.{is_at}
+use Rattle.std.specs.Map.{lookup}
+use Rattle.std.specs.Ordering.{nat_cmp}
 use Rattle.std.specs.List.{AllByRecursion}
 use Rattle.ng_base.specs.Objects.{Object}
 use Rattle.ng_behaviour.specs.ScopeObjects.{AreAmong}
@@ -9,30 +12,38 @@ use Rattle.ng_drawing.specs.Drawing.{shown_as}
 use Rattle.ng_drawing.specs.Instance as instances
 use Rattle.ng_drawing.specs.Instance.{Instance, SiteState, instances_from, outlets_from}
 use Rattle.ng_link.specs.Controls.{Controls}
-use Rattle.ng_link.specs.Events.{scope_in, scope_of}
-use Rattle.ng_link.specs.Instances.{Body, OutletState, Page, Linked, Instances, is_path, linked_at, read_bodies, read, owner_of}
-use Rattle.ng_link.specs.Shape.{key_on}
+use Rattle.ng_link.specs.Events.{element_scope, scope_of}
+use Rattle.ng_link.specs.Instances.{Body, OutletState, Page, Linked, Instances, is_path, linked_at, key_in, scope_number, read_bodies, read, owner_of}
+use Rattle.ng_link.specs.Registering.{mark_in}
 use Rattle.ng_link.specs.State.{Resting, State, site_state, site_states, groups_in, instance_join, nothing_linked, instance_at, instance, rendering}
 use Rattle.ng_markup.specs.Forest.{no_nodes}
 use Rattle.ng_render.specs.OverOf.{NamesStand, InstanceStands, InstancesStand, OutletsStand}
 use Rattle.ng_watch.specs.Table.{Table}
-use Rattle.ng_page.specs.Settled.{IsWatched}
+use Rattle.ng_page.specs.Settled.{IsInner, IsWatched}
 use Rattle.ng_page.proofs.Rendering.{all_entries}
+use Rattle.ng_page.proofs.Watched.{scope_within}
 
--- the sites of an instance have its scope
-site_scope : (t : Table) (r : Resting) (cs : Controls) (scope : ℕ) (path ns : List ℕ) (i : ℕ) (s : SiteState) → slice_get (map (λ n. site_state t r cs scope (key_on path n)) ns) i ≡ Some s → s.scope ≡ scope
-site_scope t r cs scope path [] i s e = absurd (cc)
-site_scope t r cs scope path (n ∷ ns) zero s e = let one : site_state t r cs scope (key_on path n) ≡ s = cc in ap (λ v. v.scope) (sym one)
-site_scope t r cs scope path (n ∷ ns) (suc i) s e = site_scope t r cs scope path ns i s e
+-- what is found of a list's answers is one of them
+mapped_at : (f : ℕ → SiteState) (ns : List ℕ) (i : ℕ) (s : SiteState) → slice_get (map f ns) i ≡ Some s → (n : ℕ) × (f n ≡ s)
+mapped_at f [] i s e = absurd (cc)
+mapped_at f (n ∷ ns) zero s e = (n, let one : f n ≡ s = cc in one)
+mapped_at f (n ∷ ns) (suc i) s e = mapped_at f ns i s e
 
 module _ (objects : List Object) (scopes : List Scope) (among : AreAmong (length objects) scopes) (t : Table) (r : Resting) (cs : Controls) where
-  states_stand : (p : Page) → p.scope < length scopes → NamesStand objects scopes (site_states t r cs p)
+  -- the scopes of an instance are there
+  abbrev HasScopes : Page → Type 0
+  HasScopes p = (p.scope < length scopes) × AllByRecursion (IsInner scopes) p.inner
+
+  states_stand : (p : Page) → HasScopes p → NamesStand objects scopes (site_states t r cs p)
   states_stand p there = record {
     state = λ n s e.
-        let same : s.scope ≡ p.scope = site_scope t r cs p.scope p.path p.serials n s e in
+        let one = mapped_at (λ (k : ℕ). site_state t r cs (scope_number p (mark_in p.marks k).over) (key_in p k)) p.serials n s e in
+        let scope : ℕ = scope_number p (mark_in p.marks one.0).over in
+        let same : s.scope ≡ scope = ap (λ (v : SiteState). v.scope) (sym one.1) in
+        let low : scope < length scopes = scope_within scopes p (mark_in p.marks one.0).over there.0 there.1 in
         record {
-          scope = subst (λ k. k < length scopes) (sym same) there;
-          object = subst (λ k. object_at scopes k < length objects) (sym same) (among.below p.scope there);
+          scope = subst (λ k. k < length scopes) (sym same) low;
+          object = subst (λ k. object_at scopes k < length objects) (sym same) (among.below scope low);
         };
   }
 
@@ -48,7 +59,7 @@ module _ (objects : List Object) (scopes : List Scope) (among : AreAmong (length
   outlets_stand is (x ∷ xs) each = (bodies_stand is x.bodies each, outlets_stand is xs each)
 
   -- what is read off stands
-  read_stands : (is : Instances) → AllByRecursion (λ (e : List ℕ × Linked). e.1.page.scope < length scopes) is → (p : List ℕ) → InstanceStands objects scopes (go_in is p)
+  read_stands : (is : Instances) → AllByRecursion (λ (e : List ℕ × Linked). HasScopes e.1.page) is → (p : List ℕ) → InstanceStands objects scopes (go_in is p)
   read_stands [] all p = (record { state = λ n s e. absurd (cc) }, tt)
   read_stands (e ∷ is) all p = by_path (is_path p e.0) (states_stand e.1.page all.0, outlets_stand is e.1.page.outlets (read_stands is all.1)) (read_stands is all.1 p)
     where
@@ -66,7 +77,7 @@ pub names_stand : (s : State) (i : Instance) → AreAmong (length s.core.objects
 names_stand s i among h e =
     subst (InstanceStands s.core.objects s.core.scopes) (sym (instance_there s (linked_at [] s.instances) i e))
     (read_stands s.core.objects s.core.scopes among s.watchers s.resting s.controls s.instances
-    (all_entries (λ (x : List ℕ × Linked). x.1.page.scope < length s.core.scopes) s.instances h.paths (λ p l at. (h.linked p l at).there)) [])
+    (all_entries (λ (x : List ℕ × Linked). (x.1.page.scope < length s.core.scopes) × AllByRecursion (IsInner s.core.scopes) x.1.page.inner) s.instances h.paths (λ p l at. ((h.linked p l at).there, (h.linked p l at).inner))) [])
 
 pub page_rendered : (s : State) (i : Instance) → Some i ≡ instance s → instances.rendering s.core.objects s.core.scopes i ≡ rendering s
 page_rendered s i e = ap (instances.rendering s.core.objects s.core.scopes) (instance_there s (linked_at [] s.instances) i e)
@@ -92,10 +103,10 @@ none_rendered s e = ap (instances.rendering s.core.objects s.core.scopes) (none_
 pub node_scope : (s : State) (n : ℕ) → IsWatched s → 0 < length s.core.scopes → scope_of s n < length s.core.scopes
 node_scope s n h root = by_owner (owner_of n s.owners)
   where
-    by_linked : (p : List ℕ) (o : Option Linked) → linked_at p s.instances ≡ o → scope_in o < length s.core.scopes
+    by_linked : (p : List ℕ) (o : Option Linked) → linked_at p s.instances ≡ o → element_scope n o < length s.core.scopes
     by_linked p None e = root
-    by_linked p (Some l) e = (h.linked p l e).there
+    by_linked p (Some l) e = let is = h.linked p l e in scope_within s.core.scopes l.page (unwrap_or (lookup (is_at (nat_cmp n)) l.page.elements) 0) is.there is.inner
 
-    by_owner : (o : Option (List ℕ)) → scope_in (option_and_then (λ (p : List ℕ). linked_at p s.instances) o) < length s.core.scopes
+    by_owner : (o : Option (List ℕ)) → element_scope n (option_and_then (λ (p : List ℕ). linked_at p s.instances) o) < length s.core.scopes
     by_owner None = root
     by_owner (Some p) = by_linked p (linked_at p s.instances) refl

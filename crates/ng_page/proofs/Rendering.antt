@@ -20,7 +20,7 @@ use Rattle.ng_behaviour.specs.Scopes.{object_at}
 use Rattle.ng_digest.specs.declared.log.Report.{Report}
 use Rattle.ng_digest.specs.declared.rounds.DigestFault.{DigestFault}
 use Rattle.ng_drawing.specs.Drawing.{shown_as}
-use Rattle.ng_drawing.specs.Instance.{SiteState, Instance, instances_from, outlets_from, state_kept, snapshot_as, snapshot_now, rendered_now, site_now, IsFilled, IsFresh, AllFresh, AreFilled}
+use Rattle.ng_drawing.specs.Instance.{SiteState, Instance, instances_from, outlets_from, state_kept, snapshot_as, snapshot_now, rendered_now, site_now, is_two_way as is_kept_alone, IsFilled, IsFresh, AllFresh, AreFilled}
 use Rattle.ng_drawing.specs.Roles.{Role}
 use Rattle.ng_drawing.specs.Rows.{is_filled}
 use Rattle.ng_drawing.specs.Cases.{Case, case_in, cases_of}
@@ -28,11 +28,14 @@ use Rattle.ng_drawing.specs.Template.{Site, Outlet, Filling}
 use Rattle.ng_drawing.specs.declared.kind.SiteKind.{SiteKind}
 use Rattle.ng_drawing.specs.declared.kind.SiteKind.TheVariants as sites
 use Rattle.ng_drawing.proofs.FreshInstances.{fresh_instance}
+use Rattle.ng_link.specs.Bindings.{Bound, bound_in_table}
 use Rattle.ng_link.specs.Controls.{Controls, state_under}
-use Rattle.ng_link.specs.Instances.{Body, OutletState, Linked, Instances, is_path, linked_at, read_bodies, read}
-use Rattle.ng_link.specs.Rows.{watch_kind, watching_site}
-use Rattle.ng_link.specs.Shape.{key_on}
+use Rattle.ng_link.specs.Instances.{Body, OutletState, Page, Linked, Instances, is_path, linked_at, key_in, scope_number, is_site_of, is_site_in, read_bodies, read}
+use Rattle.ng_link.specs.Registering.{mark_in, way_of}
+use Rattle.ng_link.specs.Rows.{watch_kind, kind_against, kind_with, watching_site}
 use Rattle.ng_link.specs.State.{State, Resting, kept_or, site_state, site_states, roles_in, groups_in, instance_join, nothing_linked, instance_at, shown, rendering}
+use Rattle.ng_link.specs.Standing.{AreInner}
+use Rattle.ng_link.proofs.Inner.{key_leads}
 use Rattle.ng_link.proofs.Paths.{other_path, same_path, less_other}
 use Rattle.ng_link.proofs.Serials.{not_at}
 use Rattle.ng_link.proofs.Undrawn.{rising_differ}
@@ -44,7 +47,7 @@ use Rattle.ng_watch.specs.Table.{Table, found}
 use Rattle.ng_watch.specs.Verdicts.{clean, verdict}
 use Rattle.ng_watch.proofs.Judging.{clean_has_kept}
 use Rattle.ng_page.specs.Answered.{WhenOk}
-use Rattle.ng_page.specs.Settled.{IsSettled, WatchesAt, AreWatched, IsOutlet, AreOutlets, IsLinked, cases_under, OutletFits, CallsFor, IsWatched, Fits}
+use Rattle.ng_page.specs.Settled.{IsSettled, WatchesAt, site_keys, watching_at, AreWatched, IsOutlet, AreOutlets, IsRound, IsLinked, leads_in, cases_under, OutletFits, CallsFor, IsWatched, Fits}
 use Rattle.ng_page.proofs.Fitting.{number_itself}
 use Rattle.ng_page.proofs.Watched.{number_there}
 
@@ -55,6 +58,7 @@ same_kind sites.Words = refl
 same_kind sites.Reference = refl
 same_kind sites.Collection = refl
 same_kind sites.Deep = refl
+same_kind sites.TwoWay = refl
 
 one_way : (kind : SiteKind) → is_two_way (watch_kind kind) ≡ false
 one_way sites.Text = refl
@@ -62,16 +66,30 @@ one_way sites.Words = refl
 one_way sites.Reference = refl
 one_way sites.Collection = refl
 one_way sites.Deep = refl
+one_way sites.TwoWay = refl
 
-same_now : (objects : List Object) (o : ℕ) (x : Site) → snapshot_now objects o x ≡ now objects (watching_site o x)
+-- the site of no two-way binding is watched as its kind says
+same_against : (kind : SiteKind) (w : ℕ × List ℕ) → is_kept_alone kind ≡ false → kind_against kind w ≡ watch_kind kind
+same_against sites.Text w e = refl
+same_against sites.Words w e = refl
+same_against sites.Reference w e = refl
+same_against sites.Collection w e = refl
+same_against sites.Deep w e = refl
+same_against sites.TwoWay w e = absurd (cc)
+
+same_with : (kind : SiteKind) (way : Option (ℕ × List ℕ)) → is_kept_alone kind ≡ false → kind_with kind way ≡ watch_kind kind
+same_with kind None e = refl
+same_with kind (Some w) e = same_against kind w e
+
+same_now : (objects : List Object) (o : ℕ) (way : Option (ℕ × List ℕ)) (x : Site) → is_kept_alone x.kind ≡ false → snapshot_now objects o x ≡ now objects (watching_site o way x)
 unfolding value_now snapshot_now
-same_now objects o x = ap (λ f. value_now objects (watching_site o x) >>= f objects) (sym (same_kind x.kind))
+same_now objects o way x h = ap (λ f. value_now objects (watching_site o way x) >>= f objects) (sym (ap snapshot_of (same_with x.kind way h) ∙ same_kind x.kind))
 
 -- a watcher that is clean has kept what is there now
-clean_shows : (objects : List Object) (x : Site) (o : ℕ) (w : Watcher) → w.watch ≡ watching_site o x → verdict objects w ≡ Ok clean → rendered_now (snapshot_now objects o x) ≡ shown_as w.kept
-clean_shows objects x o w is e =
-    let k = (clean_has_kept objects w (ap (λ (v : Watching). is_two_way v.kind) is ∙ one_way x.kind)).0 e in
-    ap rendered_now (same_now objects o x ∙ (ap (now objects) (sym is) ∙ k.1)) ∙ ap (λ s. shown_as s) (sym k.2)
+clean_shows : (objects : List Object) (x : Site) (o : ℕ) (way : Option (ℕ × List ℕ)) (w : Watcher) → is_kept_alone x.kind ≡ false → w.watch ≡ watching_site o way x → verdict objects w ≡ Ok clean → rendered_now (snapshot_now objects o x) ≡ shown_as w.kept
+clean_shows objects x o way w h is e =
+    let k = (clean_has_kept objects w (ap (λ (v : Watching). is_two_way v.kind) is ∙ (ap is_two_way (same_with x.kind way h) ∙ one_way x.kind))).0 e in
+    ap rendered_now (same_now objects o way x h ∙ (ap (now objects) (sym is) ∙ k.1)) ∙ ap (λ s. shown_as s) (sym k.2)
 
 -- ---- the cases of a switch, by its site and by its number of registration
 
@@ -101,33 +119,43 @@ site_cases serials (o ∷ os) site n rising sites at =
         (λ one. let two : true ≡ false = sym (eq-eqb o.site site one) ∙ e in cc)
         (sym same ∙ sym (number_at_place serials site n at))))
 
-module _ (c : act.State) (t : Table) (r : Resting) (cs : Controls) (settled : (k : Key) (w : Watcher) → found k t ≡ Some w → verdict c.objects w ≡ Ok clean) where
-  site_shows : (scope : ℕ) (x : Site) (k : Key) → WatchesAt k (watching_site (object_at c.scopes scope) x) t
+module _ (c : act.State) (leads : Key → Bool) (t : Table) (r : Resting) (cs : Controls) (settled : (k : Key) (w : Watcher) → found k t ≡ Some w → verdict c.objects w ≡ Ok clean) where
+  site_shows : (scope : ℕ) (way : Option (ℕ × List ℕ)) (x : Site) (k : Key) → WatchesAt k (watching_site (object_at c.scopes scope) way x) t
       → site_now c.objects c.scopes (Some x) (Some (site_state t r cs scope k)) ≡ shown_as (state_kept (Some (site_state t r cs scope k)))
-  site_shows scope x k h = by_watcher (found k t) refl
+  site_shows scope way x k h = by_watcher (found k t) refl
     where
       state : Option Watcher → SiteState
       state o = record { key = k; scope = scope; kept = kept_or o (lookup (is_key k) r); rests = not (is_some o); control = state_under k cs }
 
+      by_kind : (w : Watcher) → found k t ≡ Some w → (b : Bool) → is_kept_alone x.kind ≡ b → cond (is_kept_alone x.kind) (shown_as w.kept) (rendered_now (snapshot_now c.objects (object_at c.scopes scope) x)) ≡ shown_as w.kept
+      by_kind w e true is = ap (λ (b : Bool). cond b (shown_as w.kept) (rendered_now (snapshot_now c.objects (object_at c.scopes scope) x))) is
+      by_kind w e false is =
+          ap (λ (b : Bool). cond b (shown_as w.kept) (rendered_now (snapshot_now c.objects (object_at c.scopes scope) x))) is
+          ∙ clean_shows c.objects x (object_at c.scopes scope) way w is (h w e) (settled k w e)
+
       by_watcher : (o : Option Watcher) → found k t ≡ o → site_now c.objects c.scopes (Some x) (Some (state o)) ≡ shown_as (state_kept (Some (state o)))
       by_watcher None e = refl
-      by_watcher (Some w) e = clean_shows c.objects x (object_at c.scopes scope) w (h w e) (settled k w e)
+      by_watcher (Some w) e = by_kind w e (is_kept_alone x.kind) refl
 
-  abbrev shown_at : ℕ → List ℕ → ℕ → SiteState
-  shown_at scope path n = site_state t r cs scope (key_on path n)
+  abbrev shown_at : Page → ℕ → SiteState
+  shown_at p n = site_state t r cs (scope_number p (mark_in p.marks n).over) (key_in p n)
 
-  sites_show : (scope : ℕ) (path ns : List ℕ) (xs : List Site) (i : ℕ) → length ns ≡ length xs → AreWatched t (object_at c.scopes scope) path ns xs
-      → site_now c.objects c.scopes (slice_get xs i) (slice_get (map (shown_at scope path) ns) i) ≡ shown_as (state_kept (slice_get (map (shown_at scope path) ns) i))
-  sites_show scope path [] [] i e h = refl
-  sites_show scope path (n ∷ ns) [] i e h = absurd (omega (arith, e))
-  sites_show scope path [] (x ∷ xs) i e h = absurd h
-  sites_show scope path (n ∷ ns) (x ∷ xs) zero e h = site_shows scope x (key_on path n) h.0
-  sites_show scope path (n ∷ ns) (x ∷ xs) (suc i) e h = sites_show scope path ns xs i (omega (arith, e)) h.1
+  -- the keys of some sites lead to them
+  abbrev AreLed : Page → List ℕ → Type 0
+  AreLed p ns = AllByRecursion (λ (n : ℕ). leads (key_in p n) ≡ true) ns
+
+  sites_show : (p : Page) (ns : List ℕ) (xs : List Site) (i : ℕ) → length ns ≡ length xs → AreLed p ns → AreWatched leads t (site_keys p) (watching_at c.scopes p) ns xs
+      → site_now c.objects c.scopes (slice_get xs i) (slice_get (map (shown_at p) ns) i) ≡ shown_as (state_kept (slice_get (map (shown_at p) ns) i))
+  sites_show p [] [] i e led h = refl
+  sites_show p (n ∷ ns) [] i e led h = absurd (omega (arith, e))
+  sites_show p [] (x ∷ xs) i e led h = absurd h
+  sites_show p (n ∷ ns) (x ∷ xs) zero e led h = site_shows (scope_number p (mark_in p.marks n).over) (way_of c.scopes (bound_in_table n p.bounds)) x (key_in p n) (h.0 led.0)
+  sites_show p (n ∷ ns) (x ∷ xs) (suc i) e led h = sites_show p ns xs i (omega (arith, e)) led.1 h.1
 
   -- ---- an outlet has the bodies that its site has kept to call for
 
   -- a site that is clean has kept a value
-  kept_some : (k : Key) (w : Watcher) (x : Site) (o : ℕ) → w.watch ≡ watching_site o x → found k t ≡ Some w → (v : ViewTree) × (w.kept ≡ Some v)
+  kept_some : (k : Key) (w : Watcher) (x : Site) (o : ℕ) → w.watch ≡ watching_site o None x → found k t ≡ Some w → (v : ViewTree) × (w.kept ≡ Some v)
   kept_some k w x o is e = let h = (clean_has_kept c.objects w (ap (λ (v : Watching). is_two_way v.kind) is ∙ one_way x.kind)).0 (settled k w e) in (h.0, h.2)
 
   state_at : (f : ℕ → SiteState) (ns : List ℕ) (i n : ℕ) → slice_get ns i ≡ Some n → slice_get (map f ns) i ≡ Some (f n)
@@ -140,19 +168,22 @@ module _ (c : act.State) (t : Table) (r : Resting) (cs : Controls) (settled : (k
   no_state f (m ∷ ns) zero at = absurd (cc)
   no_state f (m ∷ ns) (suc i) at = no_state f ns i at
 
-  watched_at : (o : ℕ) (path ns : List ℕ) (xs : List Site) (i n : ℕ) → length ns ≡ length xs → AreWatched t o path ns xs → slice_get ns i ≡ Some n → (x : Site) × WatchesAt (key_on path n) (watching_site o x) t
-  watched_at o path [] xs i n e h at = absurd (cc)
-  watched_at o path (m ∷ ns) [] i n e h at = absurd (omega (arith, e))
-  watched_at o path (m ∷ ns) (x ∷ xs) zero n e h at = (x, let same : m ≡ n = cc in subst (λ (k : ℕ). WatchesAt (key_on path k) (watching_site o x) t) same h.0)
-  watched_at o path (m ∷ ns) (x ∷ xs) (suc i) n e h at = watched_at o path ns xs i n (omega (arith, e)) h.1 at
+  -- the site of a number is watched, and its key leads to it
+  watched_at : (p : Page) (ns : List ℕ) (xs : List Site) (i n : ℕ) → length ns ≡ length xs → AreLed p ns → AreWatched leads t (site_keys p) (watching_at c.scopes p) ns xs → slice_get ns i ≡ Some n
+      → (leads (key_in p n) ≡ true) × ((x : Site) × WatchesAt (key_in p n) (watching_at c.scopes p n x) t)
+  watched_at p [] xs i n e led h at = absurd (cc)
+  watched_at p (m ∷ ns) [] i n e led h at = absurd (omega (arith, e))
+  watched_at p (m ∷ ns) (x ∷ xs) zero n e led h at =
+      let same : m ≡ n = cc in (ap (λ (k : ℕ). leads (key_in p k)) (sym same) ∙ led.0, (x, subst (λ (k : ℕ). WatchesAt (key_in p k) (watching_at c.scopes p k x) t) same (h.0 led.0)))
+  watched_at p (m ∷ ns) (x ∷ xs) (suc i) n e led h at = watched_at p ns xs i n (omega (arith, e)) led.1 h.1 at
 
   -- what is asked of an outlet, by the state of its site
   abbrev FilledBy : List Case → Filling → List Role → Option SiteState → Type 0
   FilledBy cases filling rs s = option_map_or (λ (x : SiteState). x.rests) s true ≡ false → is_filled cases filling (state_kept s) rs ≡ true
 
-  one_filled : (p : List ℕ) (l : Linked) (o : Outlet) (x : OutletState) → IsLinked c t p l → IsOutlet l.page.serials o x → OutletFits t [] p l.page.serials l.fragment.outlets x
-      → IsFilled (site_states t r cs l.page) (cases_of l.fragment.outlets) o (roles_in x.bodies)
-  one_filled p l o x h is fit = by_place (slice_get l.page.serials o.site) refl
+  one_filled : (p : List ℕ) (l : Linked) (o : Outlet) (x : OutletState) → IsLinked c leads t p l → AreLed l.page l.page.serials → IsOutlet l.page.serials o x → IsRound c.scopes l.page.bounds x
+      → OutletFits leads t [] (site_keys l.page) l.page.serials l.fragment.outlets x → IsFilled (site_states t r cs l.page) (cases_of l.fragment.outlets) o (roles_in x.bodies)
+  one_filled p l o x h led is round fit = by_place (slice_get l.page.serials o.site) refl
     where
       roles : List Role
       roles = roles_in x.bodies
@@ -163,13 +194,18 @@ module _ (c : act.State) (t : Table) (r : Resting) (cs : Controls) (settled : (k
       under : List Case
       under = cases_under l.page.serials l.fragment.outlets x.serial
 
-      by_watcher : (n : ℕ) → slice_get l.page.serials o.site ≡ Some n → (m : Option Watcher) → found (key_on p n) t ≡ m → (rest : Option (Option ViewTree)) → not (is_some m) ≡ false → is_filled cases o.filling (kept_or m rest) roles ≡ true
+      by_watcher : (n : ℕ) → slice_get l.page.serials o.site ≡ Some n → (m : Option Watcher) → found (key_in l.page n) t ≡ m → (rest : Option (Option ViewTree)) → not (is_some m) ≡ false → is_filled cases o.filling (kept_or m rest) roles ≡ true
       by_watcher n at None e rest live = absurd (cc)
       by_watcher n at (Some w) e rest live =
           let number : x.serial ≡ n = is.0 ∙ number_at_place l.page.serials o.site n at in
-          let site = watched_at (object_at c.scopes l.page.scope) p l.page.serials l.fragment.sites o.site n h.count h.watched at in
-          let kept = kept_some (key_on p n) w site.0 (object_at c.scopes l.page.scope) (site.1 w e) e in
-          let call : CallsFor under w.kept x = fit (ap (λ (k : ℕ). list_any (is_at (nat_cmp k)) l.page.serials) number ∙ number_there l.page.serials o.site n at) w (ap (λ (k : ℕ). found (key_on p k) t) number ∙ e) refl in
+          let site = watched_at l.page l.page.serials l.fragment.sites o.site n h.count led h.watched at in
+          let over : ℕ = object_at c.scopes (scope_number l.page (mark_in l.page.marks n).over) in
+          let unbound : bound_in_table n l.page.bounds ≡ None = ap (λ (k : ℕ). bound_in_table k l.page.bounds) (sym number) ∙ round.unbound in
+          let watches : w.watch ≡ watching_site over None site.1.0 = site.1.1 w e ∙ ap (λ (b : Option Bound). watching_site over (way_of c.scopes b) site.1.0) unbound in
+          let kept = kept_some (key_in l.page n) w site.1.0 over watches e in
+          let call : CallsFor under w.kept x =
+          fit (ap (λ (k : ℕ). list_any (is_at (nat_cmp k)) l.page.serials) number ∙ number_there l.page.serials o.site n at) (ap (λ (k : ℕ). leads (key_in l.page k)) number ∙ site.0) w
+          (ap (λ (k : ℕ). found (key_in l.page k) t) number ∙ e) refl in
           let filled_now : is_filled under x.filling (Some kept.0) roles ≡ true = subst (λ (k : Option ViewTree). CallsFor under k x) kept.1 call in
           let those : under ≡ cases = ap (cases_under l.page.serials l.fragment.outlets) number ∙ sym (site_cases l.page.serials l.fragment.outlets o.site n h.rising h.sites at) in
           ap (λ (k : Option ViewTree). is_filled cases o.filling k roles) kept.1
@@ -177,11 +213,10 @@ module _ (c : act.State) (t : Table) (r : Resting) (cs : Controls) (settled : (k
           ∙ (ap (λ (f : Filling). is_filled under f (Some kept.0) roles) (sym is.1) ∙ filled_now))
 
       by_place : (i : Option ℕ) → slice_get l.page.serials o.site ≡ i → FilledBy cases o.filling roles (slice_get (site_states t r cs l.page) o.site)
-      by_place None at = subst (FilledBy cases o.filling roles) (sym (no_state (shown_at l.page.scope l.page.path) l.page.serials o.site at)) (λ live. absurd (cc))
+      by_place None at = subst (FilledBy cases o.filling roles) (sym (no_state (shown_at l.page) l.page.serials o.site at)) (λ live. absurd (cc))
       by_place (Some n) at =
-          subst (FilledBy cases o.filling roles) (sym (state_at (shown_at l.page.scope l.page.path) l.page.serials o.site n at))
-          (subst (λ (q : List ℕ). FilledBy cases o.filling roles (Some (shown_at l.page.scope q n))) (sym h.path)
-          (λ live. by_watcher n at (found (key_on p n) t) refl (lookup (is_key (key_on p n)) r) live))
+          subst (FilledBy cases o.filling roles) (sym (state_at (shown_at l.page) l.page.serials o.site n at))
+          (λ live. by_watcher n at (found (key_in l.page n) t) refl (lookup (is_key (key_in l.page n)) r) live)
 
   abbrev go_in : Instances → List ℕ → Instance
   go_in is = read nothing_linked (instance_join t r cs) is
@@ -190,21 +225,21 @@ module _ (c : act.State) (t : Table) (r : Resting) (cs : Controls) (settled : (k
   all_fresh is [] each = tt
   all_fresh is (b ∷ bs) each = (each b.path, all_fresh is bs each)
 
-  are_filled : (p : List ℕ) (l : Linked) (is : Instances) (os : List Outlet) (xs : List OutletState) → IsLinked c t p l → AreOutlets l.page.serials os xs → AllByRecursion (OutletFits t [] p l.page.serials l.fragment.outlets) xs → ((q : List ℕ) → IsFresh c.objects c.scopes (go_in is q))
+  are_filled : (p : List ℕ) (l : Linked) (is : Instances) (os : List Outlet) (xs : List OutletState) → IsLinked c leads t p l → AreLed l.page l.page.serials → AreOutlets l.page.serials os xs → AllByRecursion (IsRound c.scopes l.page.bounds) xs
+      → AllByRecursion (OutletFits leads t [] (site_keys l.page) l.page.serials l.fragment.outlets) xs → ((q : List ℕ) → IsFresh c.objects c.scopes (go_in is q))
       → AreFilled c.objects c.scopes (site_states t r cs l.page) (cases_of l.fragment.outlets) os (outlets_from (groups_in xs (map instances_from (read_bodies (go_in is) xs))))
-  are_filled p l is os [] h outlets fit each = tt
-  are_filled p l is [] (x ∷ xs) h outlets fit each = absurd outlets
-  are_filled p l is (o ∷ os) (x ∷ xs) h outlets fit each =
-      (one_filled p l o x h outlets.0 fit.0, all_fresh is x.bodies each, are_filled p l is os xs h outlets.1 fit.1 each)
+  are_filled p l is os [] h led outlets rounds fit each = tt
+  are_filled p l is [] (x ∷ xs) h led outlets rounds fit each = absurd outlets
+  are_filled p l is (o ∷ os) (x ∷ xs) h led outlets rounds fit each =
+      (one_filled p l o x h led outlets.0 rounds.0 fit.0, all_fresh is x.bodies each, are_filled p l is os xs h led outlets.1 rounds.1 fit.1 each)
 
   abbrev IsRight : List ℕ × Linked → Type 0
-  IsRight e = IsLinked c t e.0 e.1 × AllByRecursion (OutletFits t [] e.0 e.1.page.serials e.1.fragment.outlets) e.1.page.outlets
+  IsRight e = IsLinked c leads t e.0 e.1 × (AreLed e.1.page e.1.page.serials × AllByRecursion (OutletFits leads t [] (site_keys e.1.page) e.1.page.serials e.1.fragment.outlets) e.1.page.outlets)
 
   one_fresh : (e : List ℕ × Linked) (is : Instances) → IsRight e → ((q : List ℕ) → IsFresh c.objects c.scopes (go_in is q)) → IsFresh c.objects c.scopes (instance_join t r cs e.1 (read_bodies (go_in is) e.1.page.outlets))
   one_fresh e is h each = (
-    (λ n. subst (λ (p : List ℕ). site_now c.objects c.scopes (slice_get e.1.fragment.sites n) (slice_get (map (shown_at e.1.page.scope p) e.1.page.serials) n) ≡ shown_as (state_kept (slice_get (map (shown_at e.1.page.scope p) e.1.page.serials) n))) (sym h.0.path)
-        (sites_show e.1.page.scope e.0 e.1.page.serials e.1.fragment.sites n h.0.count h.0.watched)),
-    are_filled e.0 e.1 is e.1.fragment.outlets e.1.page.outlets h.0 h.0.outlets h.1 each,
+    (λ n. sites_show e.1.page e.1.page.serials e.1.fragment.sites n h.0.count h.1.0 h.0.watched),
+    are_filled e.0 e.1 is e.1.fragment.outlets e.1.page.outlets h.0 h.1.0 h.0.outlets h.0.rounds h.1.1 each,
   )
 
   -- what is read off is fresh
@@ -234,10 +269,23 @@ all_entries P (e ∷ is) o each = (
     later [] below all = tt
     later (x ∷ es) below all = (all.0 below.0, later es below.1 all.1)
 
-pub settled_renders : (s : State) → IsSettled s → IsWatched s → Fits [] s → rendering s ≡ shown_as (shown s)
-settled_renders s settled h fits =
+-- the key of a site of an instance leads to it
+pub key_led : (s : State) → AreInner s.inner s.instances → (p : List ℕ) (l : Linked) → linked_at p s.instances ≡ Some l → l.page.path ≡ p → (n : ℕ) → is_site_of l.page n ≡ true → leads_in s (key_in l.page n) ≡ true
+key_led s inner p l at own n site =
+    ap (λ (q : List ℕ). is_site_in (linked_at q s.instances) (key_in l.page n)) (key_leads s.inner s.instances inner p l at own n) ∙ (ap (λ (o : Option Linked). is_site_in o (key_in l.page n)) at ∙ site)
+
+keys_led : (s : State) → AreInner s.inner s.instances → (p : List ℕ) (l : Linked) → linked_at p s.instances ≡ Some l → l.page.path ≡ p → AllByRecursion (λ (n : ℕ). leads_in s (key_in l.page n) ≡ true) l.page.serials
+keys_led s inner p l at own = by_place l.page.serials (λ j n there. number_there l.page.serials j n there)
+  where
+    by_place : (ns : List ℕ) → ((j n : ℕ) → slice_get ns j ≡ Some n → is_site_of l.page n ≡ true) → AllByRecursion (λ (n : ℕ). leads_in s (key_in l.page n) ≡ true) ns
+    by_place [] each = tt
+    by_place (n ∷ ns) each = (key_led s inner p l at own n (each 0 n refl), by_place ns (λ j m there. each (suc j) m there))
+
+pub settled_renders : (s : State) → IsSettled s → IsWatched s → AreInner s.inner s.instances → Fits [] s → rendering s ≡ shown_as (shown s)
+settled_renders s settled h inner fits =
     fresh_instance s.core.objects s.core.scopes (instance_at s.watchers s.resting s.controls s.instances [])
-    (read_fresh s.core s.watchers s.resting s.controls settled s.instances (all_entries (IsRight s.core s.watchers s.resting s.controls settled) s.instances h.paths (λ p l at. (h.linked p l at, fits p l at))) [])
+    (read_fresh s.core (leads_in s) s.watchers s.resting s.controls settled s.instances
+    (all_entries (IsRight s.core (leads_in s) s.watchers s.resting s.controls settled) s.instances h.paths (λ p l at. (h.linked p l at, (keys_led s inner p l at (h.linked p l at).path, fits p l at)))) [])
 
 pub when_done : (P Q : Type 0) (o : Option (Result Report DigestFault)) → WhenOk o P → (P → Q) → WhenOk o Q
 when_done P Q None h f = tt

@@ -29,7 +29,7 @@ use Rattle.ng_link.specs.Events.{scope_of, control_at}
 use Rattle.ng_link.specs.State.{State, Listening}
 use Rattle.ng_store.specs.Json.{json_value, placed, with_json}
 use Rattle.ng_store.specs.declared.json.JsonFault.{JsonFault}
-use Rattle.ng_template.specs.Writing.{input_name}
+use Rattle.ng_directives.specs.Writing.{input_name}
 use Rattle.ng_watch.specs.Table.{kept_at}
 use Rattle.ng_write.specs.Making.{value_in}
 use Rattle.ng_page.specs.Commands as commands
@@ -155,7 +155,7 @@ broadcast_stays scope name d c =
 
 -- a control takes what is put in, its model is written, and programs run after that
 pub control_sites : (f : ControlState → ControlState) (k : Key) (s : State) → SitesStay s (with_control_at f k s)
-control_sites f k s = record { instances = refl; templates = refl; keys = λ o. o; found = λ o q w i e. e; core = stays_refl (part s.core) }
+control_sites f k s = record { instances = refl; inner = refl; templates = refl; keys = λ o. o; found = λ o q w i e. e; core = stays_refl (part s.core) }
 
 pub write_stays : (scope : ℕ) (p : Trees) (v : Value) (c : act.State) → Stays (part c) (part (write_run scope p v c).0)
 unfolding write_run

@@ -37,8 +37,8 @@ whole_alike v w c e scopes objects sound depth stands h =
       root = subst (λ (t : List Scope). 0 < length t) (sym s) h.root;
       standing = (h.standing.0, stands h.standing.0 h.standing.1);
       listeners = subst (λ (x : State). ListenersStand (length x.core.scopes) x.declared) (sym e) (subst (λ (t : List Scope). ListenersStand (length t) (state_of v).declared) (sym scopes) h.listeners);
-      kept = subst (λ (x : State). RowsStand (length x.core.objects) x.instances x.watchers) (sym e) (subst (λ (t : List Object). RowsStand (length t) (state_of v).instances (state_of v).watchers) (sym objects) h.kept);
-      scopes = subst (λ (x : State). HaveScopes x.core.scopes x.instances) (sym e) (subst (λ (t : List Scope). HaveScopes t (state_of v).instances) (sym scopes) h.scopes);
+      kept = subst (λ (x : State). RowsStand (length x.core.objects) x.inner x.instances x.watchers) (sym e) (subst (λ (t : List Object). RowsStand (length t) (state_of v).inner (state_of v).instances (state_of v).watchers) (sym objects) h.kept);
+      scopes = subst (λ (x : State). HaveScopes x.core.scopes x.inner x.instances) (sym e) (subst (λ (t : List Scope). HaveScopes t (state_of v).inner (state_of v).instances) (sym scopes) h.scopes);
       bodies = subst (λ (x : State). HaveBodies x.templates x.instances) (sym e) h.bodies;
     }
 
@@ -75,7 +75,7 @@ begun_page w h p =
     let d : Core = record w.core { bodies = 0; handed = h } in
     record {
       works = record { whole = whole_after w d p.works.whole (begun_sound w.core h p.works.whole.sound) p.works.whole.idle refl (omega arith) (omega arith); templates = p.works.templates };
-      watched = watched_core (state_of w) (cores.state_of d) (scopes_refl w.core.scopes) (omega arith) p.watched;
+      watched = watched_core (state_of w) (cores.state_of d) (scopes_refl w.core.scopes) (omega arith) (λ g. g) p.watched;
       fits = p.fits;
     }
 
@@ -97,7 +97,7 @@ queued_page w d h p =
     let e : Core = record w.core { tasks = d.tasks } in
     record {
       works = record { whole = whole_after w e p.works.whole (queued_sound w.core d h p.works.whole.sound) p.works.whole.idle refl (omega arith) (omega arith); templates = p.works.templates };
-      watched = watched_core (state_of w) (cores.state_of e) (scopes_refl w.core.scopes) (omega arith) p.watched;
+      watched = watched_core (state_of w) (cores.state_of e) (scopes_refl w.core.scopes) (omega arith) (λ g. g) p.watched;
       fits = p.fits;
     }
 
@@ -118,7 +118,7 @@ probing_page w d p =
     let e : Core = record w.core { probes = d.probes } in
     record {
       works = record { whole = whole_after w e p.works.whole (probing_sound w.core d p.works.whole.sound) p.works.whole.idle refl (omega arith) (omega arith); templates = p.works.templates };
-      watched = watched_core (state_of w) (cores.state_of e) (scopes_refl w.core.scopes) (omega arith) p.watched;
+      watched = watched_core (state_of w) (cores.state_of e) (scopes_refl w.core.scopes) (omega arith) (λ g. g) p.watched;
       fits = p.fits;
     }
 
@@ -127,7 +127,7 @@ pub untroubled_page : (v w : Works) → state_of w ≡ with_core (untroubled (st
     → ((ts : Stands) → Standing v ts → Standing w ts) → templates_of w ≡ templates_of v → PageIs v → PageIs w
 untroubled_page v w e core sound stands ts h = record {
   works = works_alike v w (untroubled (state_of v).core) e refl refl sound (ap (λ (c : Core). c.depth) core) stands ts h.works;
-  watched = subst IsWatched (sym e) (watched_core (state_of v) (untroubled (state_of v).core) (scopes_refl (state_of v).core.scopes) (omega arith) h.watched);
+  watched = subst IsWatched (sym e) (watched_core (state_of v) (untroubled (state_of v).core) (scopes_refl (state_of v).core.scopes) (omega arith) (λ g. g) h.watched);
   fits = subst (Fits []) (sym e) h.fits;
 }
 

@@ -1,9 +1,14 @@
 //! Laws of pages. Each function's contract is the law.
-ghost use Rattle.ng_page.specs.Laws.{SettledPageShowsItsRendering, NoStepChangesATemplate, LinkedSitesGetNewNumbers, DeclaredWatchGetsTheNextNumber, NoProgramLowersTheNextNumber, NoStepLowersTheNextNumber};
+ghost use Rattle.ng_page.specs.Laws.{SettledPageShowsItsRendering, SettledBindingsAgree, NoStepChangesATemplate, LinkedSitesGetNewNumbers, DeclaredWatchGetsTheNextNumber, NoProgramLowersTheNextNumber, NoStepLowersTheNextNumber};
 
 /// After a digest that answered Ok the document is the rendering.
 pub fn settled_page_shows_its_rendering()
     ensures { SettledPageShowsItsRendering }
+{}
+
+/// After a digest that answered Ok both sides of each two-way binding agree.
+pub fn settled_bindings_agree()
+    ensures { SettledBindingsAgree }
 {}
 
 /// A page's templates are those that it was opened with, whatever is done on it.

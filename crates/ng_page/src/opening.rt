@@ -1,36 +1,40 @@
 //! How a page is opened, up to its first digest.
-ghost use Rattle.std.specs.Prelude.{◌≡◌, ◌<◌, ◌++◌, [], length, slice_get, option_map, IfOk, OnOk, Some, None, ◌∷◌, true};
+ghost use Rattle.std.specs.Prelude.{◌≡◌, ◌<◌, ◌++◌, [], length, IfOk, OnOk, None, ◌∷◌, true};
 ghost use Rattle.std.specs.List.{AllByRecursion};
 ghost use Rattle.ng_app.specs.AppOf.{facts};
+ghost use Rattle.ng_app.specs.Directives.{all_unnamed};
 ghost use Rattle.ng_app.specs.Templates.{all_named};
 ghost use Rattle.ng_drawing.specs.Template.{Template};
 ghost use Rattle.ng_link.specs.State.{state_of, templates_of};
-ghost use Rattle.ng_template.specs.Kept.{templates_of as kept_templates};
-ghost use Rattle.ng_template.specs.Numbering.{is_regular};
-ghost use Rattle.ng_template.specs.TemplateOf.{template_of};
-ghost use Rattle.ng_page.specs.Opening.{prepared, linked_on, opening};
+ghost use Rattle.ng_compose.specs.Kept.{templates_of as kept_templates};
+ghost use Rattle.ng_parts.specs.Numbering.{is_regular};
+ghost use Rattle.ng_compose.specs.DirectivesOf.{directives_of};
+ghost use Rattle.ng_parts.specs.TemplateOf.{template_of};
+ghost use Rattle.ng_page.specs.Opening.{prepared, linked_by, linked_on, opening};
 ghost use Rattle.ng_page.specs.PlaceOf.{WorksAre, PageIs};
 ghost use Rattle.ng_page.specs.Settled.{IsWatched, Fits};
 
 use ng_app::App;
 use ng_base::fault::{Fault, Memory};
 use ng_base::name::{ScopeId, TplId};
+use ng_compose::Templates;
 use ng_drawing::origin::{Home, Origin};
 use ng_fire::following::follow;
 use ng_fire::linking::link_at;
 use ng_fire::programs::run_program;
 use ng_link::linking::Place;
 use ng_link::works::Works;
-use ng_template::{Templates, Tpl};
+use ng_parts::Tpl;
 use std::alloc::Global;
 
 /// What the application installs and registers on the root, and its first program.
 fn prepare(alloc: Global, app: App, templates: Templates) -> Result<Works, Memory>
-    requires { 0 < length (kept_templates templates) }
+    requires some { 0 < length (kept_templates templates) }
+    requires plain { directives_of templates ≡ [] }
     ensures state { IfOk result (λ w. (u : Template) → kept_templates templates ≡ (None, u) ∷ [] → state_of w ≡ prepared u (facts app)) }
     ensures works { IfOk result WorksAre }
     ensures bare { IfOk result (λ w. (state_of w).instances ≡ []) }
-    ensures templates { IfOk result (λ w. templates_of w ≡ kept_templates templates ++ all_named (facts app).templates) }
+    ensures templates { IfOk result (λ w. templates_of w ≡ kept_templates templates ++ (all_unnamed (facts app).directives ++ all_named (facts app).templates)) }
 {
     let mut all = templates;
     let (core, run) = app.begin(&mut all)?;
@@ -40,27 +44,35 @@ fn prepare(alloc: Global, app: App, templates: Templates) -> Result<Works, Memor
     Ok(works)
 }
 
+/// A fault that the linking met is handed over.
+fn tell(works: &mut Works, fault: Option<Fault>)
+    ensures state { state_of works.new ≡ linked_by fault (state_of works.old) }
+    ensures works { WorksAre works.old → WorksAre works.new }
+{
+    match fault {
+        None => {}
+        Some(met) => works.hand_over(met),
+    }
+}
+
 /// Links a page's template on the root scope, and hands the fault over that it meets.
 fn link_page(works: &mut Works, alloc: Global, t: TplId) -> Result<(), Memory>
     requires works { WorksAre works.old }
     requires first { t.0 ≡ 0 }
     requires bare { (state_of works.old).instances ≡ [] }
     requires regular { AllByRecursion (λ k. is_regular k.1 ≡ true) (templates_of works.old) }
-    ensures state { OnOk result ((u : Template) → option_map (λ k. k.1) (slice_get (templates_of works.old) t.0) ≡ Some u → state_of works.new ≡ linked_on u (state_of works.old)) }
+    ensures state { OnOk result (state_of works.new ≡ linked_on (state_of works.old)) }
     ensures works { OnOk result (WorksAre works.new) }
     ensures watched { OnOk result (IsWatched (state_of works.new)) }
     ensures fits { OnOk result (Fits [] (state_of works.new)) }
 {
     let _in_order = works.watchers().count();
     works.core.scopes.sound();
-    let origin = Origin::plain(Home::first(t), 0);
-    let built = link_at(works, alloc, &Place::Top, origin, ScopeId(0))?;
-    if built.room {
-        Ok(())
-    } else {
-        works.hand_over(Fault::NodeLimit);
-        Ok(())
-    }
+    let origin = Origin::plain(Home::first(alloc, t), 0);
+    let outsides = Vec::new(alloc);
+    let built = link_at(works, alloc, &Place::Top, &origin, ScopeId(0), outsides)?;
+    tell(works, built.fault);
+    Ok(())
 }
 
 /// The works of a page whose template was linked.

@@ -17,8 +17,8 @@ ghost use Rattle.ng_link.specs.State as link;
 ghost use Rattle.ng_link.specs.State.{shown, instance, rendering};
 ghost use Rattle.ng_markup.specs.Forest.{Forest as PlainForest, print};
 ghost use Rattle.ng_parse.specs.ProgramOf.{program};
-ghost use Rattle.ng_template.specs.Kept.{fragments_in};
-ghost use Rattle.ng_template.specs.TemplateOf.{template_of};
+ghost use Rattle.ng_compose.specs.Kept.{fragments_in};
+ghost use Rattle.ng_parts.specs.TemplateOf.{template_of};
 ghost use Rattle.ng_view.specs.Purity.{are_pure, all_filters_known};
 ghost use Rattle.ng_page.specs.Answered.{WhenOk};
 ghost use Rattle.ng_control.specs.Typed.{TakesText, IsCheckbox};
@@ -48,8 +48,8 @@ use ng_drawing::instance::Instance;
 use ng_html::forest::Forest;
 use ng_link::works::Works;
 use ng_parse::Program;
+use ng_parts::Tpl;
 use ng_render::render;
-use ng_template::Tpl;
 use serde_json::Value as Json;
 use std::alloc::Global;
 
@@ -402,7 +402,7 @@ impl Page {
         }
     }
 
-    /// The scope of a node: that of the instance to which it belongs.
+    /// The scope of a node: that of the instance to which it belongs, or the inner one of its element.
     pub fn scope_of(&self, n: NodeId) -> ScopeId
         ensures scope { result.0 ≡ scope_of (state_of self.now) n.made.0 }
         ensures there { IsPage self.now → self.now.spent ≡ false → result.0 < length (state_of self.now).core.scopes }

@@ -13,10 +13,10 @@ use Rattle.ng_drawing.specs.RolesOf.{role_of}
 use Rattle.ng_drawing.specs.Template.{Site, Outlet, Contents, Part, Parts, anchor_part, Fragment, no_fragment}
 use Rattle.ng_render.specs.OverOf.{NamesStand, InstanceStands, OutletsStand}
 use Rattle.ng_parse.specs.ProgramOf.{program}
-use Rattle.ng_template.specs.Seen.{contents_step, part_step, parts_step, part_of}
-use Rattle.ng_template.specs.declared.parts.Contents.TheFolds.{fold-roll-Part}
-use Rattle.ng_template.specs.declared.parts.Contents.TheOpen.{Part-F}
-use Rattle.ng_template.specs.declared.parts.Part.TheVariants as variants
+use Rattle.ng_parts.specs.Seen.{contents_step, part_step, parts_step, part_of}
+use Rattle.ng_parts.specs.declared.parts.Contents.TheFolds.{fold-roll-Part}
+use Rattle.ng_parts.specs.declared.parts.Contents.TheOpen.{Part-F}
+use Rattle.ng_parts.specs.declared.parts.Part.TheVariants as variants
 use Rattle.ng_drawing.specs.declared.instance.Instance as code_instance
 use Rattle.ng_drawing.specs.declared.instance.Instances as code_instances
 use Rattle.ng_drawing.specs.declared.instance.Instance.TheViews.{out-Instance, out-Instances}

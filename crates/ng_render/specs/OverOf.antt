@@ -8,7 +8,7 @@ use Rattle.ng_drawing.specs.Instance.{SiteState, KeptNow, Instance, Instances, O
 use Rattle.ng_drawing.specs.InstanceOf.{state_of}
 use Rattle.ng_html.specs.Seen.{forest_of}
 use Rattle.ng_markup.specs.Forest.{Forest, no_nodes}
-use Rattle.ng_template.specs.SiteOf.{site_of}
+use Rattle.ng_parts.specs.SiteOf.{site_of}
 use Rattle.ng_value.specs.Snaps.{snap_of}
 use Rattle.ng_render.specs.declared.over.Known.{Known}
 use Rattle.ng_render.specs.declared.over.Group.{Group}

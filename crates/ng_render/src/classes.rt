@@ -3,7 +3,7 @@ ghost use Rattle.std.specs.Prelude.{Some, map};
 ghost use Rattle.ng_base.specs.Faults.{is_memory};
 ghost use Rattle.ng_base.specs.Meets.{Gives};
 ghost use Rattle.ng_drawing.specs.Drawing.{render_words, render_hiding, render_hidings, render_class};
-ghost use Rattle.ng_template.specs.AttributeOf.{hiding_of, class_of};
+ghost use Rattle.ng_parts.specs.AttributeOf.{hiding_of, class_of};
 ghost use Rattle.ng_render.specs.OverOf.{now_over, Stands};
 
 use crate::over::Over;
@@ -14,7 +14,7 @@ use ng_base::fault::Fault;
 use ng_base::lists::Words;
 use ng_base::txt::Txt;
 use ng_drawing::classes::class_text;
-use ng_template::{ClassValue, Hiding};
+use ng_parts::{ClassValue, Hiding};
 
 /// The words that sites show.
 fn site_words(over: &Over<'_>, numbers: &[u32]) -> Result<Words, Fault>

@@ -9,9 +9,9 @@ ghost use Rattle.ng_value.specs.Snaps.{snap_of};
 use ng_base::fault::Fault;
 use ng_drawing::instance::SiteState;
 use ng_html::forest::Forest;
+use ng_parts::Site;
 use ng_scopes::scopes::Scopes;
 use ng_store::store::Store;
-use ng_template::Site;
 use ng_value::snapshot::Snap;
 use std::alloc::Global;
 

@@ -7,7 +7,7 @@ ghost use Rattle.ng_drawing.specs.Template.{text_part, anchor_part, bound};
 ghost use Rattle.ng_language.specs.Trees.{Trees};
 ghost use Rattle.ng_markup.specs.Forest.{node as one_node, no_nodes};
 ghost use Rattle.ng_html.specs.Seen.{node_of, forest_of};
-ghost use Rattle.ng_template.specs.Seen.{part_of, contents_of, parts_of};
+ghost use Rattle.ng_parts.specs.Seen.{part_of, contents_of, parts_of};
 ghost use Rattle.ng_render.specs.OverOf.{AreKnown, kept_over, now_over, groups_over, Stands};
 
 use crate::groups::{append, group_in};
@@ -17,7 +17,7 @@ use crate::texts::{attributes_text, hole_text, pieces_text};
 use ng_base::fault::Fault;
 use ng_base::txt::Txt;
 use ng_html::forest::{Forest, Node, comment_node, element_node, text_node};
-use ng_template::{Contents, Part, Parts, Pieces};
+use ng_parts::{Contents, Part, Parts, Pieces};
 use std::alloc::{AllocError, Global};
 
 /// What an element's own sites show now, asked in their order.

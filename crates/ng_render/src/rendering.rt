@@ -12,8 +12,8 @@ ghost use Rattle.ng_drawing.specs.Rows.{is_as_called as is_as_called_of, is_incl
 ghost use Rattle.ng_drawing.specs.Instance.{rests_in, outlet_now, outlet_at, rendering, rendering_all, rendering_in, outlets_from};
 ghost use Rattle.ng_drawing.specs.InstanceOf.{state_of, instance_of, group_of as bodies_of, instances_of};
 ghost use Rattle.ng_html.specs.Seen.{forest_of};
-ghost use Rattle.ng_template.specs.Kept.{templates_of, fragments_in};
-ghost use Rattle.ng_template.specs.FragmentOf.{outlet_of, outlets_of, filling_of};
+ghost use Rattle.ng_compose.specs.Kept.{templates_of, fragments_in};
+ghost use Rattle.ng_parts.specs.FragmentOf.{outlet_of, outlets_of, filling_of};
 ghost use Rattle.ng_value.specs.Snaps.{snap_of};
 ghost use Rattle.ng_render.specs.OverOf.{group_of, kept_over, Stands, InstanceStands, InstancesStand, OutletsStand};
 
@@ -23,13 +23,14 @@ use crate::parts::rendered;
 use crate::sites::shown_now;
 use ng_base::fault::{Fault, Memory};
 use ng_base::txt::Txt;
+use ng_compose::Templates;
 use ng_drawing::cases::{has_text, kept_as_text};
 use ng_drawing::instance::{Instance, Instances, SiteState};
 use ng_drawing::roles::{Entry, Role, are_rows, entries_in, is_one_named};
 use ng_html::forest::Forest;
+use ng_parts::{Filling, Outlet};
 use ng_scopes::scopes::Scopes;
 use ng_store::store::Store;
-use ng_template::{Filling, Outlet, Templates};
 use ng_value::operators::truthy;
 use ng_value::snapshot::Snap;
 use std::alloc::{AllocError, Global};
@@ -264,7 +265,7 @@ fn rendered_instance(ground: &Ground<'_>, i: &Instance) -> Result<Option<Forest>
     requires { InstanceStands ground.now.store.now ground.now.scopes.now (instance_of (fragments_in (templates_of ground.now.all.now)) i.now) }
     ensures { Gives is_memory (option_map forest_of) (rendering ground.now.store.now ground.now.scopes.now (instance_of (fragments_in (templates_of ground.now.all.now)) i.now)) result }
 {
-    let Some(whole) = ground.all.whole(ground.alloc, i.origin)? else {
+    let Some(whole) = ground.all.whole(ground.alloc, &i.origin)? else {
         return Ok(Some(Forest::new(ground.alloc)));
     };
     let fragment = whole.fragment();

@@ -1,12 +1,12 @@
 //! What a site has now, and which control's model it is.
-ghost use Rattle.std.specs.Prelude.{◌≡◌, ◌<◌, [], length, map, option_map, option_copied, slice_get, Some, IfOk};
+ghost use Rattle.std.specs.Prelude.{◌≡◌, ◌<◌, ◌||◌, [], length, map, option_map, option_copied, slice_get, Some, IfOk};
 ghost use Rattle.ng_base.specs.Faults.{is_memory};
 ghost use Rattle.ng_base.specs.Meets.{Gives};
 ghost use Rattle.ng_base.specs.ViewOf.{view_of};
-ghost use Rattle.ng_drawing.specs.Instance.{snapshot_now as snapshot_now_of, site_now as site_now_of, state_control};
+ghost use Rattle.ng_drawing.specs.Instance.{is_two_way as is_two_way_of, snapshot_now as snapshot_now_of, site_now as site_now_of, state_control};
 ghost use Rattle.ng_drawing.specs.InstanceOf.{state_of};
 ghost use Rattle.ng_language.specs.Views.{ViewStands};
-ghost use Rattle.ng_template.specs.SiteOf.{site_of};
+ghost use Rattle.ng_parts.specs.SiteOf.{site_of};
 ghost use Rattle.ng_value.specs.Snaps.{snap_of};
 ghost use Rattle.ng_view.specs.Evaluation.{evaluated_program};
 ghost use Rattle.ng_render.specs.OverOf.{kept_over, StateStands, Stands};
@@ -19,8 +19,9 @@ use ng_base::name::Oid;
 use ng_base::view::View;
 use ng_control::Control;
 use ng_drawing::instance::SiteState;
+use ng_drawing::kind::SiteKind;
+use ng_parts::Site;
 use ng_store::store::Store;
-use ng_template::Site;
 use ng_value::copies::copied;
 use ng_value::snapshot::Snap;
 use ng_view::view;
@@ -67,12 +68,33 @@ fn kept_copy(alloc: Global, kept: &Option<Snap>) -> Result<Option<Snap>, Memory>
     }
 }
 
-/// What a site shows: its value now, or where it rests what it has kept.
+/// Whether a site is that of a two-way binding, from which nothing is drawn.
+fn is_two_way(kind: SiteKind) -> bool
+    ensures { result ≡ is_two_way_of kind }
+{
+    match kind {
+        SiteKind::Text => false,
+        SiteKind::Words => false,
+        SiteKind::Reference => false,
+        SiteKind::Collection => false,
+        SiteKind::Deep => false,
+        SiteKind::TwoWay => true,
+    }
+}
+
+/// Whether a site shows what it has kept: one that rests, or that of a two-way binding.
+fn shows_kept(site: &Site, state: &SiteState) -> bool
+    ensures { result ≡ ((state_of state.now).rests || is_two_way_of (site_of site.now).kind) }
+{
+    state.rests || is_two_way(site.kind())
+}
+
+/// What a site shows: its value now, or where it rests, or is that of a two-way binding, what it has kept.
 fn site_now(over: &Over<'_>, site: &Site, state: &SiteState) -> Result<Option<Snap>, Fault>
     requires { StateStands over.now.store.now over.now.scopes.now (state_of state.now) }
     ensures { Gives is_memory (λ s. Some (option_map snap_of s)) (site_now_of over.now.store.now over.now.scopes.now (Some (site_of site.now)) (Some (state_of state.now))) result }
 {
-    if state.rests {
+    if shows_kept(site, state) {
         return Ok(kept_copy(over.alloc, &state.kept)?);
     }
     let object = over.scopes.object(state.scope);

@@ -68,5 +68,6 @@ pub(crate) fn snapshot(
         SiteKind::Reference => snap(alloc, SnapKind::Reference, store, value),
         SiteKind::Collection => snap(alloc, SnapKind::Collection, store, value),
         SiteKind::Deep => snap(alloc, SnapKind::Deep, store, value),
+        SiteKind::TwoWay => snap(alloc, SnapKind::Reference, store, value),
     }
 }

@@ -5,8 +5,8 @@ ghost use Rattle.ng_base.specs.Meets.{Gives};
 ghost use Rattle.ng_drawing.specs.Drawing.{render_piece, render_pieces, render_value, render_attributes};
 ghost use Rattle.ng_drawing.specs.Template.{hole, flag};
 ghost use Rattle.ng_markup.specs.Attributes.{if_any as if_any_of, with_value};
-ghost use Rattle.ng_template.specs.AttributeOf.{value_of};
-ghost use Rattle.ng_template.specs.PieceOf.{piece_of};
+ghost use Rattle.ng_parts.specs.AttributeOf.{value_of};
+ghost use Rattle.ng_parts.specs.PieceOf.{piece_of};
 ghost use Rattle.ng_render.specs.OverOf.{now_over, Stands};
 
 use crate::classes::class_now;
@@ -16,7 +16,7 @@ use crate::sites::shown_now;
 use ng_base::fault::Fault;
 use ng_base::txt::Txt;
 use ng_html::attrs::Attrs;
-use ng_template::{AttributeValue, Attributes, Piece, Pieces};
+use ng_parts::{AttributeValue, Attributes, Piece, Pieces};
 use std::alloc::{AllocError, Global};
 use std::collections::BTreeMap;
 

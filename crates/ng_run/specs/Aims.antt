@@ -11,7 +11,7 @@ use Rattle.ng_script.specs.Acts.{Act, click_on, fire_at, type_into, check_at, ev
 use Rattle.ng_script.specs.declared.commands.ScopeOf.{ScopeOf}
 use Rattle.ng_script.specs.declared.commands.ScopeOf.TheVariants as scope
 
--- the scope that a command is aimed at: that of an element is the scope of the instance to which its node belongs
+-- the scope that a command is aimed at: that of an element is its own, which is that of the instance to which its node belongs unless its directives made one
 abbrev pub scope_in : ScopeOf → State → Option ℕ
 scope_in scope.Root s = Some 0
 scope_in (scope.Node t) s = option_map (scope_of s) (target_in t (named s))

@@ -3,12 +3,13 @@ use Rattle.std.proofs.Common.{◌≡◌, ◌<◌, ◌≤◌, ◌⊎◌, inl, inr
 use Rattle.std.proofs.lemmas.Bool.{and_parts, and_from}
 use Rattle.std.specs.Prelude.{◌&&◌, ◌==◌, not}
 use Rattle.std.specs.List.{AllByRecursion, list_all}
-use Rattle.ng_drawing.specs.Template.{Outlet, PartAttributes, Part, Parts}
-use Rattle.ng_template.specs.Compiles.{Switch, switch_in}
-use Rattle.ng_template.specs.Numbering.{is_within, is_apart, are_drawn, after_part, after_parts, part_draws, parts_draw}
-use Rattle.ng_template.proofs.Drawn.{apart_from, is_bound_within, within_parts, within_from, apart_parts, apart_make}
-use Rattle.ng_template.proofs.Numbers.{attributes_more, part_more, parts_more}
-use Rattle.ng_template.proofs.Ranges.{part_within, parts_within}
+use Rattle.ng_drawing.specs.Template.{Outlet, PartAttributes, Part, Contents, Parts}
+use Rattle.ng_elements.specs.Elements.{Switch, switch_in}
+use Rattle.ng_parts.specs.Numbering.{is_within, is_apart, are_drawn, after_part, after_parts, part_draws, contents_draw, parts_draw}
+use Rattle.ng_parts.proofs.Within.{apart_from, within_parts, within_from, apart_parts, apart_make}
+use Rattle.ng_template.proofs.Drawn.{is_bound_within}
+use Rattle.ng_parts.proofs.More.{all_more, attributes_more, part_more, contents_more, parts_more}
+use Rattle.ng_parts.proofs.Ranges.{part_within, parts_within}
 
 -- the site of the switch round something is one of so many
 abbrev pub IsInside : Switch → ℕ → Type 0
@@ -95,6 +96,28 @@ module _ (n c b : ℕ) (ats : PartAttributes) (ps : Parts) (w outer : Switch) (l
           apart_both x.site
               (attributes_more (apart_from None w n c) (is_apart x.site n b) (λ k f. below_apart x.site n c b lo up k (apart_parts n c None w k f).0) ats drawn)
               (parts_more (is_apart x.site c b) (is_apart x.site n b) (apart_wider x.site n c b b l (omega arith)) ps h.1.1),
+        ),
+      )
+
+-- and so is an element, whose bindings have numbers from a lower one on
+module _ (from n b : ℕ) (bs : List ℕ) (ats : PartAttributes) (p : Contents) (outer : Switch) (low : from ≤ n) (up : n ≤ b) (within : list_all (is_within from n) bs ≡ true) where
+  abbrev of_element : (ℕ → Bool) → Bool
+  of_element test = list_all test bs && (are_drawn test ats && contents_draw test p)
+
+  pub apart_element : (x : Outlet) → Apart outer n b (λ test. are_drawn test ats && contents_draw test p) x → Apart outer from b of_element x
+  apart_element x (inl e) = inl e
+  apart_element x (inr h) =
+      let at : n ≤ x.site = h.0 in
+      let wider : (k : ℕ) → is_apart x.site n b k ≡ true → is_apart x.site from b k ≡ true = apart_wider x.site from n b b low (omega arith) in
+      let both = and_parts (are_drawn (is_apart x.site n b) ats) (contents_draw (is_apart x.site n b) p) h.1.1 in
+      inr (
+        omega (arith, low, at),
+        (
+          h.1.0,
+          and_from (list_all (is_apart x.site from b) bs) (are_drawn (is_apart x.site from b) ats && contents_draw (is_apart x.site from b) p)
+              (all_more (is_within from n) (is_apart x.site from b) (below_apart x.site from n b at up) bs within)
+              (and_from (are_drawn (is_apart x.site from b) ats) (contents_draw (is_apart x.site from b) p) (attributes_more (is_apart x.site n b) (is_apart x.site from b) wider ats both.0)
+              (contents_more (is_apart x.site n b) (is_apart x.site from b) wider p both.1)),
         ),
       )
 

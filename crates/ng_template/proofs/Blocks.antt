@@ -14,17 +14,18 @@ use Rattle.ng_interp.specs.Parts.{Piece}
 use Rattle.ng_interp.specs.declared.pieces.InterpFault.{InterpFault}
 use Rattle.ng_language.specs.Trees.{Trees}
 use Rattle.ng_markup.specs.Forest.{Node}
-use Rattle.ng_template.specs.Around.{attributes_in, picks_in, at_place, checked_as, checked, block_priority, Inside, is_plain, has_picks, has_template, Block, block_for, block_with, kind_of_block, names_template, templated, inside_in, Heads, checked_program, whole_heads, for_heads, start_heads, a_case, a_start, a_repeat, a_block, before_of, head_by, head_at, heads_from, head_onto, heads_onto, starts_in, Around, case_at, cases_in, switched, heads_of, Found, first_case, found_after, with_found, bare_around, around_these, around_picks, around_below, block_room, around_node}
-use Rattle.ng_template.specs.Compiles.{Made, Switch, Outermost, rounds, begun_body, wrapped, in_rounds, node_made}
-use Rattle.ng_template.specs.Directives.{text_on, whole}
-use Rattle.ng_template.specs.Free.{is_tpl_want}
-use Rattle.ng_template.specs.Manners.{are_built, any_makes_plain}
-use Rattle.ng_template.specs.Programs.{program_in, judged_program}
+use Rattle.ng_template.specs.Around.{attributes_in, picks_in, at_place, checked_as, checked, block_priority, Inside, is_plain, has_picks, has_template, Block, block_for, block_with, kind_of_block, names_template, templated, inside_in, Heads, checked_program, whole_heads, for_heads, start_heads, a_case, a_start, a_repeat, a_block, before_of, head_by, head_at, heads_from, head_onto, heads_onto, starts_in, Around, case_at, cases_in, switched, heads_of, Found, first_case, found_after, with_found, bare_around, around_these, is_orphan, around_picks, around_below, block_room, around_node}
+use Rattle.ng_elements.specs.Elements.{Made, Switch}
+use Rattle.ng_template.specs.Compiles.{Outermost, rounds, begun_body, wrapped, in_rounds, node_made}
+use Rattle.ng_directives.specs.Directives.{text_on, whole}
+use Rattle.ng_directives.specs.Free.{is_tpl_want}
+use Rattle.ng_directives.specs.Manners.{any_makes_plain}
+use Rattle.ng_directives.specs.Programs.{program_in, judged_program}
 use Rattle.ng_template.specs.Repeating.{repeat_in}
-use Rattle.ng_template.specs.Texts.{refused, wrong, judged_as, judged, sites_in}
-use Rattle.ng_template.specs.declared.fault.TplFault.{TplFault}
-use Rattle.ng_template.specs.declared.fault.TplKind.{TplKind}
-use Rattle.ng_template.specs.declared.fault.TplKind.TheVariants.{Later, UnknownFilter}
+use Rattle.ng_directives.specs.Texts.{refused, wrong, judged_as, judged, sites_in}
+use Rattle.ng_directives.specs.declared.fault.TplFault.{TplFault}
+use Rattle.ng_directives.specs.declared.fault.TplKind.{TplKind}
+use Rattle.ng_directives.specs.declared.fault.TplKind.TheVariants.{Orphan, UnknownFilter}
 use Rattle.ng_view.specs.Purity.{all_filters_known}
 
 -- what is judged of a text is what it is checked for
@@ -273,21 +274,21 @@ plain-in bs = by (list_any names_template bs)
 after-plain : (f : Found) → with_found f (bare_around is_plain) ≡ around_with f is_plain
 after-plain f = after-bare f is_plain ∙ ap (around_with f) (plain-in f.1)
 
-module _ (place : ℕ) (defs : List DirectiveDef) (n : Node) where
+module _ (place : ℕ) (defs : List DirectiveDef) (slots : Bool) (n : Node) where
   abbrev pub rest : Found → Bool → ℕ → Option ℤ → Result Around TplFault
-  rest f has_switch room limit = at_place place (around_after f (around_below room defs has_switch limit n))
+  rest f has_switch room limit = at_place place (around_after f (around_below room defs slots has_switch limit n))
 
-  pub first-stage : (f : Found) (has_switch : Bool) (room : ℕ) → f ≡ (None, []) → room ≡ block_room → rest f has_switch room None ≡ at_place place (around_node defs has_switch n)
+  pub first-stage : (f : Found) (has_switch : Bool) (room : ℕ) → f ≡ (None, []) → room ≡ block_room → rest f has_switch room None ≡ at_place place (around_node defs slots has_switch n)
   first-stage f has_switch room none all =
       ap (λ g. rest g has_switch room None) none
-      ∙ (ap (at_place place) (after-none (around_below room defs has_switch None n)) ∙ ap (λ k. at_place place (around_below k defs has_switch None n)) all)
+      ∙ (ap (at_place place) (after-none (around_below room defs slots has_switch None n)) ∙ ap (λ k. at_place place (around_below k defs slots has_switch None n)) all)
 
   pub last-stage : (f : Found) (has_switch : Bool) (room : ℕ) (limit : Option ℤ) → room ≡ 0 → rest f has_switch room limit ≡ Ok (around_with f is_plain)
   last-stage f has_switch room limit none = ap (λ k. rest f has_switch k limit) none ∙ ap Ok (after-plain f)
 
   module _ (f : Found) (has_switch : Bool) (room k : ℕ) (limit : Option ℤ) (more : room ≡ suc k) where
     abbrev below : ℤ → Result Around TplKind
-    below l = around_below k defs false (Some l) n
+    below l = around_below k defs slots false (Some l) n
 
     abbrev picks_here : Result (List Pick) TplKind
     picks_here = picks_in (attributes_in n) (collected defs limit n)
@@ -295,46 +296,46 @@ module _ (place : ℕ) (defs : List DirectiveDef) (n : Node) where
     pub picks-refused : (e : TplFault) → at_place place picks_here ≡ Err e → rest f has_switch room limit ≡ Err e
     picks-refused e h =
         ap (λ j. rest f has_switch j limit) more
-        ∙ refused_first place (picks_here >>= λ ps. around_picks has_switch ps below) (λ a. Ok (with_found f a)) e (refused_first place picks_here (λ ps. around_picks has_switch ps below) e h)
+        ∙ refused_first place (picks_here >>= λ ps. around_picks slots has_switch ps below) (λ a. Ok (with_found f a)) e (refused_first place picks_here (λ ps. around_picks slots has_switch ps below) e h)
 
     module _ (ps : List Pick) (read : at_place place picks_here ≡ Ok ps) where
       abbrev picked : Bool → Bool → Option ℤ → Result Around TplFault
-      picked plain built o = at_place place (around_after f (cond plain (Ok (bare_around is_plain)) (cond built (around_these has_switch ps o below) (Err Later))))
+      picked plain orphan o = at_place place (around_after f (cond plain (Ok (bare_around is_plain)) (cond orphan (Err Orphan) (around_these has_switch ps o below))))
 
-      stage : rest f has_switch room limit ≡ picked (any_makes_plain ps) (are_built ps) (block_priority ps)
+      stage : rest f has_switch room limit ≡ picked (any_makes_plain ps) (is_orphan slots ps) (block_priority ps)
       stage =
           ap (λ j. rest f has_switch j limit) more
-          ∙ ap (λ r. at_place place (around_after f (r >>= λ qs. around_picks has_switch qs below))) (placed_ok place picks_here ps read)
+          ∙ ap (λ r. at_place place (around_after f (r >>= λ qs. around_picks slots has_switch qs below))) (placed_ok place picks_here ps read)
 
       pub plain-stage : any_makes_plain ps ≡ true → rest f has_switch room limit ≡ Ok (around_with f is_plain)
-      plain-stage plain = stage ∙ (ap (λ b. picked b (are_built ps) (block_priority ps)) plain ∙ ap Ok (after-plain f))
+      plain-stage plain = stage ∙ (ap (λ b. picked b (is_orphan slots ps) (block_priority ps)) plain ∙ ap Ok (after-plain f))
 
       module _ (plain : any_makes_plain ps ≡ false) where
-        read_stage : (b : Bool) → are_built ps ≡ b → rest f has_switch room limit ≡ picked false b (block_priority ps)
-        read_stage b built = stage ∙ (ap (λ c. picked c (are_built ps) (block_priority ps)) plain ∙ ap (λ c. picked false c (block_priority ps)) built)
+        read_stage : (b : Bool) → is_orphan slots ps ≡ b → rest f has_switch room limit ≡ picked false b (block_priority ps)
+        read_stage b built = stage ∙ (ap (λ c. picked c (is_orphan slots ps) (block_priority ps)) plain ∙ ap (λ c. picked false c (block_priority ps)) built)
 
-        pub later-stage : are_built ps ≡ false → rest f has_switch room limit ≡ Err (refused Later place)
-        later-stage built = read_stage false built
+        pub orphan-stage : is_orphan slots ps ≡ true → rest f has_switch room limit ≡ Err (refused Orphan place)
+        orphan-stage orphan = read_stage true orphan
 
-        pub inner-stage : are_built ps ≡ true → block_priority ps ≡ None → rest f has_switch room limit ≡ Ok (around_with f (inside_in f.1 (has_picks ps)))
-        inner-stage built none = read_stage true built ∙ (ap (picked false true) none ∙ ap Ok (after-bare f (has_picks ps)))
+        pub inner-stage : is_orphan slots ps ≡ false → block_priority ps ≡ None → rest f has_switch room limit ≡ Ok (around_with f (inside_in f.1 (has_picks ps)))
+        inner-stage built none = read_stage false built ∙ (ap (picked false false) none ∙ ap Ok (after-bare f (has_picks ps)))
 
-        pub last-found : are_built ps ≡ true → (o : Option ℤ) → o ≡ block_priority ps → is_none o ≡ true → rest f has_switch room limit ≡ Ok (around_with f (inside_in f.1 (has_picks ps)))
+        pub last-found : is_orphan slots ps ≡ false → (o : Option ℤ) → o ≡ block_priority ps → is_none o ≡ true → rest f has_switch room limit ≡ Ok (around_with f (inside_in f.1 (has_picks ps)))
         last-found built None is none = inner-stage built (sym is)
         last-found built (Some l) is none = absurd (cc)
 
-        pub block-stage : are_built ps ≡ true → (o : Option ℤ) → o ≡ block_priority ps → is_none o ≡ false → (now : Found) → at_place place (found_after f has_switch ps) ≡ Ok now
+        pub block-stage : is_orphan slots ps ≡ false → (o : Option ℤ) → o ≡ block_priority ps → is_none o ≡ false → (now : Found) → at_place place (found_after f has_switch ps) ≡ Ok now
             → rest now false k o ≡ rest f has_switch room limit
         block-stage built None some is now e = absurd (cc)
         block-stage built (Some l) some is now e =
-            sym (read_stage true built ∙ (ap (picked false true) (sym some)
+            sym (read_stage false built ∙ (ap (picked false false) (sym some)
             ∙ these-after place f now (found_after (None, []) has_switch ps) (below l) (ap (at_place place) (sym (found-joined f has_switch ps)) ∙ e)))
 
-        pub heads-stage : are_built ps ≡ true → (o : Option ℤ) → o ≡ block_priority ps → is_none o ≡ false → (e : TplFault) → at_place place (found_after f has_switch ps) ≡ Err e → rest f has_switch room limit ≡ Err e
+        pub heads-stage : is_orphan slots ps ≡ false → (o : Option ℤ) → o ≡ block_priority ps → is_none o ≡ false → (e : TplFault) → at_place place (found_after f has_switch ps) ≡ Err e → rest f has_switch room limit ≡ Err e
         heads-stage built None some is e h = absurd (cc)
         heads-stage built (Some l) some is e h =
-            read_stage true built
-            ∙ (ap (picked false true) (sym some) ∙ these-refused place f (found_after (None, []) has_switch ps) (below l) e (ap (at_place place) (sym (found-joined f has_switch ps)) ∙ h))
+            read_stage false built
+            ∙ (ap (picked false false) (sym some) ∙ these-refused place f (found_after (None, []) has_switch ps) (below l) e (ap (at_place place) (sym (found-joined f has_switch ps)) ∙ h))
 
 -- the programs of a directive, of which nothing is known but what the call said
 pub gives-started : {A : Type 0} (place : ℕ) (before : List Block) (starts : List Trees) (p : Pick) → before_of p.directive ≡ a_start → (seen : A → List Trees) (r : Result A TplFault)

@@ -1,10 +1,9 @@
 -- What an element's directives set is drawn from the element's own sites.
-use Rattle.std.proofs.Common.{◌≡◌, ◌<◌, ◌≤◌, ◌+◌, ℕ, Bool, true, false, cond, List, [], ◌∷◌, ◌++◌, length, Option, None, Some, Result, Ok, Err, refl, ap, sym, subst, ◌∙◌, length-append, arith}
-use Rattle.std.proofs.lemmas.Bool.{and_parts, and_from, leb-true, le-leb, ltb-true, lt-ltb, ne_eqb, not_from_false}
-use Rattle.std.proofs.lemmas.List.Folds.{list_all-append}
+use Rattle.std.proofs.Common.{◌≡◌, ◌<◌, ◌≤◌, ◌+◌, ℕ, Bool, true, false, cond, List, [], ◌∷◌, ◌++◌, length, Option, None, Some, Result, Ok, Err, refl, ap, sym, subst, length-append, arith}
+use Rattle.std.proofs.lemmas.Bool.{and_parts, and_from, ne_eqb, not_from_false}
 use Rattle.std.specs.List.{list_all}
 use Rattle.std.specs.Map.{lookup}
-use Rattle.std.specs.Prelude.{◌&&◌, ◌==◌, not, nat_le, nat_lt, option_map, codes}
+use Rattle.std.specs.Prelude.{◌&&◌, ◌==◌, not, option_map, codes}
 use Rattle.std.specs.Str.{bytes_eq}
 use Rattle.ng_base.specs.Meets.{◌>>=◌}
 use Rattle.ng_base.proofs.Binds.{if_held}
@@ -12,7 +11,7 @@ use Rattle.ng_collect.specs.Cloak.{kept_attributes}
 use Rattle.ng_collect.specs.declared.pick.Pick.{Pick}
 use Rattle.ng_control.specs.declared.kind.ControlKind.{ControlKind}
 use Rattle.ng_control.specs.declared.kind.ControlKind.TheVariants as controls
-use Rattle.ng_drawing.specs.Template.{Site, Control, Hiding, while_true, while_false, PartClass, PartAttributes, always, classes}
+use Rattle.ng_drawing.specs.Template.{Control, Hiding, while_true, while_false, PartClass, PartAttributes, always, classes}
 use Rattle.ng_drawing.specs.Template as template
 use Rattle.ng_drawing.specs.declared.kind.SiteKind.{SiteKind}
 use Rattle.ng_drawing.specs.declared.kind.SiteKind.TheVariants as kinds
@@ -21,26 +20,19 @@ use Rattle.ng_interp.specs.declared.pieces.InterpFault.{InterpFault}
 use Rattle.ng_language.specs.OneTime.{one_time_of}
 use Rattle.ng_language.specs.Trees.{Trees}
 use Rattle.ng_markup.specs.Forest.{Attributes}
-use Rattle.ng_template.specs.Compiles.{class_with, bare}
-use Rattle.ng_template.specs.Directives.{Head, name_on, text_on, whole, parts_for, kind_for, set_by, class_by, bound_by, switch_by, with_parts, with_model, changed_more, with_change, is_classed, class_setting, control_attribute, control_setting, with_states, attributes_of}
-use Rattle.ng_template.specs.Manners.{target_of}
-use Rattle.ng_template.specs.Plain.{plain_values}
-use Rattle.ng_template.specs.Numbering.{is_within, is_apart, is_piece_drawn, is_hiding_drawn, is_class_drawn, is_value_drawn, are_drawn}
-use Rattle.ng_template.specs.Texts.{numbered, sites_in}
-use Rattle.ng_template.specs.Writing.{is_named_piece, not_named, named_only}
-use Rattle.ng_template.specs.declared.manners.Setting.{Setting}
-use Rattle.ng_template.specs.declared.manners.Setting.TheVariants.{Interpolates, Links, Switches, Binds, Classes, Shows, Hides, Chooses, Names}
-use Rattle.ng_template.proofs.Numbers.{numbered-drawn, class_more, attributes_more}
-
--- whether a number is not this one
-abbrev pub is_not : Option ℕ → ℕ → Bool
-is_not None k = true
-is_not (Some b) k = not (k == b)
-
--- Whether a number is one from n on, below c, but neither that of the site whose text stands in place of the children nor that of the one that
--- chooses among cases.
-abbrev pub apart_from : Option ℕ → Option ℕ → ℕ → ℕ → ℕ → Bool
-apart_from o w n c k = is_within n c k && (is_not o k && is_not w k)
+use Rattle.ng_elements.specs.Elements.{class_with, bare_with}
+use Rattle.ng_directives.specs.Directives.{Head, name_on, text_on, whole, parts_for, kind_for, set_by, class_by, bound_by, switch_by, with_parts, with_model, changed_more, with_change, is_classed, class_setting, control_attribute, control_setting, with_states, attributes_of}
+use Rattle.ng_directives.specs.Manners.{target_of}
+use Rattle.ng_elements.specs.Plain.{plain_values}
+use Rattle.ng_parts.specs.Numbering.{is_within, is_apart, is_piece_drawn, is_hiding_drawn, is_class_drawn, is_value_drawn, are_drawn}
+use Rattle.ng_directives.specs.Texts.{numbered, sites_in}
+use Rattle.ng_elements.specs.Using.{Asked}
+use Rattle.ng_directives.specs.Writing.{is_named_piece, not_named, named_only}
+use Rattle.ng_directives.specs.declared.manners.Setting.{Setting}
+use Rattle.ng_directives.specs.declared.manners.Setting.TheVariants.{Interpolates, Links, Switches, Binds, Classes, Shows, Hides, Chooses, Names}
+use Rattle.ng_parts.proofs.More.{class_more, attributes_more}
+use Rattle.ng_template.proofs.HoleNumbers.{numbered-drawn}
+use Rattle.ng_parts.proofs.Within.{apart_from, is_not, within_parts, within_from, apart_parts, apart_whole, both_all}
 
 abbrev pub is_bound_within : ℕ → ℕ → Option ℕ → Bool
 is_bound_within n c None = true
@@ -60,31 +52,8 @@ pub record Drawn (n : ℕ) (h : Head) : Type 0 where
   pub class : is_class_drawn (apart_from h.bound h.switch n (length h.sites)) h.class ≡ true
   pub control : is_control_drawn (apart_from h.bound h.switch n (length h.sites)) h.acts.control ≡ true
 
-pub both_all : {A : Type 0} (p : A → Bool) (xs ys : List A) → list_all p xs ≡ true → list_all p ys ≡ true → list_all p (xs ++ ys) ≡ true
-both_all p xs ys e h = list_all-append p xs ys ∙ and_from (list_all p xs) (list_all p ys) e h
-
 pub one : {A : Type 0} (p : A → Bool) (x : A) → p x ≡ true → list_all p (x ∷ []) ≡ true
 one p x e = and_from (p x) true e refl
-
-module _ (n c : ℕ) where
-  pub within_parts : (k : ℕ) → is_within n c k ≡ true → (n ≤ k) × (k < c)
-  within_parts k e = let h = and_parts (nat_le n k) (nat_lt k c) e in (leb-true n k h.0, ltb-true k c h.1)
-
-  pub within_from : (k : ℕ) → n ≤ k → k < c → is_within n c k ≡ true
-  within_from k l u = and_from (nat_le n k) (nat_lt k c) (le-leb n k l) (lt-ltb k c u)
-
-  pub apart_make : (b k : ℕ) → n ≤ k → k < c → (k ≡ b → ⊥) → is_apart b n c k ≡ true
-  apart_make b k l u ne = and_from (is_within n c k) (not (k == b)) (within_from k l u) (not_from_false (k == b) (ne_eqb k b ne))
-
-  module _ (o w : Option ℕ) (k : ℕ) where
-    pub apart_parts : apart_from o w n c k ≡ true → (is_within n c k ≡ true) × ((is_not o k ≡ true) × (is_not w k ≡ true))
-    apart_parts e =
-        let h = and_parts (is_within n c k) (is_not o k && is_not w k) e in
-        let g = and_parts (is_not o k) (is_not w k) h.1 in
-        (h.0, (g.0, g.1))
-
-    pub apart_whole : is_within n c k ≡ true → is_not o k ≡ true → is_not w k ≡ true → apart_from o w n c k ≡ true
-    apart_whole e f g = and_from (is_within n c k) (is_not o k && is_not w k) e (and_from (is_not o k) (is_not w k) f g)
 
 -- a number that is none from a bound on is not the number there
 not_above : (c k : ℕ) → k < c → is_not (Some c) k ≡ true
@@ -313,13 +282,13 @@ class_with_drawn : (test : ℕ → Bool) (o : Option (List ℕ)) → is_class_dr
 class_with_drawn test None = refl
 class_with_drawn test (Some t) = refl
 
-pub bare_drawn : (kind : ControlKind) (ats : Attributes) (sites : List Site) → Drawn (length sites) (bare kind ats sites)
-bare_drawn kind ats sites = record {
+pub bare_drawn : (kind : ControlKind) (ats : Attributes) (a : Asked) → Drawn (length a.sites) (bare_with kind ats a)
+bare_drawn kind ats a = record {
   least = omega arith;
   bound = refl;
   switch = refl;
-  attributes = plain_drawn (apart_from None None (length sites) (length sites)) (kept_attributes ats);
-  class = class_with_drawn (apart_from None None (length sites) (length sites)) (lookup (λ n. bytes_eq n (codes "class")) (kept_attributes ats));
+  attributes = plain_drawn (apart_from None None (length a.sites) (length a.sites)) (kept_attributes ats);
+  class = class_with_drawn (apart_from None None (length a.sites) (length a.sites)) (lookup (λ n. bytes_eq n (codes "class")) (kept_attributes ats));
   control = refl;
 }
 

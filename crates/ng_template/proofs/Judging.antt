@@ -5,11 +5,11 @@ use Rattle.ng_interp.specs.declared.pieces.InterpFault.{InterpFault}
 use Rattle.ng_language.specs.Trees.{Trees}
 use Rattle.ng_view.specs.Purity.{all_filters_known}
 use Rattle.ng_template.specs.Order.{text_refusal}
-use Rattle.ng_template.specs.Programs.{program_refusal, judged_program}
-use Rattle.ng_template.specs.Texts.{refused, wrong, judged_as, judged}
-use Rattle.ng_template.specs.declared.fault.TplFault.{TplFault}
-use Rattle.ng_template.specs.declared.fault.TplKind.{TplKind}
-use Rattle.ng_template.specs.declared.fault.TplKind.TheVariants.{UnknownFilter}
+use Rattle.ng_directives.specs.Programs.{program_refusal, judged_program}
+use Rattle.ng_directives.specs.Texts.{refused, wrong, judged_as, judged}
+use Rattle.ng_directives.specs.declared.fault.TplFault.{TplFault}
+use Rattle.ng_directives.specs.declared.fault.TplKind.{TplKind}
+use Rattle.ng_directives.specs.declared.fault.TplKind.TheVariants.{UnknownFilter}
 
 -- parts of a text with which nothing is wrong, or what is wrong, at its place
 pub data Judged (place : ℕ) (r : Result (List Piece) InterpFault) : Result (List Piece) TplFault → Type 0 where

@@ -6,10 +6,10 @@ use Rattle.ng_collect.specs.declared.definition.DirectiveDef.{DirectiveDef}
 use Rattle.ng_collect.specs.declared.pick.Pick.{Pick}
 use Rattle.ng_drawing.specs.Cases.{Case}
 use Rattle.ng_markup.specs.Forest.{Node}
-use Rattle.ng_template.specs.Around.{attributes_in, picks_in, block_priority, is_plain, has_picks, Block, Around, cases_in, switched, heads_of, Found, first_case, found_after, with_found, bare_around, around_these, around_picks, around_below, block_room, around_node}
-use Rattle.ng_template.specs.Manners.{are_built, any_makes_plain}
-use Rattle.ng_template.specs.declared.fault.TplKind.{TplKind}
-use Rattle.ng_template.specs.declared.fault.TplKind.TheVariants.{Later}
+use Rattle.ng_template.specs.Around.{attributes_in, picks_in, block_priority, is_plain, has_picks, Block, Around, cases_in, switched, heads_of, Found, first_case, found_after, with_found, bare_around, around_these, is_orphan, around_picks, around_below, block_room, around_node}
+use Rattle.ng_directives.specs.Manners.{any_makes_plain}
+use Rattle.ng_directives.specs.declared.fault.TplKind.{TplKind}
+use Rattle.ng_directives.specs.declared.fault.TplKind.TheVariants.{Orphan}
 
 -- what answers with this has it without a case
 abbrev NoCase : Result Around TplKind → Type 0
@@ -43,22 +43,22 @@ picks_none : (r : Result (List Pick) TplKind) (go : List Pick → Result Around 
 picks_none (Ok ps) go all a e = all ps a e
 picks_none (Err kind) go all a e = absurd (cc)
 
-module _ (defs : List DirectiveDef) (n : Node) where
+module _ (defs : List DirectiveDef) (slots : Bool) (n : Node) where
   abbrev below : ℕ → ℤ → Result Around TplKind
-  below room l = around_below room defs false (Some l) n
+  below room l = around_below room defs slots false (Some l) n
 
-  by_plain : (room : ℕ) → ((l : ℤ) → NoCase (below room l)) → (ps : List Pick) (plain built : Bool) (o : Option ℤ)
-      → NoCase (cond plain (Ok (bare_around is_plain)) (cond built (around_these false ps o (below room)) (Err Later)))
-  by_plain room go ps true built o = bare_none _ (bare_around is_plain) refl refl
-  by_plain room go ps false true None = bare_none _ (bare_around (has_picks ps)) refl refl
-  by_plain room go ps false true (Some l) = these_none (found_after (None, []) false ps) (below room l) (λ f e. none_found (cases_in ps) ps f e) (go l)
-  by_plain room go ps false false o = λ a e. absurd (cc)
+  by_plain : (room : ℕ) → ((l : ℤ) → NoCase (below room l)) → (ps : List Pick) (plain orphan : Bool) (o : Option ℤ)
+      → NoCase (cond plain (Ok (bare_around is_plain)) (cond orphan (Err Orphan) (around_these false ps o (below room))))
+  by_plain room go ps true orphan o = bare_none _ (bare_around is_plain) refl refl
+  by_plain room go ps false false None = bare_none _ (bare_around (has_picks ps)) refl refl
+  by_plain room go ps false false (Some l) = these_none (found_after (None, []) false ps) (below room l) (λ f e. none_found (cases_in ps) ps f e) (go l)
+  by_plain room go ps false true o = λ a e. absurd (cc)
 
-  below_none : (room : ℕ) (limit : Option ℤ) → NoCase (around_below room defs false limit n)
+  below_none : (room : ℕ) (limit : Option ℤ) → NoCase (around_below room defs slots false limit n)
   below_none zero limit = bare_none _ (bare_around is_plain) refl refl
   below_none (suc room) limit =
-      picks_none (picks_in (attributes_in n) (collected defs limit n)) (λ ps. around_picks false ps (below room))
-      (λ ps. by_plain room (λ l. below_none room (Some l)) ps (any_makes_plain ps) (are_built ps) (block_priority ps))
+      picks_none (picks_in (attributes_in n) (collected defs limit n)) (λ ps. around_picks slots false ps (below room))
+      (λ ps. by_plain room (λ l. below_none room (Some l)) ps (any_makes_plain ps) (is_orphan slots ps) (block_priority ps))
 
-  pub no_case : NoCase (around_node defs false n)
+  pub no_case : NoCase (around_node defs slots false n)
   no_case = below_none block_room None

@@ -1,7 +1,7 @@
 -- Nodes of a list, compiled one after another.
 use Rattle.std.proofs.Common.{◌≡◌, ◌<◌, ◌≤◌, ℕ, ◌+◌, List, map, drop, get_or, length, refl, ap, sym, ◌∙◌}
 use Rattle.std.proofs.lemmas.List.{at_drop_more, drop_all}
-use Rattle.std.specs.Prelude.{Result, Ok, Err}
+use Rattle.std.specs.Prelude.{Bool, Result, Ok, Err}
 use Rattle.ng_base.specs.Meets.{◌>>=◌}
 use Rattle.ng_collect.specs.declared.definition.DirectiveDef.{DirectiveDef}
 use Rattle.ng_html.specs.Seen.{node_step, forest_step, node_of, forest_of}
@@ -11,28 +11,17 @@ use Rattle.ng_html.specs.declared.forest.Node.TheOpen.{Node-F}
 use Rattle.ng_html.specs.declared.forest.Node.TheVariants as variants
 use Rattle.ng_markup.specs.Forest.{Node, Forest, element, forest_from}
 use Rattle.ng_drawing.specs.Template.{Part, Parts, no_parts, part_then, with_part}
-use Rattle.ng_template.specs.Compiles.{Made, Switch, compiled_node, compiled_forest}
-use Rattle.ng_template.specs.declared.fault.TplFault.{TplFault}
+use Rattle.ng_elements.specs.Elements.{Made, Switch}
+use Rattle.ng_template.specs.Compiles.{compiled_node, compiled_forest}
+use Rattle.ng_directives.specs.declared.fault.TplFault.{TplFault}
+use Rattle.ng_parts.proofs.Joined.{joined, joined-one, joined-none}
 
 -- an element of the code
 pub node_element : (name : List ℕ) (ats : _) (kids : _) → node_of (variants.Element name ats kids) ≡ element name ats (forest_of kids)
 node_element name ats kids = ap node_of (sym (variants.rolls-Element name ats kids)) ∙ fold-roll-Node Node Forest node_step forest_step (Node-F.Element name ats kids)
 
-abbrev pub compiled_list : List DirectiveDef → Switch → List Node → Made → Result (Parts × Made) TplFault
-compiled_list defs o ns m = compiled_forest defs o (forest_from ns) m
-
--- parts, and others after them
-abbrev pub joined : Parts → Parts → Parts
-joined no_parts qs = qs
-joined (part_then p ps) qs = part_then p (joined ps qs)
-
-pub joined-none : (ps : Parts) → joined ps no_parts ≡ ps
-joined-none no_parts = refl
-joined-none (part_then p ps) = ap (part_then p) (joined-none ps)
-
-pub joined-one : (ps : Parts) (p : Part) (qs : Parts) → joined (with_part ps p) qs ≡ joined ps (part_then p qs)
-joined-one no_parts p qs = refl
-joined-one (part_then q ps) p qs = ap (part_then q) (joined-one ps p qs)
+abbrev pub compiled_list : List DirectiveDef → Bool → Switch → List Node → Made → Result (Parts × Made) TplFault
+compiled_list defs slots o ns m = compiled_forest defs slots o (forest_from ns) m
 
 abbrev pub onto : Parts → Result (Parts × Made) TplFault → Result (Parts × Made) TplFault
 onto ps r = r >>= λ s. Ok (joined ps s.0, s.1)
@@ -46,26 +35,26 @@ onto-none (Ok s) = refl
 onto-none (Err e) = refl
 
 -- a node more
-pub compiled-turn : (defs : List DirectiveDef) (o : Switch) (xs : List code_node.Node) (i : ℕ) (x : code_node.Node) (ps : Parts) (m n : Made) (p : Part) → i < length xs → x ≡ get_or xs i x
-    → compiled_node defs o (node_of x) m ≡ Ok (p, n)
-    → onto (with_part ps p) (compiled_list defs o (map node_of (drop (i + 1) xs)) n) ≡ onto ps (compiled_list defs o (map node_of (drop i xs)) m)
-compiled-turn defs o xs i x ps m n p l is made =
-    let here = ap (λ y. compiled_node defs o (node_of y) m) (sym is) ∙ made in
-    onto-one ps p (compiled_list defs o (map node_of (drop (i + 1) xs)) n)
-    ∙ (sym (ap (λ (r : Result (Part × Made) TplFault). onto ps (r >>= λ q. compiled_list defs o (map node_of (drop (i + 1) xs)) q.1 >>= λ s. Ok (part_then q.0 s.0, s.1))) here)
-    ∙ sym (at_drop_more (λ zs. onto ps (compiled_list defs o (map node_of zs) m)) xs i x l))
+pub compiled-turn : (defs : List DirectiveDef) (slots : Bool) (o : Switch) (xs : List code_node.Node) (i : ℕ) (x : code_node.Node) (ps : Parts) (m n : Made) (p : Part) → i < length xs → x ≡ get_or xs i x
+    → compiled_node defs slots o (node_of x) m ≡ Ok (p, n)
+    → onto (with_part ps p) (compiled_list defs slots o (map node_of (drop (i + 1) xs)) n) ≡ onto ps (compiled_list defs slots o (map node_of (drop i xs)) m)
+compiled-turn defs slots o xs i x ps m n p l is made =
+    let here = ap (λ y. compiled_node defs slots o (node_of y) m) (sym is) ∙ made in
+    onto-one ps p (compiled_list defs slots o (map node_of (drop (i + 1) xs)) n)
+    ∙ (sym (ap (λ (r : Result (Part × Made) TplFault). onto ps (r >>= λ q. compiled_list defs slots o (map node_of (drop (i + 1) xs)) q.1 >>= λ s. Ok (part_then q.0 s.0, s.1))) here)
+    ∙ sym (at_drop_more (λ zs. onto ps (compiled_list defs slots o (map node_of zs) m)) xs i x l))
 
 -- a node that is refused
-pub compiled-refused : (defs : List DirectiveDef) (o : Switch) (xs : List code_node.Node) (i : ℕ) (x : code_node.Node) (ps : Parts) (m : Made) (e : TplFault) → i < length xs → x ≡ get_or xs i x
-    → compiled_node defs o (node_of x) m ≡ Err e
-    → onto ps (compiled_list defs o (map node_of (drop i xs)) m) ≡ Err e
-compiled-refused defs o xs i x ps m e l is made =
-    let here = ap (λ y. compiled_node defs o (node_of y) m) (sym is) ∙ made in
-    at_drop_more (λ zs. onto ps (compiled_list defs o (map node_of zs) m)) xs i x l
-    ∙ ap (λ (r : Result (Part × Made) TplFault). onto ps (r >>= λ q. compiled_list defs o (map node_of (drop (i + 1) xs)) q.1 >>= λ s. Ok (part_then q.0 s.0, s.1))) here
+pub compiled-refused : (defs : List DirectiveDef) (slots : Bool) (o : Switch) (xs : List code_node.Node) (i : ℕ) (x : code_node.Node) (ps : Parts) (m : Made) (e : TplFault) → i < length xs → x ≡ get_or xs i x
+    → compiled_node defs slots o (node_of x) m ≡ Err e
+    → onto ps (compiled_list defs slots o (map node_of (drop i xs)) m) ≡ Err e
+compiled-refused defs slots o xs i x ps m e l is made =
+    let here = ap (λ y. compiled_node defs slots o (node_of y) m) (sym is) ∙ made in
+    at_drop_more (λ zs. onto ps (compiled_list defs slots o (map node_of zs) m)) xs i x l
+    ∙ ap (λ (r : Result (Part × Made) TplFault). onto ps (r >>= λ q. compiled_list defs slots o (map node_of (drop (i + 1) xs)) q.1 >>= λ s. Ok (part_then q.0 s.0, s.1))) here
 
-pub compiled-end : (defs : List DirectiveDef) (o : Switch) (xs : List code_node.Node) (i : ℕ) (ps : Parts) (m : Made) → length xs ≤ i → onto ps (compiled_list defs o (map node_of (drop i xs)) m) ≡ Ok (ps, m)
-compiled-end defs o xs i ps m l = ap (λ zs. onto ps (compiled_list defs o (map node_of zs) m)) (drop_all i xs l) ∙ ap (λ x. Ok (x, m)) (joined-none ps)
+pub compiled-end : (defs : List DirectiveDef) (slots : Bool) (o : Switch) (xs : List code_node.Node) (i : ℕ) (ps : Parts) (m : Made) → length xs ≤ i → onto ps (compiled_list defs slots o (map node_of (drop i xs)) m) ≡ Ok (ps, m)
+compiled-end defs slots o xs i ps m l = ap (λ zs. onto ps (compiled_list defs slots o (map node_of zs) m)) (drop_all i xs l) ∙ ap (λ x. Ok (x, m)) (joined-none ps)
 
-pub compiled-all : (defs : List DirectiveDef) (o : Switch) (ns : List Node) (m : Made) → onto no_parts (compiled_list defs o ns m) ≡ compiled_list defs o ns m
-compiled-all defs o ns m = onto-none (compiled_list defs o ns m)
+pub compiled-all : (defs : List DirectiveDef) (slots : Bool) (o : Switch) (ns : List Node) (m : Made) → onto no_parts (compiled_list defs slots o ns m) ≡ compiled_list defs slots o ns m
+compiled-all defs slots o ns m = onto-none (compiled_list defs slots o ns m)

@@ -1,16 +1,11 @@
 -- Plain nodes: they have no hole, no outlet and no number, and those of a list are made one after another.
-use Rattle.std.proofs.Common.{◌≡◌, ◌<◌, ◌≤◌, ℕ, ◌+◌, cond, List, [], ◌++◌, map, drop, get_or, length, None, Some, refl, ap, sym, ◌∙◌}
-use Rattle.std.proofs.lemmas.List.{at_drop_more, drop_all}
+use Rattle.std.proofs.Common.{◌≡◌, ℕ, cond, List, [], ◌++◌, None, Some, refl, ap, ◌∙◌}
 use Rattle.std.specs.Prelude.{option_and_then}
-use Rattle.ng_html.specs.Seen.{node_of}
-use Rattle.ng_html.specs.declared.forest.Node as code_node
-use Rattle.ng_markup.specs.Forest.{Node, Forest, element, text, comment, no_nodes, node, forest_from}
-use Rattle.ng_drawing.specs.Template.{Part, Parts, part_then, with_part}
-use Rattle.ng_template.specs.Numbering.{is_within, after_part, after_parts, outlets_of_part, after_outlets}
+use Rattle.ng_markup.specs.Forest.{Node, Forest, element, text, comment, no_nodes, node}
+use Rattle.ng_parts.specs.Numbering.{is_within, after_part, after_parts, outlets_of_part, after_outlets}
 use Rattle.ng_template.specs.Order.{part_holes, holes}
-use Rattle.ng_template.specs.Plain.{plain_part, plain_parts}
+use Rattle.ng_elements.specs.Plain.{plain_part, plain_parts}
 use Rattle.ng_template.proofs.Drawn.{plain_drawn}
-use Rattle.ng_template.proofs.NodeLists.{joined, joined-none, joined-one}
 
 mutual
   pub plain-holes : (n : Node) → part_holes (plain_part n) ≡ []
@@ -41,18 +36,3 @@ mutual
   plain-all-outlets : (k : ℕ) (f : Forest) → after_outlets k (plain_parts f) ≡ Some k
   plain-all-outlets k no_nodes = refl
   plain-all-outlets k (node n f) = ap (option_and_then (λ j. after_outlets j (plain_parts f))) (plain-outlets k n) ∙ plain-all-outlets k f
-
-abbrev pub plain_list : List Node → Parts
-plain_list ns = plain_parts (forest_from ns)
-
--- a node more
-pub plain-turn : (xs : List code_node.Node) (i : ℕ) (x : code_node.Node) (ps : Parts) (p : Part) → i < length xs → x ≡ get_or xs i x → p ≡ plain_part (node_of x)
-    → joined (with_part ps p) (plain_list (map node_of (drop (i + 1) xs))) ≡ joined ps (plain_list (map node_of (drop i xs)))
-plain-turn xs i x ps p l is made =
-    let there : Parts = plain_list (map node_of (drop (i + 1) xs)) in
-    joined-one ps p there
-    ∙ (ap (λ q. joined ps (part_then q there)) (made ∙ ap (λ y. plain_part (node_of y)) is)
-    ∙ sym (at_drop_more (λ zs. joined ps (plain_list (map node_of zs))) xs i x l))
-
-pub plain-end : (xs : List code_node.Node) (i : ℕ) (ps : Parts) → length xs ≤ i → joined ps (plain_list (map node_of (drop i xs))) ≡ ps
-plain-end xs i ps l = ap (λ zs. joined ps (plain_list (map node_of zs))) (drop_all i xs l) ∙ joined-none ps

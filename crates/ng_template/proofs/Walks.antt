@@ -2,7 +2,8 @@
 use Rattle.std.proofs.Common.{◌≡◌, ℕ, suc, Bool, true, false, cond, List, [], ◌∷◌, ◌++◌, length, refl, ap, sym, ◌∙◌, append_assoc, append-nil, length-append, arith}
 use Rattle.ng_drawing.specs.Nodes.{node_count, forest_count}
 use Rattle.ng_markup.specs.Forest.{Node, Forest, element, text, comment, no_nodes, node}
-use Rattle.ng_template.specs.Compiles.{first_place, other_places, after_node, after_forest}
+use Rattle.ng_directives.specs.Places.{first_place, other_places}
+use Rattle.ng_template.specs.Compiles.{after_node, after_forest}
 use Rattle.ng_template.specs.Order.{Met, node_order, in_order, placed, count_if, without}
 
 -- the places that are left after as many nodes

@@ -1,15 +1,18 @@
 -- Fragments whose outlets have numbers of sites and bodies that are there, and from whose sites nothing is drawn.
-use Rattle.std.proofs.Common.{◌≡◌, ◌<◌, ◌≤◌, ◌+◌, ℕ, true, List, [], ◌∷◌, ◌++◌, length, Option, Some, refl, ap, ◌∙◌, length-append, arith}
-use Rattle.std.proofs.lemmas.Bool.{and_parts, and_from, leb-true, le-leb, ltb-true, lt-ltb, eq-eqb}
+use Rattle.std.proofs.Common.{◌≡◌, ◌<◌, ◌≤◌, ◌+◌, ℕ, true, List, [], ◌∷◌, ◌++◌, length, Some, refl, ap, length-append, arith}
+use Rattle.std.proofs.lemmas.Bool.{and_parts, and_from, leb-true, le-leb, ltb-true, lt-ltb}
 use Rattle.std.specs.List.{list_all}
 use Rattle.std.specs.Prelude.{◌&&◌, nat_le, nat_lt, option_and_then}
 use Rattle.ng_drawing.specs.Cases.{Case}
-use Rattle.ng_drawing.specs.Template.{Site, Part, no_parts, part_then, Filling, body_if, on_case, for_each, by_name, Outlet, Fragment}
+use Rattle.ng_drawing.specs.Template.{Site, Part, Parts, no_parts, part_then, Filling, body_if, on_case, for_each, by_name, Outlet, Fragment}
 use Rattle.ng_template.specs.Around.{Block, block_if, block_for, block_named}
-use Rattle.ng_template.specs.Compiles.{Made, fragment_made, outlet_by, filling_in, block_alone, nested, bodies_with}
-use Rattle.ng_template.specs.Numbering.{after_part, after_parts, outlets_of_part, after_outlets, is_number, is_body, is_outlet, are_outlets, are_undrawn, is_numbered, is_whole}
-use Rattle.ng_template.proofs.Drawn.{both_all, one}
-use Rattle.ng_template.proofs.Numbers.{all_more}
+use Rattle.ng_elements.specs.Elements.{Made, fragment_made}
+use Rattle.ng_template.specs.Compiles.{outlet_by, filling_in, block_alone, nested, bodies_with}
+use Rattle.ng_parts.specs.Numbering.{after_part, after_parts, outlets_of_part, after_outlets, is_body, is_outlet, are_outlets, are_undrawn, is_numbered, is_whole, is_bare}
+use Rattle.ng_parts.proofs.Within.{both_all}
+use Rattle.ng_template.proofs.Drawn.{one}
+use Rattle.ng_parts.proofs.More.{all_more}
+use Rattle.ng_parts.proofs.WholeFrom.{whole_from}
 
 -- what there is among fewer is there among more
 number_more : (c d b : ℕ) → c ≤ d → (nat_lt 0 b && nat_le b c) ≡ true → (nat_lt 0 b && nat_le b d) ≡ true
@@ -34,17 +37,6 @@ module _ (s t c d : ℕ) (up : s ≤ t) (more : c ≤ d) where
   pub outlets_more : (os : List Outlet) → list_all (is_outlet s c) os ≡ true → list_all (is_outlet t d) os ≡ true
   outlets_more os e = all_more (is_outlet s c) (is_outlet t d) outlet_more os e
 
-pub number_is : (n : ℕ) (o : Option ℕ) → o ≡ Some n → is_number n o ≡ true
-number_is n o e = ap (is_number n) e ∙ eq-eqb n n refl
-
--- a fragment that is numbered, whose outlets are there, and from whose sites nothing is drawn
-pub whole_from : (n : ℕ) (f : Fragment) → after_parts 0 f.parts ≡ Some (length f.sites) → after_outlets 0 f.parts ≡ Some (length f.outlets) → are_outlets n f ≡ true → are_undrawn f ≡ true → is_whole n f ≡ true
-whole_from n f sites outlets e undrawn =
-    let first : is_number (length f.sites) (after_parts 0 f.parts) ≡ true = number_is (length f.sites) (after_parts 0 f.parts) sites in
-    let second : is_number (length f.outlets) (after_outlets 0 f.parts) ≡ true = number_is (length f.outlets) (after_outlets 0 f.parts) outlets in
-    and_from (is_numbered f) (are_outlets n f && are_undrawn f) (and_from (is_number (length f.sites) (after_parts 0 f.parts)) (is_number (length f.outlets) (after_outlets 0 f.parts)) first second)
-    (and_from (are_outlets n f) (are_undrawn f) e undrawn)
-
 pub whole_more : (c d : ℕ) → c ≤ d → (f : Fragment) → is_whole c f ≡ true → is_whole d f ≡ true
 whole_more c d l f e =
     let h = and_parts (is_numbered f) (are_outlets c f && are_undrawn f) e in
@@ -54,14 +46,14 @@ whole_more c d l f e =
 
 -- bodies of which each has outlets that bodies of theirs fill
 abbrev pub AreWhole : List Fragment → Type 0
-AreWhole bodies = list_all (is_whole (length bodies)) bodies ≡ true
+AreWhole bodies = (list_all (is_whole (length bodies)) bodies ≡ true) × (list_all is_bare bodies ≡ true)
 
-pub one_more : (bodies : List Fragment) (f : Fragment) → AreWhole bodies → is_whole (length (bodies ++ f ∷ [])) f ≡ true → AreWhole (bodies ++ f ∷ [])
-one_more bodies f e h =
+pub one_more : (bodies : List Fragment) (f : Fragment) → AreWhole bodies → is_whole (length (bodies ++ f ∷ [])) f ≡ true → is_bare f ≡ true → AreWhole (bodies ++ f ∷ [])
+one_more bodies f e h b =
     let n : ℕ = length (bodies ++ f ∷ []) in
     let size : n ≡ length bodies + length (f ∷ []) = length-append bodies (f ∷ []) in
     let l : length bodies ≤ n = omega (arith, size) in
-    both_all (is_whole n) bodies (f ∷ []) (all_more (is_whole (length bodies)) (is_whole n) (whole_more (length bodies) n l) bodies e) (one (is_whole n) f h)
+    (both_all (is_whole n) bodies (f ∷ []) (all_more (is_whole (length bodies)) (is_whole n) (whole_more (length bodies) n l) bodies e.0) (one (is_whole n) f h), both_all is_bare bodies (f ∷ []) e.1 (one is_bare f b))
 
 -- blocks that stand in one another
 pub length-nested : (bs : List Block) (bodies : List Fragment) → length (nested bs bodies) ≡ length bodies + length bs
@@ -103,7 +95,7 @@ nested_whole (b ∷ bs) bodies some e =
     let inner : List Fragment = nested bs bodies in
     let before : length inner ≡ length bodies + length bs = length-nested bs bodies in
     let size : length (inner ++ block_alone b inner ∷ []) ≡ length inner + length (block_alone b inner ∷ []) = length-append inner (block_alone b inner ∷ []) in
-    one_more inner (block_alone b inner) (nested_whole bs bodies some e) (alone_whole b inner (length (inner ++ block_alone b inner ∷ [])) (omega (arith, before)) (omega (arith, size)))
+    one_more inner (block_alone b inner) (nested_whole bs bodies some e) (alone_whole b inner (length (inner ++ block_alone b inner ∷ [])) (omega (arith, before)) (omega (arith, size))) refl
 
 -- what is being made: its outlets and bodies have numbers that are there
 pub record Whole (m : Made) : Type 0 where
@@ -121,6 +113,25 @@ other_places_left m places w = record { outlets = w.outlets; bodies = w.bodies }
 -- a body begins
 pub begun_whole : (m : Made) → Whole m → Whole (record m { sites = []; outlets = [] })
 begun_whole m w = record { outlets = refl; bodies = w.bodies }
+
+-- a body that is made of children
+body_whole : (ps : Parts) (n : Made) → after_parts 0 ps ≡ Some (length n.sites) → after_outlets 0 ps ≡ Some (length n.outlets) → are_undrawn (fragment_made (ps, n)) ≡ true → Whole n → AreWhole (n.bodies ++ fragment_made (ps, n) ∷ [])
+body_whole ps n sites outlets undrawn w =
+    let body : Fragment = fragment_made (ps, n) in
+    let all : List Fragment = n.bodies ++ body ∷ [] in
+    let size : length all ≡ length n.bodies + length (body ∷ []) = length-append n.bodies (body ∷ []) in
+    let l : length n.bodies ≤ length all = omega (arith, size) in
+    let same : length n.sites ≤ length n.sites = omega arith in
+    one_more n.bodies body w.bodies (whole_from (length all) body sites outlets (outlets_more (length n.sites) (length n.sites) (length n.bodies) (length all) same l n.outlets w.outlets) undrawn) refl
+
+pub body_added : (m : Made) (places : List ℕ) (ps : Parts) (n : Made) → length m.bodies ≤ length (n.bodies ++ fragment_made (ps, n) ∷ []) → after_parts 0 ps ≡ Some (length n.sites) → after_outlets 0 ps ≡ Some (length n.outlets)
+    → are_undrawn (fragment_made (ps, n)) ≡ true → Whole m → Whole n → Whole (record m { places = places; bodies = n.bodies ++ fragment_made (ps, n) ∷ [] })
+body_added m places ps n more sites outlets undrawn v w =
+    let same : length m.sites ≤ length m.sites = omega arith in
+    record {
+      outlets = outlets_more (length m.sites) (length m.sites) (length m.bodies) (length (n.bodies ++ fragment_made (ps, n) ∷ [])) same more m.outlets v.outlets;
+      bodies = body_whole ps n sites outlets undrawn w;
+    }
 
 -- a body that is made, and those of the blocks round it
 module _ (bs : List Block) (p : Part) (n : Made) where
@@ -145,7 +156,7 @@ module _ (bs : List Block) (p : Part) (n : Made) where
       let same : length n.sites ≤ length n.sites = omega arith in
       one_more n.bodies made w.bodies
       (whole_from (length inner) made (ap (option_and_then (λ k. after_parts k no_parts)) sites) (ap (option_and_then (λ k. after_outlets k no_parts)) outlets)
-      (outlets_more (length n.sites) (length n.sites) (length n.bodies) (length inner) same l n.outlets w.outlets) undrawn)
+      (outlets_more (length n.sites) (length n.sites) (length n.bodies) (length inner) same l n.outlets w.outlets) undrawn) refl
 
   pub all_whole : after_part 0 p ≡ Some (length n.sites) → outlets_of_part 0 p ≡ Some (length n.outlets) → are_undrawn made ≡ true → Whole n → AreWhole all_bodies
   all_whole sites outlets undrawn w = nested_whole bs inner (omega (arith, inner_size)) (inner_whole sites outlets undrawn w)

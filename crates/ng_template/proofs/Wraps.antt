@@ -6,16 +6,18 @@ use Rattle.std.specs.Prelude.{◌&&◌, nat_le, nat_lt}
 use Rattle.ng_drawing.specs.Template.{Site, Outlet, Fragment, Part}
 use Rattle.ng_template.specs.Around.{Block}
 use Rattle.ng_template.specs.AroundOf.{block_of, blocks_of}
-use Rattle.ng_template.specs.Compiles.{Made, block_alone, nested, has_room, Outermost, outermost_made, bodies_with, wrapped}
-use Rattle.ng_template.specs.FragmentOf.{sites_of, outlet_of, outlets_of, fragment_of, fragments_of}
-use Rattle.ng_template.specs.Limits.{site_limit, worn}
-use Rattle.ng_template.specs.SiteOf.{site_of}
+use Rattle.ng_elements.specs.Elements.{Made}
+use Rattle.ng_template.specs.Compiles.{block_alone, nested, has_room, Outermost, outermost_made, bodies_with, wrapped}
+use Rattle.ng_parts.specs.FragmentOf.{sites_of, outlet_of, outlets_of, fragment_of, fragments_of}
+use Rattle.ng_directives.specs.Limits.{site_limit, worn}
+use Rattle.ng_parts.specs.SiteOf.{site_of}
 use Rattle.ng_template.specs.declared.around.Block as code_block
-use Rattle.ng_template.specs.declared.fault.TplFault.{TplFault}
-use Rattle.ng_template.specs.declared.fragment.Fragment as code_fragment
-use Rattle.ng_template.specs.declared.outlets.Outlet as code_outlet
-use Rattle.ng_template.specs.declared.site.Site as code_site
+use Rattle.ng_directives.specs.declared.fault.TplFault.{TplFault}
+use Rattle.ng_parts.specs.declared.fragment.Fragment as code_fragment
+use Rattle.ng_parts.specs.declared.outlets.Outlet as code_outlet
+use Rattle.ng_parts.specs.declared.site.Site as code_site
 use Rattle.ng_template.proofs.Wholes.{length-nested, last-nested}
+use Rattle.ng_elements.proofs.LastMade.{last_made}
 
 -- how many bodies there are
 pub all_count : (hs : List code_block.Block) (bodies : List code_fragment.Fragment) (f : Fragment) (b h : ℕ) → b ≡ length bodies → h ≡ length hs → length (nested (blocks_of hs) (fragments_of bodies ++ f ∷ [])) ≡ b + 1 + h
@@ -79,10 +81,6 @@ module _ (sites : List code_site.Site) (outlets : List code_outlet.Outlet) (bodi
 
   pub few_made : length bodies ≤ site_limit
   few_made = let b = bodies_fit (sites_of sites) (outlets_of outlets) (fragments_of bodies) (sym e) in omega (arith, b, length-map bodies fragment_of)
-
--- the body that was made last
-pub last_made : (bodies all : List code_fragment.Fragment) (last : code_fragment.Fragment) (f : Fragment) → all ≡ bodies ++ last ∷ [] → fragment_of last ≡ f → fragments_of all ≡ fragments_of bodies ++ f ∷ []
-last_made bodies all last f more made = ap fragments_of more ∙ (map-append fragment_of bodies (last ∷ []) ∙ ap (λ x. fragments_of bodies ++ x ∷ []) made)
 
 -- one block more inside the others
 pub nested-turn : (left others : List code_block.Block) (h : code_block.Block) (bodies all : List code_fragment.Fragment) (f : code_fragment.Fragment) → left ≡ others ++ h ∷ [] → all ≡ bodies ++ f ∷ []

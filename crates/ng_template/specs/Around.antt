@@ -1,7 +1,7 @@
 -- The blocks of an element, from the outside in (guide: HTML Compiler, "How directives are compiled"; API: ngIf, ngSwitch, ngInclude, ngRepeat). A block stands
 -- in place of its element, and leaves the directives of lower priority to its body. Of two blocks of one priority the second is in the first.
 -- A case of a switch is the outermost, since none has a higher priority.
-use Rattle.std.specs.Prelude.{ℕ, zero, suc, ℤ, Bool, true, false, List, [], ◌∷◌, ◌++◌, map, find, Option, None, Some, option_map, Result, Ok, Err, codes, if◌then◌else◌}
+use Rattle.std.specs.Prelude.{ℕ, zero, suc, ℤ, ◌&&◌, Bool, true, false, not, List, [], ◌∷◌, ◌++◌, map, find, Option, None, Some, option_map, Result, Ok, Err, codes, if◌then◌else◌}
 use Rattle.std.specs.List.{list_any}
 use Rattle.std.specs.Map.{lookup}
 use Rattle.std.specs.Str.{bytes_eq}
@@ -25,16 +25,16 @@ use Rattle.ng_language.specs.Trees.{Trees}
 use Rattle.ng_view.specs.Purity.{all_filters_known}
 use Rattle.ng_markup.specs.Forest.{Attributes, Node, element, text, comment}
 use Rattle.ng_tags.specs.declared.attrs.Attr.{Attr}
-use Rattle.ng_template.specs.Directives.{text_on, whole}
-use Rattle.ng_template.specs.Manners.{are_built, any_makes_plain, picks_read}
-use Rattle.ng_template.specs.Programs.{program_in}
+use Rattle.ng_directives.specs.Directives.{text_on, whole}
+use Rattle.ng_directives.specs.Manners.{any_makes_plain, any_makes_slot, picks_read}
+use Rattle.ng_directives.specs.Programs.{program_in}
 use Rattle.ng_interp.specs.Parts.{Piece}
 use Rattle.ng_interp.specs.declared.pieces.InterpFault.{InterpFault}
 use Rattle.ng_template.specs.Repeating.{repeat_in}
-use Rattle.ng_template.specs.Texts.{refused, wrong, sites_in}
-use Rattle.ng_template.specs.declared.fault.TplFault.{TplFault}
-use Rattle.ng_template.specs.declared.fault.TplKind.{TplKind}
-use Rattle.ng_template.specs.declared.fault.TplKind.TheVariants.{LeftOut, MultiDir, CaseWithoutSwitch, Later, Expression, UnknownFilter, Memory}
+use Rattle.ng_directives.specs.Texts.{refused, wrong, sites_in}
+use Rattle.ng_directives.specs.declared.fault.TplFault.{TplFault}
+use Rattle.ng_directives.specs.declared.fault.TplKind.{TplKind}
+use Rattle.ng_directives.specs.declared.fault.TplKind.TheVariants.{LeftOut, MultiDir, Orphan, CaseWithoutSwitch, Expression, UnknownFilter, Memory}
 
 abbrev pub unpicked : CollectFault → TplKind
 unpicked collect.MultiDir = MultiDir
@@ -262,24 +262,29 @@ abbrev pub around_these : Bool → List Pick → Option ℤ → (ℤ → Result 
 around_these has_switch ps None below = Ok (bare_around (has_picks ps))
 around_these has_switch ps (Some limit) below = found_after (None, []) has_switch ps >>= λ f. below limit >>= λ a. Ok (with_found f a)
 
--- A plain element has no block round it but those that leave it to their body. A directive that is not built yet comes before what is
--- wrong with others.
-abbrev pub around_picks : Bool → List Pick → (ℤ → Result Around TplKind) → Result Around TplKind
-around_picks has_switch ps below =
+-- a slot where none may be
+abbrev pub is_orphan : Bool → List Pick → Bool
+is_orphan slots ps = not slots && any_makes_slot ps
+
+-- A plain element has no block round it but those that leave it to their body. A slot where none may be comes before what is wrong with other
+-- directives.
+abbrev pub around_picks : Bool → Bool → List Pick → (ℤ → Result Around TplKind) → Result Around TplKind
+around_picks slots has_switch ps below =
     if any_makes_plain ps then Ok (bare_around is_plain)
-    else if are_built ps then around_these has_switch ps (block_priority ps) below
-    else Err Later
+    else if is_orphan slots ps then Err Orphan
+    else around_these has_switch ps (block_priority ps) below
 
 -- The blocks round an element whose directives are those below a limit, or why it is refused. So many priorities are looked at. What is in a
 -- block has no switch round it.
-abbrev pub around_below : ℕ → List DirectiveDef → Bool → Option ℤ → Node → Result Around TplKind
-around_below zero defs has_switch limit n = Ok (bare_around is_plain)
-around_below (suc room) defs has_switch limit n = picks_in (attributes_in n) (collected defs limit n) >>= λ ps. around_picks has_switch ps (λ l. around_below room defs false (Some l) n)
+abbrev pub around_below : ℕ → List DirectiveDef → Bool → Bool → Option ℤ → Node → Result Around TplKind
+around_below zero defs slots has_switch limit n = Ok (bare_around is_plain)
+around_below (suc room) defs slots has_switch limit n =
+    picks_in (attributes_in n) (collected defs limit n) >>= λ ps. around_picks slots has_switch ps (λ l. around_below room defs slots false (Some l) n)
 
 -- one more than there are priorities of blocks
 unfoldable pub block_room : ℕ
 block_room = 5
 
--- an element with its blocks, where there is a switch round it or not
-abbrev pub around_node : List DirectiveDef → Bool → Node → Result Around TplKind
-around_node defs has_switch n = around_below block_room defs has_switch None n
+-- an element with its blocks, where slots may stand or not, and where there is a switch round it or not
+abbrev pub around_node : List DirectiveDef → Bool → Bool → Node → Result Around TplKind
+around_node defs slots has_switch n = around_below block_room defs slots has_switch None n

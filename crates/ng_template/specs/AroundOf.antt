@@ -6,8 +6,8 @@ use Rattle.ng_parse.specs.ProgramOf.{program}
 use Rattle.ng_parse.specs.declared.programs.Program.{Program}
 use Rattle.ng_template.specs.Around.{Inside, is_plain, has_picks, has_template, Before, a_case, a_start, a_repeat, a_block, Block, block_if, block_for, block_named, Around, Found}
 use Rattle.ng_template.specs.Compiles.{Outermost, the_case, the_block}
-use Rattle.ng_template.specs.RepeatedOf.{repeated_of}
-use Rattle.ng_template.specs.SiteOf.{site_of}
+use Rattle.ng_parts.specs.RepeatedOf.{repeated_of}
+use Rattle.ng_parts.specs.SiteOf.{site_of}
 use Rattle.ng_template.specs.declared.around.Around as code
 use Rattle.ng_template.specs.declared.around.Before as code_before
 use Rattle.ng_template.specs.declared.around.Before.TheVariants as before

@@ -7,9 +7,9 @@ use Rattle.ng_blocks.specs.declared.repeats.RepeatFault.TheVariants as faults
 use Rattle.ng_drawing.specs.Template.{Site, Repeated}
 use Rattle.ng_drawing.specs.declared.kind.SiteKind.TheVariants as kinds
 use Rattle.ng_language.specs.Trees.{Trees}
-use Rattle.ng_template.specs.SiteOf.{site_with}
-use Rattle.ng_template.specs.declared.fault.TplKind.{TplKind}
-use Rattle.ng_template.specs.declared.fault.TplKind.TheVariants.{BadRepeat, Expression, UnknownFilter, Impure, Memory}
+use Rattle.ng_parts.specs.SiteOf.{site_with}
+use Rattle.ng_directives.specs.declared.fault.TplKind.{TplKind}
+use Rattle.ng_directives.specs.declared.fault.TplKind.TheVariants.{BadRepeat, Expression, UnknownFilter, Impure, Memory}
 use Rattle.ng_view.specs.Purity.{are_pure, all_filters_known}
 
 -- why it cannot be read

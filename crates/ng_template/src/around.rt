@@ -9,29 +9,29 @@ ghost use Rattle.ng_collect.specs.Sorted.{of_core};
 ghost use Rattle.ng_collect.specs.Table.{is_block as is_block_of};
 ghost use Rattle.ng_html.specs.Seen.{node_of};
 ghost use Rattle.ng_interp.specs.Parts.{piece_of};
-ghost use Rattle.ng_template.specs.Around.{has_picks, attributes_in, picks_in, at_place, block_priority as block_priority_of, case_at as case_at_pick, cases_in, switched, core_before, before_of as before_of_directive, kind_of_block, block_with, whole_heads, for_heads, start_heads, head_at, heads_of, heads_onto, head_onto, starts_in, names_template, inside_in, found_after, block_room, around_node};
+ghost use Rattle.ng_template.specs.Around.{has_picks, attributes_in, picks_in, at_place, block_priority as block_priority_of, case_at as case_at_pick, cases_in, switched, core_before, before_of as before_of_directive, kind_of_block, block_with, whole_heads, for_heads, start_heads, head_at, heads_of, heads_onto, head_onto, starts_in, names_template, inside_in, found_after, block_room, is_orphan as is_orphan_of, around_node};
 ghost use Rattle.ng_template.specs.AroundOf.{inside_of, before_of, block_of, blocks_of, programs_of, case_of, found_of, around_of};
-ghost use Rattle.ng_template.specs.Directives.{text_on};
-ghost use Rattle.ng_template.specs.Free.{is_tpl_want};
-ghost use Rattle.ng_template.specs.SiteOf.{site_of};
-ghost use Rattle.ng_template.specs.Texts.{is_known, is_pure, sites_in};
+ghost use Rattle.ng_directives.specs.Directives.{text_on};
+ghost use Rattle.ng_directives.specs.Free.{is_tpl_want};
+ghost use Rattle.ng_parts.specs.SiteOf.{site_of};
+ghost use Rattle.ng_directives.specs.Texts.{is_known, is_pure, sites_in};
 
-use crate::directives::{directive_program, text_of, whole_parts};
-use crate::fault::{TplFault, TplKind};
-use crate::known::Known;
-use crate::manners::{any_makes_plain, are_built};
-use crate::repeated::Repeated;
 use crate::repeating::read_repeat;
-use crate::site::Site;
-use crate::texts::{refusal, want};
 use crate::wording::worded_in;
 use ng_base::txt::Txt;
 use ng_collect::table::is_block;
 use ng_collect::{CollectFault, CoreDirective, Directive, Pick, Registry, collect_below};
+use ng_directives::directives::{directive_program, text_of, whole_parts};
+use ng_directives::fault::{TplFault, TplKind};
+use ng_directives::known::Known;
+use ng_directives::manners::{any_makes_plain, any_makes_slot};
+use ng_directives::texts::{refusal, want};
 use ng_drawing::kind::SiteKind;
 use ng_html::forest::Node;
 use ng_interp::Part;
 use ng_parse::Program;
+use ng_parts::repeated::Repeated;
+use ng_parts::site::Site;
 use std::alloc::{AllocError, Global};
 
 /// What is made of an element itself: it is plain, or it has these directives, and its children or a template in their place.
@@ -391,6 +391,13 @@ fn find_more(
     Ok(())
 }
 
+/// Whether one of these directives makes its element a slot, where none may be.
+fn is_orphan(slots: bool, picks: &[Pick]) -> bool
+    ensures { result ≡ is_orphan_of slots picks.now }
+{
+    !slots && any_makes_slot(picks)
+}
+
 /// The blocks round an element, from the outside in, where there is a switch round it or not.
 pub(crate) fn find_blocks(
     alloc: Global,
@@ -398,9 +405,10 @@ pub(crate) fn find_blocks(
     e: &Node,
     r: &Registry,
     place: u64,
+    slots: bool,
     in_switch: bool,
 ) -> Result<Around, TplFault>
-    ensures { Gives is_tpl_want around_of (at_place place (around_node r.now in_switch (node_of e.now))) result }
+    ensures { Gives is_tpl_want around_of (at_place place (around_node r.now slots in_switch (node_of e.now))) result }
 {
     let mut found = Found {
         case: None,
@@ -418,8 +426,8 @@ pub(crate) fn find_blocks(
                 inside: Inside::Plain,
             });
         }
-        if !are_built(picked.as_slice()) {
-            return Err(refusal(TplKind::Later, place));
+        if is_orphan(slots, picked.as_slice()) {
+            return Err(refusal(TplKind::Orphan, place));
         }
         let below = block_priority(picked.as_slice());
         if below.is_none() {

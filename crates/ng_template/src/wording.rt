@@ -5,12 +5,12 @@ ghost use Rattle.std.specs.Map.{lookup};
 ghost use Rattle.std.specs.Str.{bytes_eq};
 ghost use Rattle.ng_html.specs.Seen.{node_of};
 ghost use Rattle.ng_template.specs.Around.{attributes_in, core_source, source_of, sourced, if_empty, worded as worded_of};
-ghost use Rattle.ng_template.specs.Manners.{is_read as is_read_of, picks_read};
+ghost use Rattle.ng_directives.specs.Manners.{is_read as is_read_of, picks_read};
 
-use crate::directives::text_of;
-use crate::manners::{any_models, is_read};
 use ng_base::txt::Txt;
 use ng_collect::{CoreDirective, Directive, Pick};
+use ng_directives::directives::text_of;
+use ng_directives::manners::{any_models, is_read};
 use ng_html::attrs::{Attr, Attrs};
 use ng_html::forest::Node;
 use std::alloc::{AllocError, Global};

@@ -4,22 +4,22 @@ ghost use Rattle.ng_base.specs.Meets.{Gives};
 ghost use Rattle.ng_drawing.specs.Template.{Fragment as TemplateFragment, no_parts, part_then, anchor_part};
 ghost use Rattle.ng_template.specs.AroundOf.{block_of, blocks_of, programs_of, case_of, outermost_of, numbers_of};
 ghost use Rattle.ng_template.specs.Compiles.{site_in, filling_in, starts_in, block_alone as block_alone_of, nested, has_room as has_room_for, bodies_with, with_block as with_block_of, with_case as with_case_of, wrapped};
-ghost use Rattle.ng_template.specs.Free.{is_tpl_want};
-ghost use Rattle.ng_template.specs.Limits.{site_limit};
-ghost use Rattle.ng_template.specs.Seen.{part_of, parts_of};
-ghost use Rattle.ng_template.specs.SiteOf.{site_of};
-ghost use Rattle.ng_template.specs.FragmentOf.{sites_of, filling_of, outlets_of, fragment_of, fragments_of};
-ghost use Rattle.ng_template.specs.TemplateOf.{made_of};
+ghost use Rattle.ng_directives.specs.Free.{is_tpl_want};
+ghost use Rattle.ng_directives.specs.Limits.{site_limit};
+ghost use Rattle.ng_parts.specs.Seen.{part_of, parts_of};
+ghost use Rattle.ng_parts.specs.SiteOf.{site_of};
+ghost use Rattle.ng_parts.specs.FragmentOf.{sites_of, filling_of, outlets_of, fragment_of, fragments_of};
+ghost use Rattle.ng_elements.specs.HeadOf.{made_of};
 
 use crate::around::{Block, Case};
-use crate::fault::TplFault;
-use crate::fragment::Fragment;
-use crate::outlets::{Filling, Outlet};
-use crate::parts::{Part, Parts, anchor};
-use crate::site::Site;
-use crate::texts::{SITE_LIMIT, worn};
-use crate::tpl::Making;
+use ng_directives::fault::TplFault;
+use ng_directives::texts::worn;
 use ng_parse::Program;
+use ng_parts::fragment::Fragment;
+use ng_parts::outlets::{Filling, Outlet};
+use ng_parts::parts::{Part, Parts, anchor};
+use ng_parts::site::{SITE_LIMIT, Site};
+use ng_parts::tpl::Making;
 use std::alloc::{AllocError, Global};
 
 /// One part alone.
@@ -70,11 +70,7 @@ fn block_alone(alloc: Global, block: Block, body: u32) -> Result<Fragment, Alloc
     sites.push(head)?;
     let mut outlets = Vec::new(alloc);
     outlets.push(Outlet { site: 0, filling })?;
-    Ok(Fragment {
-        parts,
-        sites,
-        outlets,
-    })
+    Ok(Fragment::alone(alloc, parts, sites, outlets))
 }
 
 /// The bodies of blocks that stand in one another are added, the innermost first.
@@ -113,11 +109,8 @@ fn with_bodies<'a>(
         outlets,
         mut bodies,
     } = made;
-    bodies.push(Fragment {
-        parts: lone(alloc, part)?,
-        sites,
-        outlets,
-    })?;
+    let parts = lone(alloc, part)?;
+    bodies.push(Fragment::alone(alloc, parts, sites, outlets))?;
     nest(alloc, heads, &mut bodies)?;
     Ok((places, bodies))
 }

@@ -1,7 +1,7 @@
 use Rattle.std.proofs.Common.{◌≡◌, map, length}
 use Rattle.ng_core.specs.Frames.{state_of, IsSound}
 use Rattle.ng_app.specs.Installing.{declares_all}
-use Rattle.ng_app.specs.ProgramsOf.{watch_of}
+use Rattle.ng_parts.specs.ProgramsOf.{watch_of}
 use Rattle.ng_app.proofs.installing.declare_all.Given as goal
 
 abbrev pub invariant-loop-watch : goal.invariant-loop-watch

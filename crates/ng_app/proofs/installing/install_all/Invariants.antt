@@ -1,7 +1,7 @@
 use Rattle.std.proofs.Common.{◌≡◌, map, length}
 use Rattle.ng_core.specs.Frames.{state_of, IsSound}
 use Rattle.ng_app.specs.Installing.{installs_all}
-use Rattle.ng_app.specs.ProgramsOf.{function_of}
+use Rattle.ng_parts.specs.ProgramsOf.{function_of}
 use Rattle.ng_app.proofs.installing.install_all.Given as goal
 
 abbrev pub invariant-loop-function : goal.invariant-loop-function

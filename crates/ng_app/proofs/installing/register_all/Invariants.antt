@@ -1,7 +1,7 @@
 use Rattle.std.proofs.Common.{◌≡◌, map, length}
 use Rattle.ng_core.specs.Frames.{state_of, IsSound}
 use Rattle.ng_app.specs.Installing.{registers_all}
-use Rattle.ng_app.specs.ProgramsOf.{listener_of}
+use Rattle.ng_parts.specs.ProgramsOf.{listener_of}
 use Rattle.ng_app.proofs.installing.register_all.Given as goal
 
 abbrev pub invariant-loop-listener : goal.invariant-loop-listener

@@ -7,7 +7,7 @@ use Rattle.ng_fire.specs.FiringOf.{firing}
 use Rattle.ng_fire.specs.Serving.{IsThere, AreDue}
 use Rattle.ng_link.specs.Due.{Due, due_of}
 use Rattle.ng_link.specs.State.{state_of, templates_of}
-use Rattle.ng_template.specs.Kept.{Named}
+use Rattle.ng_compose.specs.Kept.{Named}
 use Rattle.ng_value.specs.Snaps.{snap_of}
 use Rattle.ng_fire.proofs.blocks.empty_outlets.Goals as goal
 
@@ -27,7 +27,6 @@ loop-due-init c = record {
   fired = refl;
   due = c.requires.due;
   there = c.requires.due.there;
-  scope = refl;
   grown = omega arith;
   whole = c.requires.whole;
   templates = refl;
@@ -51,7 +50,6 @@ loop-due-preserved c =
       due = subst (λ (ts : List Named). AreDue ts p new rest) (sym c.empty_outlet.ensures.templates)
           (due_rest (templates_of l.works) p old new d rest (subst (λ (ds : List Due). AreDue (templates_of l.works) p old ds) e l.invariant.due) serves);
       there = subst (λ (ts : List Named). AllByRecursion (IsThere ts p new) (map due_of items)) (sym c.empty_outlet.ensures.templates) (there_still (templates_of l.works) p old new (map due_of items) serves.outlets l.invariant.there);
-      scope = serves.scope ∙ l.invariant.scope;
       grown = (let one = c.in_ok-empty_outlet.ensures.grown in let all = l.invariant.grown in omega (arith, one, all));
       whole = c.in_ok-empty_outlet.ensures.whole;
       templates = c.empty_outlet.ensures.templates ∙ l.invariant.templates;

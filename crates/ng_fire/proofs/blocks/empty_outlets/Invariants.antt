@@ -5,8 +5,6 @@ use Rattle.ng_fire.specs.FiringOf.{firing}
 use Rattle.ng_fire.specs.Serving.{IsThere, AreDue}
 use Rattle.ng_fire.specs.Whole.{IsWhole}
 use Rattle.ng_link.specs.Due.{due_of}
-use Rattle.ng_link.specs.Events.{scope_in}
-use Rattle.ng_link.specs.Instances.{linked_at}
 use Rattle.ng_link.specs.State.{state_of, templates_of}
 use Rattle.ng_value.specs.Snaps.{snap_of}
 use Rattle.ng_fire.proofs.blocks.empty_outlets.Given as goal
@@ -16,7 +14,6 @@ invariant-loop-due l = record {
   fired : outlets_emptied l.holder (snap_of l.value) (map due_of (drop l.due-index l.all)) (firing l.works l.told) ≡ outlets_emptied l.holder (snap_of l.value) (map due_of l.all) (firing l.initial.works l.initial.told);
   due : AreDue (templates_of l.works) l.holder (state_of l.works).instances (map due_of (drop l.due-index l.all));
   there : AllByRecursion (IsThere (templates_of l.works) l.holder (state_of l.works).instances) (map due_of l.all);
-  scope : scope_in (linked_at l.holder (state_of l.works).instances) ≡ scope_in (linked_at l.holder (state_of l.initial.works).instances);
   grown : length l.initial.works.core.store ≤ length l.works.core.store;
   whole : IsWhole l.works;
   templates : templates_of l.works ≡ templates_of l.initial.works;

@@ -18,7 +18,7 @@ use Rattle.ng_fire.proofs.blocks.end_body.Goals as goal
 pub destroy_first-requires-clause-scope : goal.destroy_first-requires-clause-scope
 destroy_first-requires-clause-scope c =
     let w = c.args.works.now in
-    subst (λ (n : ℕ). n < length w.core.scopes) (sym c.scope_on-scope.ensures) (scope_stands w.core.scopes (state_of w).instances c.args.body.now c.requires.whole.root c.requires.whole.scopes)
+    subst (λ (n : ℕ). n < length w.core.scopes) (sym c.scope_on-scope.ensures) (scope_stands w.core.scopes (state_of w).inner (state_of w).instances c.args.body.now c.requires.whole.root c.requires.whole.scopes)
 
 pub apply_changes-requires : goal.apply_changes-requires
 apply_changes-requires c =

@@ -8,10 +8,8 @@ use Rattle.ng_fire.specs.SiteFires.{outlets_filled}
 use Rattle.ng_fire.specs.FiringOf.{firing}
 use Rattle.ng_fire.specs.Serving.{IsThere}
 use Rattle.ng_link.specs.Due.{Due, due_of}
-use Rattle.ng_link.specs.Events.{scope_in}
-use Rattle.ng_link.specs.Instances.{linked_at}
 use Rattle.ng_link.specs.State.{state_of, templates_of}
-use Rattle.ng_template.specs.Kept.{Named}
+use Rattle.ng_compose.specs.Kept.{Named}
 use Rattle.ng_value.specs.Snaps.{snap_of}
 use Rattle.ng_write.proofs.More.{view_more}
 use Rattle.ng_fire.proofs.blocks.fill_outlets.Goals as goal
@@ -45,9 +43,7 @@ loop-due-preserved c =
     let e : map due_of (drop l.due-index items) ≡ d ∷ rest = ap (map due_of) (dropped items l.due-index c.due-item.result c.loop-due-test.true c.due-item.is) in
     let keeps = c.in_ok-fill_outlet.ensures.keeps in
     record {
-      fired = ap (λ (n : ℕ). outlets_filled p n cases v rest (firing w c.fill_outlet.new.told)) keeps.scope
-          ∙ (ap (outlets_filled p (scope_in (linked_at p old)) cases v rest) c.in_ok-fill_outlet.ensures.fired
-          ∙ (sym (ap (λ (ds : List Due). outlets_filled p (scope_in (linked_at p old)) cases v ds (firing l.works l.told)) e) ∙ l.invariant.fired));
+      fired = ap (outlets_filled p cases v rest) c.in_ok-fill_outlet.ensures.fired ∙ (sym (ap (λ (ds : List Due). outlets_filled p cases v ds (firing l.works l.told)) e) ∙ l.invariant.fired);
       there = subst (λ (ts : List Named). AllByRecursion (IsThere ts p new) rest) (sym c.fill_outlet.ensures.templates)
           (there_still (templates_of l.works) p old new rest keeps.outlets (subst (λ (ds : List Due). AllByRecursion (IsThere (templates_of l.works) p old) ds) e l.invariant.there).1);
       value = view_more (length l.works.core.store) (length w.core.store) c.in_ok-fill_outlet.ensures.grown v l.invariant.value;

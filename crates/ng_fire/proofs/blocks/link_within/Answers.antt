@@ -1,18 +1,27 @@
-use Rattle.std.proofs.Common.{◌≡◌, ◌∙◌, ◌<◌, ℕ, ap, subst, sym}
+use Rattle.std.proofs.Common.{ℕ, List, length, map, subst, sym, arith}
+use Rattle.ng_base.specs.declared.name.ScopeId.{ScopeId}
 use Rattle.ng_fire.proofs.Answered.{there}
-use Rattle.ng_fire.proofs.Bodies.{link_paths}
-use Rattle.ng_fire.proofs.ScopePaths.{paths_of, same_count}
+use Rattle.ng_fire.proofs.Bodies.{link_more}
+use Rattle.ng_fire.proofs.ScopePaths.{AreMore, more_count}
+use Rattle.ng_fire.specs.LinkingOf.{AreBelow}
 use Rattle.ng_link.specs.PlaceOf.{place_of}
 use Rattle.ng_link.specs.State.{State, state_of, templates_of}
-use Rattle.ng_template.specs.Kept.{fragment_for}
+use Rattle.ng_compose.specs.Kept.{fragment_for}
 use Rattle.ng_fire.proofs.blocks.link_within.Goals as goal
+
+pub link_at-requires-clause-outsides : goal.link_at-requires-clause-outsides
+link_at-requires-clause-outsides c =
+    subst (λ (xs : List ScopeId). AreBelow (length c.args.works.now.core.scopes) (map (λ (n : ScopeId). n.0) xs)) (sym c.in_ok-given.ensures) c.requires.outsides
 
 pub discard-requires-clause-scope : goal.discard-requires-clause-scope
 discard-requires-clause-scope c =
     let w = c.args.works.now in
     let m = c.link_at.new.works in
-    let q = there (fragment_for (templates_of w) c.args.origin) c.requires.template in
-    let state = (c.in_ok-room.ensures.linked q.0 q.1).0 in
-    let paths : paths_of m.core.scopes ≡ paths_of w.core.scopes =
-    ap (λ (s : State). paths_of s.core.scopes) state ∙ link_paths (place_of c.args.place.now) c.args.origin c.args.child.0 q.0 (state_of w) in
-    subst (λ (n : ℕ). c.args.child.0 < n) (sym (same_count w.core.scopes m.core.scopes paths)) c.requires.scope
+    let given : List ℕ = map (λ (n : ScopeId). n.0) c.in_ok-given.given.items in
+    let q = there (fragment_for (templates_of w) c.args.origin.now) c.requires.template in
+    let below : AreBelow (length w.core.scopes) given = subst (λ (xs : List ScopeId). AreBelow (length w.core.scopes) (map (λ (n : ScopeId). n.0) xs)) (sym c.in_ok-given.ensures) c.requires.outsides in
+    let state = (c.in_ok-built.ensures.linked q.0 q.1).0 in
+    let more : AreMore w.core.scopes m.core.scopes =
+    subst (λ (s : State). AreMore w.core.scopes s.core.scopes) (sym state)
+    (link_more (place_of c.args.place.now) c.args.origin.now c.args.child.0 given q.0 (state_of w) c.requires.whole.root c.requires.scope below) in
+    (let lt = c.requires.scope in let le = more_count w.core.scopes m.core.scopes more in omega (arith, lt, le))

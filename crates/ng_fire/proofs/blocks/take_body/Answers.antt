@@ -36,9 +36,14 @@ returns-clause-serves c =
 
 pub returns-clause-whole : goal.returns-clause-whole
 returns-clause-whole c =
+    let v = c.args.works.now in
+    let b : Body = body_of c.args.body.now in
     let m = c.end_body.new.works in
     let w = c.unlink.new.self in
+    let same : (state_of m).instances ≡ (state_of v).instances = ap (λ (g : Firing). g.state.instances) c.in_ok-end_body.ensures.fired ∙ ended_linked b.path (firing v c.args.told.now) in
+    let held = subst (λ (is : Instances). IsHeldIn c.args.holder.now b.path is) (sym same) c.requires.held in
+    let standing = c.in_ok-end_body.ensures.whole.standing.1 in
     ok_and c.unlink.result c.unlink.ensures.state c.unlink.ensures.stands
     (λ state stands. whole_by m w c.in_ok-end_body.ensures.whole c.unlink.ensures.core stands
     (subst (λ (s : State). Stays m.core.scopes (length m.core.store) s) (sym state)
-    (unlinked_stays m.core.scopes (length m.core.store) c.args.holder.now c.args.body.now.path (state_of m) (stays_of m c.in_ok-end_body.ensures.whole))))
+    (unlinked_stays m.core.scopes (length m.core.store) c.args.holder.now b.path (state_of m) standing.inner (standing.built.bodies.linked c.args.holder.now b.path held) (stays_of m c.in_ok-end_body.ensures.whole))))

@@ -1,12 +1,19 @@
 use Rattle.std.proofs.Common.{◌≡◌, ◌∙◌, ap, length, subst, sym}
 use Rattle.ng_core.proofs.MoreScopes.{ok_and}
+use Rattle.ng_core.specs.Frames.{change_of}
 use Rattle.ng_core.specs.State.{removes, leaves}
+use Rattle.ng_core.specs.declared.pending.WatchChange.{WatchChange}
 use Rattle.ng_base.specs.declared.path.Key.{Key}
 use Rattle.ng_fire.specs.Changes.{applied}
 use Rattle.ng_fire.proofs.Wholes.{Stays, applied_stays, stays_of, whole_with}
 use Rattle.ng_link.specs.Calls.{left_at, undeclared_at}
 use Rattle.ng_link.specs.State.{State, state_of}
 use Rattle.ng_fire.proofs.changing.apply_change.Goals as goal
+
+pub returns-in_ok-key-in-Remove-clause-state : goal.returns-in_ok-key-in-Remove-clause-state
+returns-in_ok-key-in-Remove-clause-state c =
+    let s = state_of c.args.works.now in
+    c.undeclare.ensures.state ∙ (ap (λ (k : Key). undeclared_at k s) c.in_ok-key-in-Remove.ensures ∙ sym (ap (λ (x : WatchChange). applied (change_of x) s) c.in-Remove.is))
 
 pub returns-in_ok-key-in-Remove-clause-whole : goal.returns-in_ok-key-in-Remove-clause-whole
 returns-in_ok-key-in-Remove-clause-whole c =

@@ -4,6 +4,7 @@ use Rattle.ng_base.specs.Views.{ViewTree}
 use Rattle.ng_fire.proofs.Entries.{if_ok, rows_found}
 use Rattle.ng_fire.proofs.Wholes.{Stays, keeping_stays, stays_of, whole_with}
 use Rattle.ng_fire.specs.Whole.{KeptStands, RowStands}
+use Rattle.ng_link.specs.Instances.{is_site}
 use Rattle.ng_link.specs.State.{State, state_of}
 use Rattle.ng_value.specs.Snaps.{snap_of}
 use Rattle.ng_fire.proofs.firing.keep_declared.Goals as goal
@@ -14,7 +15,7 @@ returns-clause-stands c =
     let s = state_of w in
     if_ok c.keep.result c.keep.ensures.former
     (λ f e. subst (λ (o : Option ViewTree). KeptStands (length w.core.store) o) (sym e)
-    (rows_found (length w.core.store) s.instances c.args.key.now s.watchers c.requires.declared c.requires.whole.kept))
+    (rows_found (length w.core.store) (is_site s.inner s.instances) c.args.key.now s.watchers c.requires.declared c.requires.whole.kept))
 
 pub returns-clause-whole : goal.returns-clause-whole
 returns-clause-whole c =

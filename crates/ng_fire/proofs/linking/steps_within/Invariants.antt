@@ -1,7 +1,10 @@
 use Rattle.std.proofs.Common.{◌≡◌, ◌++◌, drop, take, map}
-use Rattle.ng_link.specs.Linking.{steps_within}
+use Rattle.ng_link.specs.Linking.{fault_in, steps_within}
 use Rattle.ng_link.specs.StepOf.{step_of}
 use Rattle.ng_fire.proofs.linking.steps_within.Given as goal
 
 abbrev pub invariant-loop-i : goal.invariant-loop-i
-invariant-loop-i l = map step_of (take l.i l.order) ++ steps_within l.left (map step_of (drop l.i l.order)) ≡ steps_within l.room (map step_of l.order)
+invariant-loop-i l = record {
+  steps : map step_of (take l.i l.steps) ++ steps_within l.left (map step_of (drop l.i l.steps)) ≡ steps_within l.room (map step_of l.steps);
+  fault : fault_in l.left (map step_of (drop l.i l.steps)) ≡ fault_in l.room (map step_of l.steps);
+}

@@ -1,11 +1,12 @@
 use Rattle.std.proofs.Common.{◌≡◌, ◌∙◌, ℕ, List, ap, length, map, subst, sym, arith}
 use Rattle.std.proofs.lemmas.List.{length-map}
+use Rattle.ng_base.specs.declared.name.ScopeId.{ScopeId}
 use Rattle.ng_core.specs.declared.core_state.Core.{Core}
 use Rattle.ng_drawing.specs.declared.origin.Origin.{Origin}
 use Rattle.ng_drawing.specs.Template.{Repeated}
 use Rattle.ng_fire.proofs.Answered.{ok_then}
 use Rattle.ng_fire.proofs.KeptRows.{rows_wider}
-use Rattle.ng_fire.proofs.RowsStay.{inside_other, row_inside}
+use Rattle.ng_fire.proofs.RowsStay.{inside_other, none_round, row_inside}
 use Rattle.ng_fire.proofs.RowsTaken.{arranged_keeps, arranged_whole, keeps_same, keeps_then, rows_among, rows_rearranged, spot_stays}
 use Rattle.ng_fire.specs.Blocks.{Firing}
 use Rattle.ng_fire.specs.FiringOf.{firing}
@@ -14,11 +15,10 @@ use Rattle.ng_fire.specs.RepeatsOf.{AreRowsAt, HaveGone, RowsOfStand, rows_of}
 use Rattle.ng_fire.specs.Serving.{Keeps, RestStays}
 use Rattle.ng_link.proofs.Lookups.{changed_other}
 use Rattle.ng_link.specs.Calls.{arranged_at}
-use Rattle.ng_link.specs.Events.{scope_in}
 use Rattle.ng_link.specs.Instances.{Body, Instances, bodies_arranged, linked_at}
 use Rattle.ng_link.specs.Standing.{body_count}
 use Rattle.ng_link.specs.State.{State, body_of, state_of, templates_of}
-use Rattle.ng_template.specs.RepeatedOf.{repeated_of}
+use Rattle.ng_parts.specs.RepeatedOf.{repeated_of}
 use Rattle.ng_fire.proofs.repeats.change_rows.Goals as goal
 
 pub take_rows-requires-clause-rows : goal.take_rows-requires-clause-rows
@@ -86,24 +86,20 @@ returns-clause-fired c =
     let gone : List Body = bodies_at bs c.args.gone.now in
     let g : Firing = firing first c.args.told.now in
     let w : Repeated = repeated_of c.args.repeated.now in
-    let scope : ℕ = scope_in (linked_at holder (state_of first).instances) in
+    let scope : ℕ = spot.scope.0 in
+    let outs : List ℕ = map (λ (n : ScopeId). n.0) spot.outsides.now in
     let ended : firing m after ≡ all_ended gone g = c.in_ok-end_rows.ensures.fired ∙ ap (λ (is : List ℕ). all_ended (bodies_at bs is) g) c.as_slice.ensures in
     let taken : state_of t ≡ rows_taken holder gone (state_of m) = c.in_ok-take_rows.ensures.state ∙ ap (λ (is : List ℕ). rows_taken holder (bodies_at bs is) (state_of m)) c.as_slice-2.ensures in
     let state : state_of v ≡ arranged_at holder o (kept_rows rows) (rows_taken holder gone (state_of m)) =
     c.in_ok-arrange.ensures.state ∙ (ap (λ (xs : List Body). arranged_at holder o xs (state_of t)) c.in_ok-kept_rows.ensures ∙ ap (arranged_at holder o (kept_rows rows)) taken) in
     let ready : firing v after ≡ rows_arranged holder o (kept_rows rows) (rows_gone holder gone g) =
     ap (λ (s : State). with_state s (firing m after)) state ∙ ap (λ (h : Firing). rows_arranged holder o (kept_rows rows) (with_state (rows_taken holder gone h.state) h)) ended in
-    let same = keeps_then holder (state_of first).instances (state_of m).instances (state_of t).instances (keeps_same holder (state_of first).instances (state_of m).instances c.in_ok-end_rows.ensures.instances) c.in_ok-take_rows.ensures.keeps in
-    let arranged : Keeps holder (state_of t).instances (state_of v).instances =
-    subst (λ (is : Instances). Keeps holder (state_of t).instances is) (sym (ap (λ (s : State). s.instances) c.in_ok-arrange.ensures.state)) (arranged_keeps holder o kept (state_of t).instances) in
-    let stays = keeps_then holder (state_of first).instances (state_of t).instances (state_of v).instances same arranged in
     let many = c.in_ok-ground.ensures.count ∙ sym (length-map c.args.rows.now _) in
     ok_then c.fire_rows.result c.fire_rows.ensures.fired
     (λ fired. fired
-    ∙ (ap (λ (n : ℕ). (rows_fired holder n o which (repeated_of c.in_ok-ground.ground.repeated.now) c.in_ok-ground.ground.count 0 rows (filled_to 0 (firing v after))).firing) stays.scope
-    ∙ (ap (λ (x : Repeated). (rows_fired holder scope o which x c.in_ok-ground.ground.count 0 rows (filled_to 0 (firing v after))).firing) (ap repeated_of c.in_ok-ground.ensures.repeated)
-    ∙ (ap (λ (n : ℕ). (rows_fired holder scope o which w n 0 rows (filled_to 0 (firing v after))).firing) many
-    ∙ ap (λ (h : Firing). (rows_fired holder scope o which w (length rows) 0 rows (filled_to 0 h)).firing) ready))))
+    ∙ (ap (λ (x : Repeated). (rows_fired holder scope outs o which x c.in_ok-ground.ground.count 0 rows (filled_to 0 (firing v after))).firing) (ap repeated_of c.in_ok-ground.ensures.repeated)
+    ∙ (ap (λ (n : ℕ). (rows_fired holder scope outs o which w n 0 rows (filled_to 0 (firing v after))).firing) many
+    ∙ ap (λ (h : Firing). (rows_fired holder scope outs o which w (length rows) 0 rows (filled_to 0 h)).firing) ready)))
 
 pub returns-clause-keeps : goal.returns-clause-keeps
 returns-clause-keeps c =
@@ -136,10 +132,13 @@ returns-clause-kept c =
     (λ others q l some at.
     (let both = c.requires.all q in
     let here = ap (body_count q) c.requires.stand in
-    let inside = row_inside _ _ holder o (state_of first).instances c.requires.whole.standing.1.built.each q (omega (arith, some, both, here)) in
+    let built = c.requires.whole.standing.1.built in
+    let inside = row_inside _ _ holder o (state_of first).instances built.each q (omega (arith, some, both, here)) in
     let none : body_count q (bodies_at bs c.args.gone.now) ≡ 0 = (let most = inside.2 in omega (arith, some, both, here, most)) in
-    let off = inside_other holder q inside.0 inside.1 in
+    let round = none_round (state_of first).instances built.bodies holder q inside.1 (bodies_at bs c.args.gone.now)
+    (λ b lt. (let all = c.requires.all b.path in let stand = ap (body_count b.path) c.requires.stand in let its = row_inside _ _ holder o (state_of first).instances built.each b.path (omega (arith, lt, all, stand)) in (its.1, its.0))) none in
+    let off = inside_other holder q inside.0 in
     others q l off
     (ap (λ (s : State). linked_at q s.instances) c.in_ok-arrange.ensures.state
     ∙ (changed_other holder (bodies_arranged o kept) (state_of t).instances q off
-    ∙ (rest q inside.0 inside.1 none ∙ (ap (linked_at q) c.in_ok-end_rows.ensures.instances ∙ at))))))
+    ∙ (rest q inside.0 round ∙ (ap (linked_at q) c.in_ok-end_rows.ensures.instances ∙ at))))))

@@ -1,5 +1,6 @@
 use Rattle.std.proofs.Common.{◌≡◌, ◌∙◌, ℕ, List, ap, map, subst, sym, false}
 use Rattle.std.specs.Prelude.{Result, Ok, Err}
+use Rattle.ng_base.specs.declared.name.ScopeId.{ScopeId}
 use Rattle.ng_base.specs.declared.fault.Fault.{Fault}
 use Rattle.ng_blocks.specs.Plans.{planned, has_double}
 use Rattle.ng_blocks.specs.declared.plans.Plan.{Plan}
@@ -12,11 +13,10 @@ use Rattle.ng_fire.specs.Blocks.{Firing}
 use Rattle.ng_fire.specs.FiringOf.{firing}
 use Rattle.ng_fire.specs.Repeats.{as_fault, bodies_or, by_keys, by_plan, keys_of, rows_at}
 use Rattle.ng_fire.specs.TrackingOf.{items_of}
-use Rattle.ng_link.specs.Events.{scope_in}
 use Rattle.ng_link.specs.Instances.{Body, linked_at}
 use Rattle.ng_link.specs.PlaceOf.{outlet_of_linked}
 use Rattle.ng_link.specs.State.{body_of, state_of}
-use Rattle.ng_template.specs.RepeatedOf.{repeated_of}
+use Rattle.ng_parts.specs.RepeatedOf.{repeated_of}
 use Rattle.ng_fire.proofs.repeats.fire_keyed.Goals as goal
 
 -- the outlet is there, and so its rows are those that are copied
@@ -24,7 +24,7 @@ pub fire_plan-requires-clause-stand : goal.fire_plan-requires-clause-stand
 fire_plan-requires-clause-stand c =
     let is = (state_of c.args.works.now).instances in
     let spot = c.args.spot.now in
-    let one = there (outlet_of_linked spot.outlet (linked_at spot.holder.now is)) (outlet_there spot.holder.now spot.outlet is c.requires.spot.outlet) in
+    let one = there (outlet_of_linked spot.outlet (linked_at spot.holder.now is)) (outlet_there spot.holder.now spot.outlet spot.scope.0 (map (λ (n : ScopeId). n.0) spot.outsides.now) is c.requires.spot.outlet) in
     ap bodies_or one.1 ∙ (sym (c.in_ok-bodies.ensures one.0 one.1) ∙ sym (ap (map body_of) c.as_slice-in-Ok.ensures.value))
 
 pub fire_plan-requires-clause-old : goal.fire_plan-requires-clause-old
@@ -42,15 +42,16 @@ returns-in-Err-clause-fired c =
     let spot = c.args.spot.now in
     let holder : List ℕ = spot.holder.now in
     let is = (state_of w).instances in
-    let scope : ℕ = scope_in (linked_at holder is) in
+    let scope : ℕ = spot.scope.0 in
+    let outs : List ℕ = map (λ (n : ScopeId). n.0) spot.outsides.now in
     let r : Repeated = repeated_of c.args.repeated.now in
     let g : Firing = firing w c.args.told.now in
-    let one = there (outlet_of_linked spot.outlet (linked_at holder is)) (outlet_there holder spot.outlet is c.requires.spot.outlet) in
+    let one = there (outlet_of_linked spot.outlet (linked_at holder is)) (outlet_there holder spot.outlet spot.scope.0 (map (λ (n : ScopeId). n.0) spot.outsides.now) is c.requires.spot.outlet) in
     let stand : rows_at holder spot.outlet is ≡ map body_of c.as_slice.result.now = ap bodies_or one.1 ∙ (sym (c.in_ok-bodies.ensures one.0 one.1) ∙ sym (ap (map body_of) c.as_slice.ensures.value)) in
     let refused : as_fault (planned (keys_of (rows_at holder spot.outlet is)) c.args.keys.now) ≡ Err c.in-Err.f =
     ap (λ (bs : List Body). as_fault (planned (keys_of bs) c.args.keys.now)) stand ∙ (sym c.in_ok-f.ensures.plan ∙ c.in-Err.is) in
     c.fault.ensures.fired
-    ∙ sym (ap (λ (p : Result Plan Fault). by_plan holder scope spot.outlet spot.origin r (rows_at holder spot.outlet is) (items_of c.args.items.items) c.args.keys.now p g) refused)
+    ∙ sym (ap (λ (p : Result Plan Fault). by_plan holder scope outs spot.outlet spot.origin r (rows_at holder spot.outlet is) (items_of c.args.items.items) c.args.keys.now p g) refused)
 
 pub returns-in-Ok-clause-fired : goal.returns-in-Ok-clause-fired
 returns-in-Ok-clause-fired c =
@@ -58,13 +59,14 @@ returns-in-Ok-clause-fired c =
     let spot = c.args.spot.now in
     let holder : List ℕ = spot.holder.now in
     let is = (state_of w).instances in
-    let scope : ℕ = scope_in (linked_at holder is) in
+    let scope : ℕ = spot.scope.0 in
+    let outs : List ℕ = map (λ (n : ScopeId). n.0) spot.outsides.now in
     let r : Repeated = repeated_of c.args.repeated.now in
     let g : Firing = firing w c.args.told.now in
-    let one = there (outlet_of_linked spot.outlet (linked_at holder is)) (outlet_there holder spot.outlet is c.requires.spot.outlet) in
+    let one = there (outlet_of_linked spot.outlet (linked_at holder is)) (outlet_there holder spot.outlet spot.scope.0 (map (λ (n : ScopeId). n.0) spot.outsides.now) is c.requires.spot.outlet) in
     let stand : rows_at holder spot.outlet is ≡ map body_of c.as_slice-in-Ok.result.now = ap bodies_or one.1 ∙ (sym (c.in_ok-bodies.ensures one.0 one.1) ∙ sym (ap (map body_of) c.as_slice-in-Ok.ensures.value)) in
     ok_then c.fire_plan.result c.fire_plan.ensures.fired
-    (λ fired. fired ∙ sym (ap (λ (bs : List Body). by_keys holder scope spot.outlet spot.origin r bs (items_of c.args.items.items) (Ok c.args.keys.now) g) stand))
+    (λ fired. fired ∙ sym (ap (λ (bs : List Body). by_keys holder scope outs spot.outlet spot.origin r bs (items_of c.args.items.items) (Ok c.args.keys.now) g) stand))
 
 pub returns-in-Err-clause-keeps : goal.returns-in-Err-clause-keeps
 returns-in-Err-clause-keeps c =

@@ -1,5 +1,6 @@
 use Rattle.std.proofs.Common.{◌∙◌, ℕ, List, ap, length, map, subst, sym}
 use Rattle.std.specs.Prelude.{Result}
+use Rattle.ng_base.specs.declared.name.ScopeId.{ScopeId}
 use Rattle.ng_blocks.specs.declared.plans.Plan.{Plan}
 use Rattle.ng_blocks.specs.declared.plans.PlanFault.{PlanFault}
 use Rattle.ng_drawing.specs.declared.origin.Origin.{Origin}
@@ -12,10 +13,9 @@ use Rattle.ng_fire.specs.Repeats.{Row, as_fault, bodies_at, by_plan, kept_rows, 
 use Rattle.ng_fire.specs.RepeatsOf.{KeptOrGone, RowsOfStand, rows_of}
 use Rattle.ng_fire.specs.Serving.{BodiesStay}
 use Rattle.ng_fire.specs.TrackingOf.{items_of}
-use Rattle.ng_link.specs.Events.{scope_in}
-use Rattle.ng_link.specs.Instances.{Body, linked_at}
+use Rattle.ng_link.specs.Instances.{Body}
 use Rattle.ng_link.specs.State.{body_of, state_of}
-use Rattle.ng_template.specs.RepeatedOf.{repeated_of}
+use Rattle.ng_parts.specs.RepeatedOf.{repeated_of}
 use Rattle.ng_fire.proofs.repeats.fire_plan.Goals as goal
 
 pub change_rows-requires-clause-rows : goal.change_rows-requires-clause-rows
@@ -35,15 +35,16 @@ returns-clause-fired c =
     let w = c.args.works.now in
     let spot = c.args.spot.now in
     let holder : List ℕ = spot.holder.now in
-    let scope : ℕ = scope_in (linked_at holder (state_of w).instances) in
+    let scope : ℕ = spot.scope.0 in
+    let outs : List ℕ = map (λ (n : ScopeId). n.0) spot.outsides.now in
     let which : Origin = spot.origin in
     let r : Repeated = repeated_of c.args.repeated.now in
     let bs : List Body = map body_of c.args.bodies.now in
     let g : Firing = firing w c.args.told.now in
     ok_then c.change_rows.result c.change_rows.ensures.fired
     (λ fired. fired
-    ∙ (ap (λ (rs : List Row). rows_changed holder scope spot.outlet which r (bodies_at bs c.args.plan.now.gone) rs g) (ap rows_of c.as_slice.ensures.value ∙ c.in_ok-rows.ensures)
-    ∙ sym (ap (λ (p : Result Plan PlanFault). by_plan holder scope spot.outlet which r bs (items_of c.args.items.items) c.args.keys.now (as_fault p) g) c.requires.plan)))
+    ∙ (ap (λ (rs : List Row). rows_changed holder scope outs spot.outlet which r (bodies_at bs c.args.plan.now.gone) rs g) (ap rows_of c.as_slice.ensures.value ∙ c.in_ok-rows.ensures)
+    ∙ sym (ap (λ (p : Result Plan PlanFault). by_plan holder scope outs spot.outlet which r bs (items_of c.args.items.items) c.args.keys.now (as_fault p) g) c.requires.plan)))
 
 pub returns-clause-kept : goal.returns-clause-kept
 returns-clause-kept c =

@@ -1,5 +1,6 @@
-use Rattle.std.proofs.Common.{rules, ◌≡◌, ◌∙◌, ℕ, false, List, [], ap, length, subst, sym, arith}
+use Rattle.std.proofs.Common.{rules, ◌≡◌, ◌∙◌, ℕ, false, List, [], ap, length, subst, sym, arith, map}
 use Rattle.std.specs.Prelude.{Ok, Err}
+use Rattle.ng_base.specs.declared.name.ScopeId.{ScopeId}
 use Rattle.ng_base.specs.Faults.{is_memory}
 use Rattle.ng_base.specs.ViewOf.{view_of}
 use Rattle.ng_core.specs.Frames as cores
@@ -18,10 +19,8 @@ use Rattle.ng_fire.specs.Repeats.{by_items, items_made, with_state}
 use Rattle.ng_fire.specs.Tracking.{Item}
 use Rattle.ng_fire.specs.TrackingOf.{EntriesStand, items_of}
 use Rattle.ng_link.specs.Calls.{with_core}
-use Rattle.ng_link.specs.Events.{scope_in}
-use Rattle.ng_link.specs.Instances.{linked_at}
 use Rattle.ng_link.specs.State.{state_of}
-use Rattle.ng_template.specs.RepeatedOf.{repeated_of}
+use Rattle.ng_parts.specs.RepeatedOf.{repeated_of}
 use Rattle.ng_fire.proofs.repeats.fire_repeat.Goals as goal
 
 pub make_items-made-requires-clause-entries : goal.make_items-made-requires-clause-entries
@@ -58,7 +57,8 @@ returns-in-Err-clause-fired c =
     let w = c.args.works.now in
     let spot = c.args.spot.now in
     let holder : List ℕ = spot.holder.now in
-    let scope : ℕ = scope_in (linked_at holder (state_of w).instances) in
+    let scope : ℕ = spot.scope.0 in
+    let outs : List ℕ = map (λ (n : ScopeId). n.0) spot.outsides.now in
     let r : Repeated = repeated_of c.args.repeated.now in
     let g : Firing = firing w c.args.told.now in
     let s : act.State = (state_of w).core in
@@ -66,14 +66,15 @@ returns-in-Err-clause-fired c =
     let made : items_made (entries_in (view_of c.args.value.now)) [] s ≡ (cores.state_of c.make_items-made.new.core, Err c.in-Err.f) =
     ap (λ (es : List Entry). items_made es [] s) (sym c.in_ok-entries.ensures) ∙ c.in-Err.ensures.run other in
     c.fault.ensures.fired
-    ∙ sym (ap (λ (x : Run (List Item)). by_items holder scope spot.outlet spot.origin r x.1 (with_state (with_core x.0 g.state) g)) made)
+    ∙ sym (ap (λ (x : Run (List Item)). by_items holder scope outs spot.outlet spot.origin r x.1 (with_state (with_core x.0 g.state) g)) made)
 
 pub returns-in-Ok-clause-fired : goal.returns-in-Ok-clause-fired
 returns-in-Ok-clause-fired c =
     let w = c.args.works.now in
     let spot = c.args.spot.now in
     let holder : List ℕ = spot.holder.now in
-    let scope : ℕ = scope_in (linked_at holder (state_of w).instances) in
+    let scope : ℕ = spot.scope.0 in
+    let outs : List ℕ = map (λ (n : ScopeId). n.0) spot.outsides.now in
     let r : Repeated = repeated_of c.args.repeated.now in
     let g : Firing = firing w c.args.told.now in
     let s : act.State = (state_of w).core in
@@ -81,7 +82,7 @@ returns-in-Ok-clause-fired c =
     ap (λ (es : List Entry). items_made es [] s) (sym c.in_ok-entries.ensures) ∙ c.in-Ok.ensures.run in
     ok_then c.fire_items.result c.fire_items.ensures.fired
     (λ fired. fired
-    ∙ sym (ap (λ (x : Run (List Item)). by_items holder scope spot.outlet spot.origin r x.1 (with_state (with_core x.0 g.state) g)) made))
+    ∙ sym (ap (λ (x : Run (List Item)). by_items holder scope outs spot.outlet spot.origin r x.1 (with_state (with_core x.0 g.state) g)) made))
 
 pub returns-in-Err-clause-keeps : goal.returns-in-Err-clause-keeps
 returns-in-Err-clause-keeps c =

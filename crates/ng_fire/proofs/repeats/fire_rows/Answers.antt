@@ -1,4 +1,5 @@
-use Rattle.std.proofs.Common.{◌≡◌, ◌∙◌, ◌+◌, ℕ, suc, List, ◌∷◌, ap, drop, length, refl, sym, subst, arith}
+use Rattle.std.proofs.Common.{◌≡◌, ◌∙◌, ◌+◌, ℕ, suc, List, ◌∷◌, ap, drop, length, map, refl, sym, subst, arith}
+use Rattle.ng_base.specs.declared.name.ScopeId.{ScopeId}
 use Rattle.ng_drawing.specs.declared.origin.Origin.{Origin}
 use Rattle.ng_fire.proofs.Answered.{dropped}
 use Rattle.ng_fire.proofs.KeptRows.{rows_wider}
@@ -7,10 +8,8 @@ use Rattle.ng_fire.proofs.RowsTaken.{keeps_same, keeps_then, spot_stays}
 use Rattle.ng_fire.specs.FiringOf.{firing}
 use Rattle.ng_fire.specs.Repeats.{Filled, Row, filled_to, row_fired, row_names, rows_fired}
 use Rattle.ng_fire.specs.RepeatsOf.{RowsOfStand, row_of, rows_of}
-use Rattle.ng_link.specs.Events.{scope_in}
-use Rattle.ng_link.specs.Instances.{linked_at}
 use Rattle.ng_link.specs.State.{state_of, templates_of}
-use Rattle.ng_template.specs.RepeatedOf.{repeated_of}
+use Rattle.ng_parts.specs.RepeatedOf.{repeated_of}
 use Rattle.ng_fire.proofs.repeats.fire_rows.Goals as goal
 
 pub fire_row-requires-clause-spot : goal.fire_row-requires-clause-spot
@@ -55,15 +54,16 @@ loop-i-preserved c =
     let r : Row = row_of c.index-rows-i.result in
     let rest : List Row = rows_of (drop (l.i + 1) rows) in
     let e : rows_of (drop l.i rows) ≡ r ∷ rest = ap rows_of (dropped rows l.i c.index-rows-i.result c.loop-i-test.true c.index-rows-i.is) in
-    let scope : ℕ = scope_in (linked_at holder (state_of first).instances) in
+    let scope : ℕ = spot.scope.0 in
+    let outs : List ℕ = map (λ (n : ScopeId). n.0) spot.outsides.now in
     let before : Filled = filled_to l.at (firing l.works l.told) in
     let done = c.in_ok-at.ensures in
     let names = row_names repeated count l.i r.item in
     let next : l.i + 1 ≡ suc l.i = omega arith in
     record {
-      fired = ap (λ (f : Filled). (rows_fired holder scope o which repeated count (l.i + 1) rest f).firing) (done.fired ∙ ap (λ (n : ℕ). row_fired holder n o which r names r.from before) l.invariant.keeps.scope)
-          ∙ (ap (λ (n : ℕ). (rows_fired holder scope o which repeated count n rest (row_fired holder scope o which r names r.from before)).firing) next
-          ∙ (sym (ap (λ (rs : List Row). (rows_fired holder scope o which repeated count l.i rs before).firing) e) ∙ l.invariant.fired));
+      fired = ap (λ (f : Filled). (rows_fired holder scope outs o which repeated count (l.i + 1) rest f).firing) done.fired
+          ∙ (ap (λ (n : ℕ). (rows_fired holder scope outs o which repeated count n rest (row_fired holder scope outs o which r names r.from before)).firing) next
+          ∙ (sym (ap (λ (rs : List Row). (rows_fired holder scope outs o which repeated count l.i rs before).firing) e) ∙ l.invariant.fired));
       few = done.few;
       keeps = keeps_then holder (state_of first).instances (state_of l.works).instances (state_of w).instances l.invariant.keeps done.keeps;
       others = others_then holder (state_of first).instances (state_of l.works).instances (state_of w).instances l.invariant.others done.others;

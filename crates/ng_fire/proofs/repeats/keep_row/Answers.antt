@@ -11,13 +11,13 @@ use Rattle.ng_fire.specs.TrackingOf.{item_of}
 use Rattle.ng_link.specs.Calls.{with_core}
 use Rattle.ng_link.specs.State.{state_of}
 use Rattle.ng_members.specs.Leaves.{Local}
-use Rattle.ng_template.specs.RepeatedOf.{repeated_of}
+use Rattle.ng_parts.specs.RepeatedOf.{repeated_of}
 use Rattle.ng_fire.proofs.repeats.keep_row.Goals as goal
 
 pub tell_row-requires-clause-scope : goal.tell_row-requires-clause-scope
 tell_row-requires-clause-scope c =
     let w = c.args.works.now in
-    subst (λ (n : ℕ). n < length w.core.scopes) (sym c.scope_on-scope.ensures) (scope_stands w.core.scopes (state_of w).instances c.args.path.now c.requires.whole.root c.requires.whole.scopes)
+    subst (λ (n : ℕ). n < length w.core.scopes) (sym c.scope_on-scope.ensures) (scope_stands w.core.scopes (state_of w).inner (state_of w).instances c.args.path.now c.requires.whole.root c.requires.whole.scopes)
 
 pub returns-clause-state : goal.returns-clause-state
 returns-clause-state c =

@@ -45,16 +45,20 @@ returns-in-Some-clause-rest c =
     let w = c.args.works.now in
     let b : Body = body_of c.in-Some.body.now in
     let get : slice_get (map body_of c.args.bodies.now) c.args.i ≡ Some b = row_at c.args.bodies.now c.args.i c.in-Some.body.now c.in-Some.ensures.lookup.3.0 c.in-Some.ensures.lookup.1 in
-    let asked = subst (λ (x : Option Body). AreRowsAt c.args.spot.now.holder.now c.args.spot.now.outlet (body_at x) (state_of w).instances) get c.requires.row in
     ok_then c.unlink.result c.unlink.ensures.state
     (λ state. subst (λ (x : Option Body). RestStays c.args.spot.now.holder.now (body_at x) (state_of w).instances (state_of c.unlink.new.self).instances) (sym get)
-    (one_rest _ _ c.args.spot.now.holder.now c.args.spot.now.outlet b (state_of w) (state_of c.unlink.new.self) c.requires.whole.standing.1.built.each asked state))
+    (one_rest c.args.spot.now.holder.now b (state_of w) (state_of c.unlink.new.self) state))
 
 pub returns-in-Some-clause-whole : goal.returns-in-Some-clause-whole
 returns-in-Some-clause-whole c =
     let m = c.args.works.now in
     let w = c.unlink.new.self in
+    let b : Body = body_of c.in-Some.body.now in
+    let get : slice_get (map body_of c.args.bodies.now) c.args.i ≡ Some b = row_at c.args.bodies.now c.args.i c.in-Some.body.now c.in-Some.ensures.lookup.3.0 c.in-Some.ensures.lookup.1 in
+    let asked = subst (λ (x : Option Body). AreRowsAt c.args.spot.now.holder.now c.args.spot.now.outlet (body_at x) (state_of m).instances) get c.requires.row in
+    let standing = c.requires.whole.standing.1 in
+    let held = one_held _ _ c.args.spot.now.holder.now c.args.spot.now.outlet b (state_of m) standing.built.each asked in
     ok_and c.unlink.result c.unlink.ensures.state c.unlink.ensures.stands
     (λ state stands. whole_by m w c.requires.whole c.unlink.ensures.core stands
     (subst (λ (s : State). Stays m.core.scopes (length m.core.store) s) (sym state)
-    (unlinked_stays m.core.scopes (length m.core.store) c.args.spot.now.holder.now c.in-Some.body.now.path (state_of m) (stays_of m c.requires.whole))))
+    (unlinked_stays m.core.scopes (length m.core.store) c.args.spot.now.holder.now b.path (state_of m) standing.inner (standing.built.bodies.linked c.args.spot.now.holder.now b.path held) (stays_of m c.requires.whole))))

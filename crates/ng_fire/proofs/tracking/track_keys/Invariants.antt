@@ -1,7 +1,7 @@
 use Rattle.std.proofs.Common.{◌≡◌, [], drop}
 use Rattle.ng_fire.specs.Tracking.{track_keys}
 use Rattle.ng_fire.specs.TrackingOf.{items_of}
-use Rattle.ng_template.specs.RepeatedOf.{repeated_of}
+use Rattle.ng_parts.specs.RepeatedOf.{repeated_of}
 use Rattle.ng_fire.proofs.tracking.track_keys.Given as goal
 
 abbrev pub invariant-loop-i : goal.invariant-loop-i

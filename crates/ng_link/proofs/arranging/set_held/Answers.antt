@@ -17,6 +17,6 @@ returns-in-Some-clause-arranged c = λ all.
     ∙ written all c.args.holder.now (bodies_arranged c.args.outlet (map body_of c.args.bodies.items)) es c.in-Some.one.now w (sym c.in-Some.ensures.value) refl c.set_bodies.ensures
 
 pub returns-in-Some-clause-spots : goal.returns-in-Some-clause-spots
-returns-in-Some-clause-spots c = λ k.
+returns-in-Some-clause-spots c = λ inner k.
     let w = record c.in-Some.one.now { outlets = c.set_bodies.new.outlets } in
-    ap (λ es. spot_in es k) (c.get_mut.follows.holds w).0 ∙ spots_written c.args.holder.now k c.args.instances.now.entries c.in-Some.one.now w (sym c.in-Some.ensures.value) refl
+    ap (λ es. spot_in inner es k) (c.get_mut.follows.holds w).0 ∙ spots_written inner c.args.holder.now k c.args.instances.now.entries c.in-Some.one.now w (sym c.in-Some.ensures.value) refl

@@ -5,9 +5,11 @@ use Rattle.ng_dom.specs.Drawing.{shows}
 use Rattle.ng_dom.specs.Nodes.{names_of}
 use Rattle.ng_drawing.specs.Nodes.{nodes}
 use Rattle.ng_drawing.specs.Template.{Part, Contents, parts_from}
-use Rattle.ng_template.specs.Seen.{part_of, contents_of}
+use Rattle.ng_parts.specs.ActsOf.{acts_of}
+use Rattle.ng_parts.specs.Numbering.{bound_numbers}
+use Rattle.ng_parts.specs.Seen.{part_of, contents_of}
 use Rattle.ng_link.specs.Building.{unset, parent_name, Builds}
-use Rattle.ng_link.specs.Shape.{keys_in, linked_values, content_shape, shape, unfilled, part_holes, holes}
+use Rattle.ng_link.specs.Shape.{keys_by, linked_values, content_shape, shape, unfilled, own_node, part_holes, content_holes, holes}
 use Rattle.ng_link.proofs.Built.{element_whole, builds_then, names_then}
 use Rattle.ng_link.proofs.Loops.{split_at, there_still, room_for, part_within}
 use Rattle.ng_link.proofs.Shapes.{holes-push}
@@ -17,12 +19,28 @@ pub build_whole-returns-clause-builds : goal.build_whole-returns-clause-builds
 build_whole-returns-clause-builds t c =
     let d = c.args.dom.now in
     let e = c.build_element.new.dom in
-    let keys = keys_in c.args.path.now c.args.serials.now in
+    let keys = keys_by c.args.keys.now in
     let q : Contents = contents_of c.args.contents.now in
     let kids = c.in_ok-kids.ensures.builds in
     let becomes = c.fill.ensures.reads (shows unset (content_shape keys (next_name e) unfilled q)) (sym c.in_ok-kids.ensures.names) kids.reads in
     element_whole (parent_name c.args.parent) keys c.in_ok-n.n.made.0 c.args.name.now (linked_values keys c.args.attributes.now) q d e c.build_contents.new.dom c.fill.new.self
     c.in_ok-n.ensures.name c.in_ok-n.ensures.builds kids becomes c.fill.ensures.stays
+
+pub build_whole-returns-clause-holes : goal.build_whole-returns-clause-holes
+build_whole-returns-clause-holes t c =
+    let m = next_name c.args.dom.now in
+    let e = c.build_element.new.dom in
+    let n = c.in_ok-n.n.made.0 in
+    let q : Contents = contents_of c.args.contents.now in
+    let before : List ℕ = c.args.spots.now.items in
+    let bounds : ℕ → List ℕ = λ k. map (λ (_ : ℕ). k) (bound_numbers (acts_of c.args.acts.now)) in
+    let inside : ℕ → ℕ → List ℕ = λ k j. map (own_node k q) c.args.own.now ++ content_holes j q in
+    let next : next_name e ≡ m + 1 = c.in_ok-n.ensures.builds.next in
+    c.in_ok-kids.ensures.holes
+    ∙ (ap (λ (ns : List ℕ). ns ++ inside n (next_name e)) c.in_ok-note_uses.ensures
+    ∙ (append_assoc before (bounds n) (inside n (next_name e))
+    ∙ (ap (λ (k : ℕ). before ++ (bounds k ++ inside k (next_name e))) c.in_ok-n.ensures.name
+    ∙ ap (λ (j : ℕ). before ++ (bounds m ++ inside m j)) next)))
 
 pub build_parts-build_part-requires : goal.build_parts-build_part-requires
 build_parts-build_part-requires t c =
@@ -44,7 +62,7 @@ build_parts-loop-part-preserved t c =
     let i = c.loop-part.part-index in
     let x = c.part-item.result in
     let q = part_of x in
-    let keys = keys_in c.args.path.now c.args.serials.now in
+    let keys = keys_by c.args.keys.now in
     let m = next_name c.args.dom.now in
     let k = next_name c.loop-part.dom in
     let ps : List Part = map part_of (take i xs) in

@@ -4,15 +4,15 @@ use Rattle.ng_dom.specs.Drawing.{shows}
 use Rattle.ng_dom.specs.Nodes.{names_of}
 use Rattle.ng_drawing.specs.Nodes.{part_nodes, content_nodes, nodes}
 use Rattle.ng_drawing.specs.Template.{parts_from}
-use Rattle.ng_template.specs.Seen.{part_of, contents_of}
+use Rattle.ng_parts.specs.Seen.{part_of, contents_of}
 use Rattle.ng_link.specs.Building.{unset, parent_name, Builds}
-use Rattle.ng_link.specs.Shape.{keys_in, shape, unfilled, holes}
+use Rattle.ng_link.specs.Shape.{keys_by, shape, unfilled, holes}
 use Rattle.ng_link.proofs.building.+build.Given as goal
 
 abbrev pub invariant-build_parts-loop-part : goal.invariant-build_parts-loop-part
 invariant-build_parts-loop-part l =
     let done = parts_from (map part_of (take l.part-index l.parts)) in
-    let keys = keys_in l.path l.serials in
+    let keys = keys_by l.keys in
     let m = next_name l.initial.dom in
     record {
       names : l.group.nodes.items ≡ names_of (shows unset (shape keys m unfilled done));

@@ -5,7 +5,7 @@ use Rattle.ng_dom.specs.Editing.{changed_in, with_attributes}
 use Rattle.ng_drawing.specs.Template.{PartAttributes}
 use Rattle.ng_link.specs.Building.{unset, parent_name, IsMade}
 use Rattle.ng_link.specs.Seen.{drawn_of}
-use Rattle.ng_link.specs.Shape.{keys_in, linked_values}
+use Rattle.ng_link.specs.Shape.{keys_by, linked_values}
 use Rattle.ng_link.proofs.Built.{element_builds, element_bare}
 use Rattle.ng_dom.specs.Document.{next_name}
 use Rattle.ng_dom.specs.Nodes.{named_element, nothing_named}
@@ -21,7 +21,7 @@ returns-then-not-is_empty-clause-builds c =
     let e = c.make.new.dom in
     let n = c.in_ok-n.n.made.0 in
     let p = parent_name c.args.parent in
-    let keys = keys_in c.args.path.now c.args.serials.now in
+    let keys = keys_by c.args.keys.now in
     let ats = linked_values keys c.args.attributes.now in
     let drawn : map drawn_of c.in_ok-drawn.drawn.items ≡ ats = c.in_ok-drawn.ensures.attributes ∙ ap (λ (xs : PartAttributes). linked_values keys xs) c.as_slice.ensures in
     let shown : c.in_ok-shown.shown.entries ≡ drawn_attributes unset ats =
@@ -37,7 +37,7 @@ returns-else-not-is_empty-clause-builds c =
     let e = c.make.new.dom in
     let n = c.in_ok-n.n.made.0 in
     let p = parent_name c.args.parent in
-    let keys = keys_in c.args.path.now c.args.serials.now in
+    let keys = keys_by c.args.keys.now in
     let ats = linked_values keys c.args.attributes.now in
     let drawn : map drawn_of c.in_ok-drawn.drawn.items ≡ ats = c.in_ok-drawn.ensures.attributes ∙ ap (λ (xs : PartAttributes). linked_values keys xs) c.as_slice.ensures in
     let shown : c.in_ok-shown.shown.entries ≡ drawn_attributes unset ats =

@@ -1,5 +1,5 @@
 use Rattle.std.proofs.Common.{◌≡◌, ◌++◌, drop, map}
-use Rattle.ng_template.specs.PieceOf.{piece_of}
+use Rattle.ng_parts.specs.PieceOf.{piece_of}
 use Rattle.ng_link.specs.Shape.{piece_holes}
 use Rattle.ng_link.proofs.building.note_holes.Given as goal
 

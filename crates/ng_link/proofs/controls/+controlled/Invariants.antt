@@ -1,15 +1,15 @@
 use Rattle.std.proofs.Common.{◌≡◌, ◌+◌, ◌*◌, drop, map}
 use Rattle.ng_drawing.specs.Nodes.{part_nodes, content_nodes, nodes}
 use Rattle.ng_drawing.specs.Template.{parts_from}
-use Rattle.ng_template.specs.Seen.{part_of, contents_of}
+use Rattle.ng_parts.specs.Seen.{part_of, contents_of}
 use Rattle.ng_link.specs.Controls.{controlled}
-use Rattle.ng_link.specs.Shape.{keys_in}
+use Rattle.ng_link.specs.Shape.{keys_or}
 use Rattle.ng_link.specs.State.{controlled_of}
 use Rattle.ng_link.proofs.controls.+controlled.Given as goal
 
 abbrev pub invariant-enter_controls-loop-part : goal.invariant-enter_controls-loop-part
 invariant-enter_controls-loop-part l =
-    let keys = keys_in l.path l.serials in
+    let keys = keys_or l.path l.keys in
     let left = parts_from (map part_of (drop l.part-index l.parts)) in
     let all = parts_from (map part_of l.parts) in
     record {

@@ -1,6 +1,6 @@
 use Rattle.std.proofs.Common.{◌≡◌, ◌++◌, drop, map}
-use Rattle.ng_link.specs.Shape.{keys_in}
+use Rattle.ng_link.specs.Shape.{keys_by}
 use Rattle.ng_link.proofs.copying.copied_keys.Given as goal
 
 abbrev pub invariant-loop-n : goal.invariant-loop-n
-invariant-loop-n l = l.keys.items ++ map (keys_in l.path l.serials) (drop l.n-index l.numbers) ≡ map (keys_in l.path l.serials) l.numbers
+invariant-loop-n l = l.all.items ++ map (keys_by l.keys) (drop l.n-index l.numbers) ≡ map (keys_by l.keys) l.numbers

@@ -1,5 +1,5 @@
 use Rattle.std.proofs.Common.{arith}
-use Rattle.ng_template.specs.Seen.{part_of}
+use Rattle.ng_parts.specs.Seen.{part_of}
 use Rattle.ng_link.proofs.Loops.{part_within}
 use Rattle.ng_link.proofs.handling.+handled.Goals as goal
 

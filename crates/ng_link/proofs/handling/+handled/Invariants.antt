@@ -1,7 +1,7 @@
 use Rattle.std.proofs.Common.{◌≡◌, ◌+◌, ◌*◌, drop, map}
 use Rattle.ng_drawing.specs.Nodes.{part_nodes, content_nodes, nodes}
 use Rattle.ng_drawing.specs.Template.{parts_from}
-use Rattle.ng_template.specs.Seen.{part_of, contents_of}
+use Rattle.ng_parts.specs.Seen.{part_of, contents_of}
 use Rattle.ng_link.specs.Handlers.{handled}
 use Rattle.ng_link.specs.State.{handled_of}
 use Rattle.ng_link.proofs.handling.+handled.Given as goal

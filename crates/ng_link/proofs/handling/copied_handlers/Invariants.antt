@@ -1,5 +1,5 @@
 use Rattle.std.proofs.Common.{◌≡◌, ◌++◌, drop, map}
-use Rattle.ng_template.specs.Seen.{handler_of}
+use Rattle.ng_parts.specs.Seen.{handler_of}
 use Rattle.ng_link.proofs.handling.copied_handlers.Given as goal
 
 abbrev pub invariant-loop-handler : goal.invariant-loop-handler

@@ -1,6 +1,6 @@
 use Rattle.std.proofs.Common.{◌≡◌, ◌++◌, drop, map}
 use Rattle.ng_parse.specs.ProgramOf.{program}
-use Rattle.ng_template.specs.Seen.{handler_of}
+use Rattle.ng_parts.specs.Seen.{handler_of}
 use Rattle.ng_link.specs.Handlers.{for_event}
 use Rattle.ng_link.proofs.handling.for_event.Given as goal
 

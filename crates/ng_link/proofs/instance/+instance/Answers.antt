@@ -7,10 +7,11 @@ use Rattle.std.specs.Prelude.{option_map}
 use Rattle.std.proofs.lemmas.List.{drop_all}
 use Rattle.ng_base.specs.Order.{path_cmp}
 use Rattle.ng_drawing.specs.Instance.{Instance, SiteState, Group, instance_with, instances_from, outlets_from}
-use Rattle.ng_drawing.specs.InstanceOf.{instance_of as seen_instance, group_of as seen_group}
+use Rattle.ng_drawing.specs.InstanceOf.{state_of as seen_state, instance_of as seen_instance, group_of as seen_group}
 use Rattle.ng_drawing.specs.Roles.{Role}
 use Rattle.ng_drawing.specs.RolesOf.{role_of}
-use Rattle.ng_template.specs.Kept.{fragments_in}
+use Rattle.ng_drawing.specs.declared.origin.Origin.{Origin}
+use Rattle.ng_compose.specs.Kept.{fragments_in}
 use Rattle.ng_link.specs.Instances.{Body, OutletState, Linked, is_path, linked_at, read_bodies}
 use Rattle.ng_link.specs.State.{body_of, outlet_of, linked_of, templates_of, site_states, roles_in, groups_in, nothing_linked, instance_join, instance_at, body_at, state_of}
 use Rattle.ng_link.specs.declared.works.Body as code_body
@@ -86,9 +87,10 @@ instance_on-returns t c =
     let many : map (seen_group (fragments_in (templates_of w))) c.in_ok-outlets.outlets.items ≡ read_groups l.page.outlets =
     c.in_ok-outlets.ensures ∙ ap (λ (os : List code_outlet.OutletState). read_groups (map outlet_of os)) c.as_slice.ensures.value in
     let outlets : List Group = map (seen_group (fragments_in (templates_of w))) c.in_ok-outlets.outlets.items in
-    instance_made (fragments_in (templates_of w)) (record { origin = i.origin; scope = i.scope; sites = c.in_ok-sites.sites; outlets = c.in_ok-outlets.outlets })
+    instance_made (fragments_in (templates_of w)) (record { origin = c.in_ok-copied.field-0; scope = i.scope; sites = c.in_ok-sites.sites; outlets = c.in_ok-outlets.outlets })
+    ∙ (ap (λ (o : Origin). instance_with (fragments_in (templates_of w) o) l.page.scope (map seen_state c.in_ok-sites.sites.items) (outlets_from outlets)) c.in_ok-copied.ensures
     ∙ (ap (λ (xs : List SiteState). instance_with l.fragment l.page.scope xs (outlets_from outlets)) c.in_ok-sites.ensures
-    ∙ (ap (λ (os : List Group). instance_with l.fragment l.page.scope (site_states s.watchers s.resting s.controls l.page) (outlets_from os)) many ∙ sym read))
+    ∙ (ap (λ (os : List Group). instance_with l.fragment l.page.scope (site_states s.watchers s.resting s.controls l.page) (outlets_from os)) many ∙ sym read)))
 
 pub outlets_in-loop-outlet-preserved : goal.outlets_in-loop-outlet-preserved
 outlets_in-loop-outlet-preserved t c =

@@ -3,12 +3,12 @@ use Rattle.ng_dom.specs.Document.{next_name}
 use Rattle.ng_drawing.specs.Nodes.{nodes}
 use Rattle.ng_drawing.specs.Template.{Parts}
 use Rattle.ng_link.specs.Building.{parent_name, IsStood}
-use Rattle.ng_link.specs.Shape.{keys_in, shape, unfilled}
+use Rattle.ng_link.specs.Shape.{keys_by, shape, unfilled}
 use Rattle.ng_link.proofs.linking.link_nodes.Goals as goal
 
 pub returns-clause-stood : goal.returns-clause-stood
 returns-clause-stood c =
-    let keys = keys_in c.args.path.now c.args.serials.now in
+    let keys = keys_by c.args.keys.now in
     let n = next_name c.args.dom.now in
     let F : Parts → Type 0 = λ ps. IsStood (parent_name c.args.spot.now.parent) c.args.spot.now.at (shape keys n unfilled ps) (nodes ps) c.args.dom.now c.stand_at.new.dom in
     subst F c.as_slice.ensures

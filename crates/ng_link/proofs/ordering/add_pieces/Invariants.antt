@@ -1,5 +1,5 @@
 use Rattle.std.proofs.Common.{◌≡◌, ◌++◌, drop, map}
-use Rattle.ng_template.specs.PieceOf.{piece_of}
+use Rattle.ng_parts.specs.PieceOf.{piece_of}
 use Rattle.ng_link.specs.Linking.{piece_steps}
 use Rattle.ng_link.specs.StepOf.{step_of}
 use Rattle.ng_link.proofs.ordering.add_pieces.Given as goal

@@ -1,9 +1,12 @@
 use Rattle.std.proofs.Common.{◌≡◌, ◌++◌, drop, map}
-use Rattle.ng_template.specs.FragmentOf as template
-use Rattle.ng_link.specs.Calls.{outlets_on}
+use Rattle.ng_parts.specs.FragmentOf.{fragment_of}
+use Rattle.ng_link.specs.BoundOf.{ground_of}
+use Rattle.ng_link.specs.Calls.{outlets_from, outlets_on}
 use Rattle.ng_link.specs.State.{outlet_of}
 use Rattle.ng_link.proofs.outlets.outlets_at.Given as goal
 
-abbrev pub invariant-loop-outlet : goal.invariant-loop-outlet
-invariant-loop-outlet l =
-    map outlet_of l.made.items ++ outlets_on l.home l.serials (map template.outlet_of (drop l.outlet-index l.outlets)) l.left ≡ outlets_on l.home l.serials (map template.outlet_of l.outlets) l.fn.names
+abbrev pub invariant-loop-i : goal.invariant-loop-i
+invariant-loop-i l =
+    let f = fragment_of l.fragment in
+    let g = ground_of l.ground in
+    map outlet_of l.made.items ++ outlets_from l.origin g l.serials f l.i (drop l.i f.outlets) l.left ≡ outlets_on l.origin g l.serials f l.fn.names

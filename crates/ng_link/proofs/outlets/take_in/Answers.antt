@@ -19,8 +19,8 @@ returns-in-Some-clause-taken c = λ all.
     c.add_body.ensures
 
 pub returns-in-Some-clause-spots : goal.returns-in-Some-clause-spots
-returns-in-Some-clause-spots c = λ k.
+returns-in-Some-clause-spots c = λ inner k.
     let w = record c.in-Some.one.now { outlets = c.add_body.new.outlets } in
     on_ok_weaker c.add_body.result
-    (λ _. ap (λ es. spot_in es k) (c.get_mut.follows.holds w).0 ∙ spots_written c.args.holder.now k c.args.instances.now.entries c.in-Some.one.now w (sym c.in-Some.ensures.value) refl)
+    (λ _. ap (λ es. spot_in inner es k) (c.get_mut.follows.holds w).0 ∙ spots_written inner c.args.holder.now k c.args.instances.now.entries c.in-Some.one.now w (sym c.in-Some.ensures.value) refl)
     c.add_body.ensures

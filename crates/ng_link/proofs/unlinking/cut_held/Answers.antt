@@ -25,10 +25,10 @@ returns-in-Some-clause-instances c = λ all.
     ∙ set_changed all c.args.holder.now (body_cut c.args.o c.args.i) one c.cut_outlet.new.outlets c.cut_outlet.ensures.outlets c.args.instances.now.entries (sym (c.in-Some.ensures).value)
 
 pub returns-in-Some-clause-spots : goal.returns-in-Some-clause-spots
-returns-in-Some-clause-spots c = λ k.
+returns-in-Some-clause-spots c = λ inner k.
     let one = c.in-Some.one.now in
     let new = record one { outlets = c.cut_outlet.new.outlets } in
-    ap (λ es. spot_in es k) (c.get_mut.follows.holds new).0 ∙ set_spots c.args.holder.now one new c.args.instances.now.entries (sym (c.in-Some.ensures).value) refl k
+    ap (λ es. spot_in inner es k) (c.get_mut.follows.holds new).0 ∙ set_spots inner c.args.holder.now one new c.args.instances.now.entries (sym (c.in-Some.ensures).value) refl k
 
 pub returns-in-Some-clause-anchor : goal.returns-in-Some-clause-anchor
 returns-in-Some-clause-anchor c = λ all x at.

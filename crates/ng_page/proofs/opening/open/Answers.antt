@@ -1,23 +1,24 @@
-use Rattle.std.proofs.Common.{◌≡◌, ◌∙◌, ◌<◌, ◌++◌, List, [], ◌∷◌, None, ap, arith, length, subst, sym}
-use Rattle.ng_app.specs.AppOf.{facts}
-use Rattle.ng_app.specs.Templates.{all_named}
+use Rattle.std.proofs.Common.{◌≡◌, ◌∙◌, ◌<◌, List, [], ◌∷◌, None, ap, arith, length, subst, sym}
 use Rattle.ng_fire.proofs.Placed.{templates_regular}
 use Rattle.ng_link.specs.State.{templates_of}
-use Rattle.ng_template.specs.Kept.{Named, templates_of as kept_templates}
-use Rattle.ng_template.specs.TemplateOf.{template_of}
+use Rattle.ng_compose.specs.Kept.{Named, templates_of as kept_templates}
+use Rattle.ng_parts.specs.TemplateOf.{template_of}
 use Rattle.ng_page.specs.Opening.{linked_on}
-use Rattle.ng_page.proofs.Opened.{one_added, first_name, first_template, each_regular}
+use Rattle.ng_page.proofs.Opened.{one_added, first_name, each_regular}
 use Rattle.ng_page.proofs.opening.open.Goals as goal
 
 pub prepare-requires : goal.prepare-requires
 prepare-requires c =
-    let only : kept_templates c.add.new.self ≡ (None, template_of c.args.t) ∷ [] = one_added _ _ _ c.new-templates.ensures c.in_ok-t.ensures.added in
-    subst (λ (ts : List Named). 0 < length ts) (sym only) (omega arith)
+    let only : kept_templates c.add.new.self ≡ (None, template_of c.args.t) ∷ [] = one_added _ _ _ c.new-templates.ensures.templates c.in_ok-t.ensures.added in
+    record {
+      some = subst (λ (ts : List Named). 0 < length ts) (sym only) (omega arith);
+      plain = c.add.ensures.directives ∙ c.new-templates.ensures.directives;
+    }
 
 pub link_page-requires : goal.link_page-requires
 link_page-requires c = record {
   works = c.in_ok-works.ensures.works;
-  first = first_name (kept_templates c.new-templates.result) c.in_ok-t.t.0 c.new-templates.ensures c.in_ok-t.ensures.answer;
+  first = first_name (kept_templates c.new-templates.result) c.in_ok-t.t.0 c.new-templates.ensures.templates c.in_ok-t.ensures.answer;
   bare = c.in_ok-works.ensures.bare;
   regular = each_regular (templates_of c.in_ok-works.works) (templates_regular c.in_ok-works.works);
 }
@@ -25,11 +26,8 @@ link_page-requires c = record {
 pub returns-clause-state : goal.returns-clause-state
 returns-clause-state c =
     let u = template_of c.args.t in
-    let only : kept_templates c.add.new.self ≡ (None, u) ∷ [] = one_added _ _ _ c.new-templates.ensures c.in_ok-t.ensures.added in
-    let first : c.in_ok-t.t.0 ≡ 0 = first_name (kept_templates c.new-templates.result) c.in_ok-t.t.0 c.new-templates.ensures c.in_ok-t.ensures.answer in
-    let more = all_named (facts c.args.app).templates in
-    let all : templates_of c.in_ok-works.works ≡ (None, u) ∷ more = c.in_ok-works.ensures.templates ∙ ap (λ (ts : List Named). ts ++ more) only in
-    c.in_ok-link_page.ensures.state u (first_template (templates_of c.in_ok-works.works) more c.in_ok-t.t.0 u all first) ∙ ap (linked_on u) (c.in_ok-works.ensures.state u only)
+    let only : kept_templates c.add.new.self ≡ (None, u) ∷ [] = one_added _ _ _ c.new-templates.ensures.templates c.in_ok-t.ensures.added in
+    c.in_ok-link_page.ensures.state ∙ ap linked_on (c.in_ok-works.ensures.state u only)
 
 pub returns-clause-page : goal.returns-clause-page
 returns-clause-page c = record {

@@ -3,13 +3,16 @@ use Rattle.ng_core.specs.Frames as cores
 use Rattle.ng_core.specs.Frames.{IsSound}
 use Rattle.ng_core.specs.declared.core_state.Core.{Core}
 use Rattle.ng_app.specs.AppOf.{facts}
+use Rattle.ng_app.specs.Directives.{all_unnamed, all_programs}
 use Rattle.ng_app.specs.Templates.{all_named}
 use Rattle.ng_fire.specs.Runs.{program_run}
 use Rattle.ng_fire.specs.Whole.{IsWhole}
 use Rattle.ng_link.specs.State.{State}
 use Rattle.ng_link.specs.declared.works.Works.{Works}
 use Rattle.ng_parse.specs.ProgramOf.{program}
-use Rattle.ng_template.specs.Kept.{Named, templates_of as kept_templates}
+use Rattle.ng_parts.specs.Directing.{Programs}
+use Rattle.ng_compose.specs.DirectivesOf.{directives_of}
+use Rattle.ng_compose.specs.Kept.{Named, templates_of as kept_templates}
 use Rattle.ng_page.specs.Opening.{templates_for}
 use Rattle.ng_page.proofs.Prepared.{whole_new, prepared_by}
 use Rattle.ng_page.proofs.Ran.{whole_ran}
@@ -25,7 +28,7 @@ follow-requires c =
     let sound : IsSound v.core = subst (λ (x : Core). IsSound x) (sym same) c.in_ok-core.ensures.sound in
     let idle : v.core.depth ≡ 0 = ap (λ (x : Core). x.depth) same ∙ c.in_ok-core.ensures.depth in
     let root : 0 < length v.core.scopes = subst (λ (x : Core). 0 < length x.scopes) (sym same) (omega (arith, one)) in
-    let whole : IsWhole v = whole_new v (kept_templates c.begin.new.templates) (cores.state_of k) c.new-works.ensures.state sound idle root c.new-works.ensures.stands in
+    let whole : IsWhole v = whole_new v (kept_templates c.begin.new.templates) (directives_of c.begin.new.templates) (cores.state_of k) c.new-works.ensures.state sound idle root c.new-works.ensures.stands in
     let s = cores.state_of v.core in
     let p = program c.in_ok-core.run' in
     let e = c.run_program-end.ensures in
@@ -36,15 +39,17 @@ returns-clause-state c = λ u only.
     let v : Works = c.new-works.result in
     let p = program c.in_ok-core.run' in
     let all : kept_templates c.begin.new.templates ≡ templates_for u (facts c.args.app) =
-    c.in_ok-core.ensures.templates ∙ ap (λ (ts : List Named). ts ++ all_named (facts c.args.app).templates) only in
-    prepared_by u (facts c.args.app) v c.follow.new.works (kept_templates c.begin.new.templates) p (cores.state_of c.in_ok-core.core) c.new-works.ensures.state all c.in_ok-core.ensures.state c.in_ok-core.ensures.run
+    c.in_ok-core.ensures.templates ∙ ap (λ (ts : List Named). ts ++ (all_unnamed (facts c.args.app).directives ++ all_named (facts c.args.app).templates)) only in
+    let programs : directives_of c.begin.new.templates ≡ all_programs (facts c.args.app).directives =
+    c.in_ok-core.ensures.directives ∙ ap (λ (ds : List Programs). ds ++ all_programs (facts c.args.app).directives) c.requires.plain in
+    prepared_by u (facts c.args.app) v c.follow.new.works (kept_templates c.begin.new.templates) (directives_of c.begin.new.templates) p (cores.state_of c.in_ok-core.core) c.new-works.ensures.state all programs c.in_ok-core.ensures.state c.in_ok-core.ensures.run
     (c.in_ok-follow.ensures.state (program_run 0 p (cores.state_of v.core)) c.run_program-end.ensures.run).0
 
 pub returns-clause-works : goal.returns-clause-works
 returns-clause-works c =
     let old = kept_templates c.args.templates in
-    let more = all_named (facts c.args.app).templates in
-    let some : 0 < length (old ++ more) = let first = c.requires in omega (arith, first, length-append old more) in
+    let more = all_unnamed (facts c.args.app).directives ++ all_named (facts c.args.app).templates in
+    let some : 0 < length (old ++ more) = let first = c.requires.some in omega (arith, first, length-append old more) in
     record {
       whole = c.in_ok-follow.ensures.whole;
       templates = subst (λ ts. 0 < length ts) (sym (c.follow.ensures.templates ∙ (c.new-works.ensures.templates ∙ c.in_ok-core.ensures.templates))) some;

@@ -4,7 +4,7 @@ use Rattle.ng_drawing.specs.Nodes.{nodes}
 use Rattle.ng_drawing.specs.Template.{anchor_part}
 use Rattle.ng_html.specs.Seen.{forest_of}
 use Rattle.ng_parse.specs.ProgramOf.{program}
-use Rattle.ng_template.specs.Seen.{part_of}
+use Rattle.ng_parts.specs.Seen.{part_of}
 use Rattle.ng_render.specs.OverOf.{now_over, groups_over}
 use Rattle.ng_render.proofs.Walks.{behind, render_list, parts_walk, walk_turn, walk_last, part_within}
 use Rattle.ng_render.proofs.Bodies.{part_anchor}

@@ -1,7 +1,7 @@
 use Rattle.std.proofs.Common.{◌≡◌, ◌+◌, ◌*◌, drop, map}
 use Rattle.ng_drawing.specs.Nodes.{part_nodes, content_nodes, nodes}
 use Rattle.ng_html.specs.Seen.{forest_of}
-use Rattle.ng_template.specs.Seen.{part_of, contents_of, parts_of}
+use Rattle.ng_parts.specs.Seen.{part_of, contents_of, parts_of}
 use Rattle.ng_drawing.specs.Drawing.{followed_by}
 use Rattle.ng_render.specs.OverOf.{now_over, groups_over}
 use Rattle.ng_render.proofs.Walks.{behind, render_list}

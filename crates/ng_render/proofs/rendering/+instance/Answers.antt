@@ -8,11 +8,11 @@ use Rattle.ng_drawing.specs.RolesOf.{role_of}
 use Rattle.ng_drawing.specs.InstanceOf.{state_of, instance_of, group_of as bodies_of, instances_of}
 use Rattle.ng_drawing.specs.Template.{Fragment, no_fragment}
 use Rattle.ng_html.specs.Seen.{forest_of}
-use Rattle.ng_template.specs.FragmentOf.{fragment_of, outlets_of}
-use Rattle.ng_template.specs.Kept.{templates_of, fragments_in}
-use Rattle.ng_template.specs.Seen.{parts_of}
-use Rattle.ng_template.specs.SiteOf.{site_of}
-use Rattle.ng_template.specs.WholeOf.{whole_of}
+use Rattle.ng_parts.specs.FragmentOf.{fragment_of, outlets_of}
+use Rattle.ng_compose.specs.Kept.{templates_of, fragments_in}
+use Rattle.ng_parts.specs.Seen.{parts_of}
+use Rattle.ng_parts.specs.SiteOf.{site_of}
+use Rattle.ng_copies.specs.WholeOf.{whole_of}
 use Rattle.ng_render.specs.OverOf.{group_of, kept_over, NamesStand, InstancesStand, OutletsStand}
 use Rattle.ng_render.proofs.Walks.{behind, bodies_list, bodies_walk, walk_turn, walk_unfit, walk_faulted, walk_last, body_stands, bodies_stand, gives_err}
 use Rattle.ng_render.proofs.Bodies.{size_all, size_in, no_fragments, size_out, size_within, sizes_within, instances_out, roles_out, instance_is, sites_stand, filled_by, filled_turn}

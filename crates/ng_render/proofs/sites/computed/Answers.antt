@@ -5,7 +5,7 @@ use Rattle.ng_base.specs.Faults.{is_memory}
 use Rattle.ng_base.specs.Meets.{Gives}
 use Rattle.ng_drawing.specs.Instance.{site_now}
 use Rattle.ng_drawing.specs.InstanceOf.{state_of}
-use Rattle.ng_template.specs.SiteOf.{site_of}
+use Rattle.ng_parts.specs.SiteOf.{site_of}
 use Rattle.ng_value.specs.Snaps.{snap_of}
 use Rattle.ng_render.proofs.sites.computed.Goals as goal
 

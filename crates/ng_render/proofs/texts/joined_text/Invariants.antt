@@ -1,6 +1,6 @@
 use Rattle.std.proofs.Common.{◌≡◌, drop, map}
 use Rattle.ng_drawing.specs.Drawing.{render_pieces}
-use Rattle.ng_template.specs.PieceOf.{piece_of}
+use Rattle.ng_parts.specs.PieceOf.{piece_of}
 use Rattle.ng_render.specs.OverOf.{now_over}
 use Rattle.ng_render.proofs.Walks.{behind, joined}
 use Rattle.ng_render.proofs.texts.joined_text.Given as goal

@@ -1,6 +1,6 @@
 use Rattle.std.proofs.Common.{◌≡◌, [], drop, map}
 use Rattle.ng_drawing.specs.Drawing.{render_attributes}
-use Rattle.ng_template.specs.AttributeOf.{attribute_of}
+use Rattle.ng_parts.specs.AttributeOf.{attribute_of}
 use Rattle.ng_render.specs.OverOf.{now_over}
 use Rattle.ng_render.proofs.texts.set_all.Given as goal
 

@@ -6,7 +6,7 @@ use Rattle.ng_template.proofs.Blocks.{rest}
 use Rattle.ng_template.proofs.around.find_blocks.Given as goal
 
 abbrev pub invariant-loop-room : goal.invariant-loop-room
-invariant-loop-room l = rest l.place l.r (node_of l.e) (found_of l.found) l.has_switch l.room l.limit ≡ at_place l.place (around_node l.r l.in_switch (node_of l.e))
+invariant-loop-room l = rest l.place l.r l.slots (node_of l.e) (found_of l.found) l.has_switch l.room l.limit ≡ at_place l.place (around_node l.r l.slots l.in_switch (node_of l.e))
 
 abbrev pub decreases-loop-room : goal.decreases-loop-room
 decreases-loop-room l = l.room

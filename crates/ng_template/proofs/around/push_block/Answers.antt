@@ -5,7 +5,7 @@ use Rattle.ng_interp.specs.declared.pieces.Part.{Part}
 use Rattle.ng_parse.specs.ProgramOf.{program}
 use Rattle.ng_template.specs.Around.{Block, block_with}
 use Rattle.ng_template.specs.AroundOf.{block_of, blocks_of, programs_of}
-use Rattle.ng_template.specs.SiteOf.{site_with}
+use Rattle.ng_parts.specs.SiteOf.{site_with}
 use Rattle.ng_template.proofs.OnePart.{hole_known, hole_pure, none_added, words_added, hole_added}
 use Rattle.ng_template.proofs.around.push_block.Goals as goal
 

@@ -1,7 +1,7 @@
 use Rattle.std.proofs.Common.{◌∙◌, ap, sym, subst}
 use Rattle.ng_base.specs.Meets.{Gives}
 use Rattle.ng_template.specs.AroundOf.{before_of, blocks_of, programs_of}
-use Rattle.ng_template.specs.Free.{is_tpl_want}
+use Rattle.ng_directives.specs.Free.{is_tpl_want}
 use Rattle.ng_template.proofs.Blocks.{head-case, gives-started, head-repeat, head-block}
 use Rattle.ng_template.proofs.around.push_head.Goals as goal
 

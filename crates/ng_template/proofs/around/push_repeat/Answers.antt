@@ -2,10 +2,10 @@ use Rattle.std.proofs.Common.{◌∙◌, ◌++◌, ◌∷◌, [], Ok, ap, sym}
 use Rattle.std.proofs.lemmas.List.{map-append}
 use Rattle.ng_template.specs.Around.{at_place, for_heads, head_onto}
 use Rattle.ng_template.specs.AroundOf.{block_of, blocks_of, programs_of}
-use Rattle.ng_template.specs.Directives.{text_on}
-use Rattle.ng_template.specs.RepeatedOf.{repeated_of}
+use Rattle.ng_directives.specs.Directives.{text_on}
+use Rattle.ng_parts.specs.RepeatedOf.{repeated_of}
 use Rattle.ng_template.specs.Repeating.{repeat_in}
-use Rattle.ng_template.specs.SiteOf.{site_of}
+use Rattle.ng_parts.specs.SiteOf.{site_of}
 use Rattle.ng_template.proofs.Blocks.{for-made, for-wrong, gives_err}
 use Rattle.ng_template.proofs.around.push_repeat.Goals as goal
 

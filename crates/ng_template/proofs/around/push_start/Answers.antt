@@ -3,7 +3,7 @@ use Rattle.std.proofs.lemmas.List.{map-append}
 use Rattle.ng_parse.specs.ProgramOf.{program}
 use Rattle.ng_template.specs.Around.{at_place, start_heads, starts_in}
 use Rattle.ng_template.specs.AroundOf.{programs_of}
-use Rattle.ng_template.specs.Directives.{text_on}
+use Rattle.ng_directives.specs.Directives.{text_on}
 use Rattle.ng_template.proofs.Blocks.{start-made, start-wrong, gives_err}
 use Rattle.ng_template.proofs.around.push_start.Goals as goal
 

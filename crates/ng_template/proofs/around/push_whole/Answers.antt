@@ -2,7 +2,7 @@ use Rattle.std.proofs.Common.{◌∙◌, [], Ok, ap, sym, map}
 use Rattle.ng_interp.specs.Parts.{piece_of}
 use Rattle.ng_template.specs.Around.{at_place, whole_heads, head_onto}
 use Rattle.ng_template.specs.AroundOf.{blocks_of, programs_of}
-use Rattle.ng_template.specs.Directives.{text_on}
+use Rattle.ng_directives.specs.Directives.{text_on}
 use Rattle.ng_template.proofs.Blocks.{whole-made, whole-wrong, gives_err}
 use Rattle.ng_template.proofs.around.push_whole.Goals as goal
 

@@ -3,13 +3,13 @@ use Rattle.std.proofs.lemmas.List.{length-map}
 use Rattle.ng_drawing.specs.Template.{Site}
 use Rattle.ng_drawing.specs.declared.kind.SiteKind.TheVariants as kinds
 use Rattle.ng_interp.specs.Parts.{piece_of, pieces_in}
-use Rattle.ng_template.specs.Compiles.{first_place, other_places}
-use Rattle.ng_template.specs.Limits.{site_limit}
-use Rattle.ng_template.specs.Seen.{part_of}
-use Rattle.ng_template.specs.SiteOf.{site_of}
-use Rattle.ng_template.specs.TemplateOf.{made_of}
-use Rattle.ng_template.specs.Texts.{judged, numbered, sites_in}
-use Rattle.ng_template.proofs.Fitting.{text_full, text_placed}
+use Rattle.ng_directives.specs.Places.{first_place, other_places}
+use Rattle.ng_directives.specs.Limits.{site_limit}
+use Rattle.ng_parts.specs.Seen.{part_of}
+use Rattle.ng_parts.specs.SiteOf.{site_of}
+use Rattle.ng_elements.specs.HeadOf.{made_of}
+use Rattle.ng_directives.specs.Texts.{judged, numbered, sites_in}
+use Rattle.ng_template.proofs.TextFits.{text_full, text_placed}
 use Rattle.ng_template.proofs.compiling.text_at.Goals as goal
 
 pub returns-then-len-count_holes-gt-SITE_LIMIT : goal.returns-then-len-count_holes-gt-SITE_LIMIT

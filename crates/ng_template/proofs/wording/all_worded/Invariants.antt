@@ -1,7 +1,7 @@
 use Rattle.std.proofs.Common.{◌≡◌, ◌++◌, drop, map}
 use Rattle.std.specs.List.{filter}
 use Rattle.ng_template.specs.Around.{worded}
-use Rattle.ng_template.specs.Manners.{is_read}
+use Rattle.ng_directives.specs.Manners.{is_read}
 use Rattle.ng_template.proofs.wording.all_worded.Given as goal
 
 abbrev pub invariant-loop-p : goal.invariant-loop-p

@@ -1,6 +1,6 @@
 use Rattle.std.proofs.Common.{◌≡◌, ◌∙◌, ◌++◌, ◌∷◌, [], length, length-append, ap, arith}
 use Rattle.std.proofs.lemmas.List.{length-map}
-use Rattle.ng_template.specs.FragmentOf.{fragment_of, fragments_of}
+use Rattle.ng_parts.specs.FragmentOf.{fragment_of, fragments_of}
 use Rattle.ng_template.proofs.Wraps.{nested-turn}
 use Rattle.ng_template.proofs.wrapping.nest.Goals as goal
 

@@ -1,8 +1,8 @@
 use Rattle.std.proofs.Common.{◌≡◌, ◌+◌, ◌≤◌, length}
 use Rattle.ng_template.specs.Compiles.{nested}
 use Rattle.ng_template.specs.AroundOf.{blocks_of}
-use Rattle.ng_template.specs.FragmentOf.{fragments_of}
-use Rattle.ng_template.specs.Limits.{site_limit}
+use Rattle.ng_parts.specs.FragmentOf.{fragments_of}
+use Rattle.ng_directives.specs.Limits.{site_limit}
 use Rattle.ng_template.proofs.wrapping.nest.Given as goal
 
 abbrev pub invariant-loop-head : goal.invariant-loop-head

@@ -1,10 +1,11 @@
 use Rattle.std.proofs.Common.{◌∙◌, true, false, Err, ap, sym, arith}
 use Rattle.ng_drawing.specs.Template.{Fragment, Part, no_parts, part_then}
 use Rattle.ng_template.specs.AroundOf.{block_of, blocks_of, case_of, outermost_of}
-use Rattle.ng_template.specs.Compiles.{Made, fragment_made, the_case, the_block, has_room, wrapped}
-use Rattle.ng_template.specs.FragmentOf.{sites_of, outlets_of, fragments_of}
-use Rattle.ng_template.specs.Seen.{part_of}
-use Rattle.ng_template.specs.TemplateOf.{made_of}
+use Rattle.ng_elements.specs.Elements.{Made, fragment_made}
+use Rattle.ng_template.specs.Compiles.{the_case, the_block, has_room, wrapped}
+use Rattle.ng_parts.specs.FragmentOf.{sites_of, outlets_of, fragments_of}
+use Rattle.ng_parts.specs.Seen.{part_of}
+use Rattle.ng_elements.specs.HeadOf.{made_of}
 use Rattle.ng_template.proofs.Wraps.{wrapped_by, wrapped_in, room_is, few_bodies}
 use Rattle.ng_template.proofs.wrapping.wrap.Goals as goal
 

@@ -3,8 +3,8 @@ use Rattle.std.specs.Option.{option_copied}
 use Rattle.std.specs.Prelude.{IfOk, unwrap_or}
 use Rattle.ng_language.specs.Trees.{Trees}
 use Rattle.ng_parse.specs.ProgramOf.{program}
-use Rattle.ng_template.specs.Seen.{handler_of}
-use Rattle.ng_template.specs.declared.acts.Handler.{Handler}
+use Rattle.ng_parts.specs.Seen.{handler_of}
+use Rattle.ng_parts.specs.declared.acts.Handler.{Handler}
 use Rattle.ng_link.specs.Handlers.{Handlers, for_event, programs_at, entered_at}
 use Rattle.ng_link.specs.State.{handled_of}
 use Rattle.ng_link.proofs.Entered.{entered_seen}

@@ -16,10 +16,10 @@ pub returns-clause-state : goal.returns-clause-state
 returns-clause-state c =
     let w : Works = c.args.self.now in
     arranged_state w c.set_held.new.instances c.pick.new.dom c.args.holder.now c.args.outlet (map body_of c.args.bodies.items) c.in_ok-order.order
-    c.requires.stands c.requires.same (order_is c.in_ok-order.order c.as_slice.result.now c.args.bodies.items (outlet_of_linked c.args.outlet (linked_at c.args.holder.now (state_of w).instances)) c.as_slice.ensures.value (c.in_ok-order.ensures (templates_of w))) c.in_ok-pick.ensures (c.set_held.ensures.arranged (templates_of w)) c.set_held.ensures.spots
+    c.requires.stands c.requires.same (order_is c.in_ok-order.order c.as_slice.result.now c.args.bodies.items (outlet_of_linked c.args.outlet (linked_at c.args.holder.now (state_of w).instances)) c.as_slice.ensures.value (c.in_ok-order.ensures (templates_of w))) c.in_ok-pick.ensures (c.set_held.ensures.arranged (templates_of w)) (c.set_held.ensures.spots w.inner.entries)
 
 pub returns-clause-stands : goal.returns-clause-stands
 returns-clause-stands c =
     let w : Works = c.args.self.now in
     arranged_stands w c.set_held.new.instances c.pick.new.dom c.args.holder.now c.args.outlet (map body_of c.args.bodies.items) c.in_ok-order.order
-    c.requires.stands c.requires.same (order_is c.in_ok-order.order c.as_slice.result.now c.args.bodies.items (outlet_of_linked c.args.outlet (linked_at c.args.holder.now (state_of w).instances)) c.as_slice.ensures.value (c.in_ok-order.ensures (templates_of w))) c.in_ok-pick.ensures (c.set_held.ensures.arranged (templates_of w)) c.set_held.ensures.spots
+    c.requires.stands c.requires.same (order_is c.in_ok-order.order c.as_slice.result.now c.args.bodies.items (outlet_of_linked c.args.outlet (linked_at c.args.holder.now (state_of w).instances)) c.as_slice.ensures.value (c.in_ok-order.ensures (templates_of w))) c.in_ok-pick.ensures (c.set_held.ensures.arranged (templates_of w)) (c.set_held.ensures.spots w.inner.entries)

@@ -19,8 +19,8 @@ returns-clause-state c =
     let at : IsHeldAt c.args.p.now o i holds.0.page.outlets = c.in-Some.ensures all holds in
     let anchor = c.cut_held-anchor.ensures.anchor all at.0 (ap (option_and_then (λ (l : Linked). slice_get l.page.outlets o)) holds.1 ∙ at.1) in
     let nodes = subst (λ (n : ℕ). CutsOut n i w.dom c.cut_nodes.new.dom) anchor c.in_ok-cut_nodes.ensures in
-    unlinked_state w c.cut_held-anchor.new.instances c.forget_below.new.instances c.cut_nodes.new.dom c.forget_below.new.owners c.forget_on.new.table c.forget_on-2.new.table c.args.holder.now c.args.p.now o i
-    c.requires.stands holds at (c.cut_held-anchor.ensures.instances all) c.cut_held-anchor.ensures.spots nodes c.in_ok-forget_below.ensures.instances c.in_ok-forget_below.ensures.owners c.in_ok-forget_on.ensures c.in_ok-forget_on-2.ensures
+    unlinked_state w c.cut_held-anchor.new.instances c.forget_below.new.instances c.cut_nodes.new.dom c.forget_below.new.owners c.forget_inner.new.inner c.forget_on.new.table c.forget_on-2.new.table c.args.holder.now c.args.p.now o i
+    c.requires.stands holds at (c.cut_held-anchor.ensures.instances all) (c.cut_held-anchor.ensures.spots w.inner.entries) nodes c.in_ok-forget_below.ensures.instances c.in_ok-forget_below.ensures.owners c.in_ok-forget_inner.ensures c.in_ok-forget_on.ensures c.in_ok-forget_on-2.ensures
 
 pub returns-clause-stands : goal.returns-clause-stands
 returns-clause-stands c =
@@ -32,5 +32,5 @@ returns-clause-stands c =
     let at : IsHeldAt c.args.p.now o i holds.0.page.outlets = c.in-Some.ensures all holds in
     let anchor = c.cut_held-anchor.ensures.anchor all at.0 (ap (option_and_then (λ (l : Linked). slice_get l.page.outlets o)) holds.1 ∙ at.1) in
     let nodes = subst (λ (n : ℕ). CutsOut n i w.dom c.cut_nodes.new.dom) anchor c.in_ok-cut_nodes.ensures in
-    unlinked_stands w c.cut_held-anchor.new.instances c.forget_below.new.instances c.cut_nodes.new.dom c.forget_below.new.owners c.forget_on.new.table c.forget_on-2.new.table c.args.holder.now c.args.p.now o i
-    c.requires.stands holds at (c.cut_held-anchor.ensures.instances all) c.cut_held-anchor.ensures.spots nodes c.in_ok-forget_below.ensures.instances c.in_ok-forget_below.ensures.owners c.in_ok-forget_on.ensures c.in_ok-forget_on-2.ensures
+    unlinked_stands w c.cut_held-anchor.new.instances c.forget_below.new.instances c.cut_nodes.new.dom c.forget_below.new.owners c.forget_inner.new.inner c.forget_on.new.table c.forget_on-2.new.table c.args.holder.now c.args.p.now o i
+    c.requires.stands holds at (c.cut_held-anchor.ensures.instances all) (c.cut_held-anchor.ensures.spots w.inner.entries) nodes c.in_ok-forget_below.ensures.instances c.in_ok-forget_below.ensures.owners c.in_ok-forget_inner.ensures c.in_ok-forget_on.ensures c.in_ok-forget_on-2.ensures

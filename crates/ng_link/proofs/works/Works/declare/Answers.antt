@@ -15,7 +15,7 @@ returns-clause-state c =
     let s = state_of c.args.self.now in
     let k = c.args.key in
     let w = watching_of c.args.w in
-    let off : is_site s.instances k ≡ false = sym c.is_site.ensures ∙ c.if-is_site.false in
+    let off : is_site s.inner s.instances k ≡ false = sym c.is_site.ensures ∙ c.if-is_site.false in
     let copy : record { path = c.in_ok-path.path; serial = k.serial } ≡ k = ap (λ (p : List ℕ). record { path = p; serial = k.serial }) c.in_ok-path.ensures in
     let watchers : watchers_of c.add.new.self ≡ with_watch k w s.watchers = c.in_ok-add.ensures.added ∙ ap (λ (q : Key). with_watch q w s.watchers) copy in
     let listeners : declared_of c.insert.new.self.entries ≡ insert_entry key_cmp s.declared k (listening_of c.args.l) = ap declared_of c.in_ok-insert.ensures.entries ∙ put-seen listening_of key_cmp k c.args.l c.args.self.now.declared.entries in
@@ -26,7 +26,7 @@ returns-clause-stands c =
     let s = state_of c.args.self.now in
     let k = c.args.key in
     let w = watching_of c.args.w in
-    let off : is_site s.instances k ≡ false = sym c.is_site.ensures ∙ c.if-is_site.false in
+    let off : is_site s.inner s.instances k ≡ false = sym c.is_site.ensures ∙ c.if-is_site.false in
     let copy : record { path = c.in_ok-path.path; serial = k.serial } ≡ k = ap (λ (p : List ℕ). record { path = p; serial = k.serial }) c.in_ok-path.ensures in
     let watchers : watchers_of c.add.new.self ≡ with_watch k w s.watchers = c.in_ok-add.ensures.added ∙ ap (λ (q : Key). with_watch q w s.watchers) copy in
     declared_stands c.args.self.now c.add.new.self c.insert.new.self k off w c.requires watchers

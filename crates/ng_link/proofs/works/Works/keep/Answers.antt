@@ -29,7 +29,7 @@ returns-clause-state c =
     let cs = c.drop_typed.new.controls.entries in
     let t = with_kept k (Some v) s.watchers in
     let fires = c.in_ok-show_kept.ensures.fires in
-    let next : next_name new ≡ next_name old = written_next (looks_of (watchers_of c.keep-former.new.self) s.resting cs) (spot_in c.args.self.now.instances.entries k) old new fires.dom in
+    let next : next_name new ≡ next_name old = written_next (looks_of (watchers_of c.keep-former.new.self) s.resting cs) (spot_in c.args.self.now.inner.entries c.args.self.now.instances.entries k) old new fires.dom in
     ap state_of fires.rest
     ∙ (ap (λ (x : Table). record s { watchers = x; controls = cs; next_node = next_name new }) c.keep-former.ensures.kept
     ∙ (ap (λ (x : Controls). record s { watchers = t; controls = x; next_node = next_name new }) c.drop_typed.ensures

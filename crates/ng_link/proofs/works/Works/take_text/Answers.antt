@@ -17,7 +17,7 @@ returns-clause-state c =
     let new = c.show_kept.new.self.dom in
     let cs = c.type_in.new.controls.entries in
     let fires = c.in_ok-show_kept.ensures.fires in
-    let next : next_name new ≡ next_name old = written_next (looks_of s.watchers s.resting cs) (spot_in c.args.self.now.instances.entries k) old new fires.dom in
+    let next : next_name new ≡ next_name old = written_next (looks_of s.watchers s.resting cs) (spot_in c.args.self.now.inner.entries c.args.self.now.instances.entries k) old new fires.dom in
     ap state_of fires.rest
     ∙ (ap (λ (x : Controls). record s { controls = x; next_node = next_name new }) c.in_ok-value.ensures.taken ∙ ap (λ (n : ℕ). record (with_control_at (λ x. typed_in x c.args.text) k s) { next_node = n }) next)
 

@@ -12,4 +12,4 @@ returns-clause-shown c = works_display c.conclude.new.engine.works c.in_ok-outco
 pub returns-clause-rendering : goal.returns-clause-rendering
 returns-clause-rendering c =
     let s = state_of c.conclude.new.engine.works in
-    when_done (IsSettled s) (rendering s ≡ shown_as (shown s)) c.in_ok-outcome.outcome.digest c.in_ok-outcome.ensures.settled (λ x. settled_renders s x c.in_ok-outcome.ensures.page.watched c.in_ok-outcome.ensures.page.fits)
+    when_done (IsSettled s) (rendering s ≡ shown_as (shown s)) c.in_ok-outcome.outcome.digest c.in_ok-outcome.ensures.settled (λ x. settled_renders s x c.in_ok-outcome.ensures.page.watched c.in_ok-outcome.ensures.page.works.whole.standing.1.inner c.in_ok-outcome.ensures.page.fits)

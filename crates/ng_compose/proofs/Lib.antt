@@ -1,0 +1,10 @@
+pub mod KeptWhole
+pub mod Renumbered
+pub mod Movers
+pub mod Composable
+pub mod ComposedParts
+pub mod ComposedOrder
+pub mod ComposingTurns
+pub mod ComposedSpots
+pub mod Largest
+pub mod KeptOrder

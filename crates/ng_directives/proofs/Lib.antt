@@ -1,0 +1,2 @@
+pub mod HolePlaces
+pub mod Numbers

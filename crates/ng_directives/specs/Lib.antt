@@ -1,0 +1,10 @@
+pub mod Free
+pub mod Texts
+pub mod Limits
+pub mod Manners
+pub mod Programs
+pub mod Writing
+pub mod Directives
+pub mod Kinds
+pub mod Shared
+pub mod Places

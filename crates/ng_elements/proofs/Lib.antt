@@ -1,0 +1,5 @@
+pub mod PlainLists
+pub mod Specs
+pub mod Templated
+pub mod LastMade
+pub mod Fitting

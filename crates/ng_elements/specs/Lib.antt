@@ -1,0 +1,5 @@
+pub mod Plain
+pub mod Elements
+pub mod HeadOf
+pub mod Using
+pub mod ReadOf

@@ -1,0 +1,11 @@
+pub mod PieceOf
+pub mod AttributeOf
+pub mod Seen
+pub mod SiteOf
+pub mod RepeatedOf
+pub mod Numbering
+pub mod FragmentOf
+pub mod TemplateOf
+pub mod ActsOf
+pub mod Directing
+pub mod ProgramsOf

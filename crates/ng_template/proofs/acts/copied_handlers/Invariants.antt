@@ -1,6 +1,0 @@
-use Rattle.std.proofs.Common.{◌≡◌, ◌++◌, map, drop}
-use Rattle.ng_template.specs.Seen.{handler_of}
-use Rattle.ng_template.proofs.acts.copied_handlers.Given as goal
-
-abbrev pub invariant-loop-handler : goal.invariant-loop-handler
-invariant-loop-handler l = map handler_of l.copies.items ++ map handler_of (drop l.handler-index l.handlers) ≡ map handler_of l.handlers

@@ -1,7 +1,0 @@
-use Rattle.std.proofs.Common.{◌≡◌, ◌++◌, map, drop}
-use Rattle.ng_drawing.specs.Included.{later_hiding}
-use Rattle.ng_template.specs.AttributeOf.{hiding_of}
-use Rattle.ng_template.proofs.including.later_hidings.Given as goal
-
-abbrev pub invariant-loop-hiding : goal.invariant-loop-hiding
-invariant-loop-hiding l = map hiding_of l.moved.items ++ map (later_hiding l.by) (map hiding_of (drop l.hiding-index l.hidings)) ≡ map (later_hiding l.by) (map hiding_of l.hidings)

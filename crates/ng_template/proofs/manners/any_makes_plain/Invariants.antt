@@ -1,6 +1,0 @@
-use Rattle.std.proofs.Common.{◌≡◌, drop}
-use Rattle.ng_template.specs.Manners.{any_makes_plain}
-use Rattle.ng_template.proofs.manners.any_makes_plain.Given as goal
-
-abbrev pub invariant-loop-pick : goal.invariant-loop-pick
-invariant-loop-pick l = any_makes_plain (drop l.pick-index l.picks) ≡ any_makes_plain l.picks

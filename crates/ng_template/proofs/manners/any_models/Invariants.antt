@@ -1,6 +1,0 @@
-use Rattle.std.proofs.Common.{◌≡◌, drop}
-use Rattle.ng_template.specs.Manners.{any_models}
-use Rattle.ng_template.proofs.manners.any_models.Given as goal
-
-abbrev pub invariant-loop-pick : goal.invariant-loop-pick
-invariant-loop-pick l = any_models (drop l.pick-index l.picks) ≡ any_models l.picks
