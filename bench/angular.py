@@ -6,7 +6,7 @@ AngularJS, jsdom and Chromium are those of Debian's packages libjs-angularjs, no
 there is left empty. All columns of one table are of one run, on one machine, in processor time; what else runs there still takes
 room in its caches.
 
-A workload is a page, its data, and commands that are applied one after another: `eval E` here, `$apply(E)` on the root scope there; or a text that
+A workload is a page, its data, directives of its own if it has some, and commands that are applied one after another: `eval E` here, `$apply(E)` on the root scope there; or a text that
 is typed into a control: `type #ID TEXT` here, the value of the element and the event `input` there. All run the same template, data and expressions. The time of a step is the mean of all commands, the least of N rounds (default 3).
   ngrun      a step is the processor time of a whole run less that of one without the script, over the number of commands. It is taken
              without the print of the document (one more hole faults, so that each step digests and prints none) and, beside it, with it.
@@ -82,6 +82,26 @@ def typed_in_all(count):
     return CONTROLS, {'rows': entries(count)}, [[f'c{k}', f'{count + k}'] for k in range(1, count + 1)]
 
 
+# an isolate directive of two bindings in each row
+PAIRS = '<p ng-repeat="r in rows track by r.id"><pair n="r.n" t="{{r.t}}"></pair></p>'
+PAIR = {'name': 'pair', 'restrict': 'E', 'scope': {'n': '=', 't': '@'}, 'template': '<b>{{n}}</b><i>{{t}}</i>'}
+
+
+def pairs(count):
+    return PAIRS, {'rows': [entry | {'t': entry['id']} for entry in entries(count)]}, [], [PAIR]
+
+
+def bound_in_one(count):
+    return *pairs(count)[:2], [f'rows[{(k * 7919) % count}].n = {count + k}' for k in range(1, 101)], [PAIR]
+
+
+def bound_in_all(count):
+    """All rows have other values, which the expression takes from a second list of the same ids."""
+    template, data, _, directives = pairs(count)
+    other = [{'id': i, 'n': count + i, 't': 2 * count + i} for i in range(1, count + 1)]
+    return template, data | {'a': data['rows'], 'b': other, 'of': 0}, ['of = 1 - of; rows = of ? b : a'] * 20, directives
+
+
 def line(command):
     """A command as a line of a script."""
     return 'eval ' + command if isinstance(command, str) else f'type #{command[0]} {json.dumps(command[1])}'
@@ -95,6 +115,14 @@ WORKLOADS += [(f'one value changed in one of {n:,} rows', False, changed, n) for
 WORKLOADS += [('ng-if toggled over a body of 1,000 nodes', False, toggled, 1_000)]
 WORKLOADS += [('opening of 1,000 controls', True, controls, 1_000), ('a text typed into one of 1,000 controls', False, typed_in_one, 1_000)]
 WORKLOADS += [('1,000 controls typed into, one after another', False, typed_in_all, 1_000)]
+WORKLOADS += [('opening of 1,000 isolate directives of two bindings', True, pairs, 1_000)]
+WORKLOADS += [('one value changed outside of 1,000 isolate directives', False, bound_in_one, 1_000)]
+WORKLOADS += [('all values changed outside of 1,000 isolate directives', False, bound_in_all, 1_000)]
+
+
+def with_directives(made):
+    """Template, data, commands and directives of a workload: most have no directive."""
+    return made if len(made) == 4 else (*made, [])
 
 
 def seconds(words, times):
@@ -115,10 +143,10 @@ def texts(page):
 
 def here(cmd, made, folder, times):
     """Opening, a step, a step with its print, in seconds, and the texts at the end; nothing where the program refuses the page."""
-    template, data, commands = made
+    template, data, commands, directives = with_directives(made)
     names = [os.path.join(folder, name) for name in ('template', 'quiet', 'app', 'script')]
     # data is given a zero, so that the hole that is added faults
-    contents = (template, template + '{{1 / zero}}', json.dumps({'data': data | {'zero': 0}}), '\n'.join(line(x) for x in commands))
+    contents = (template, template + '{{1 / zero}}', json.dumps({'data': data | {'zero': 0}, 'directives': directives}), '\n'.join(line(x) for x in commands))
     for name, content in zip(names, contents):
         with open(name, 'w', encoding='utf-8') as file:
             file.write(content)
@@ -156,9 +184,9 @@ def row(name, opens, made, cmd, times, without):
     """One line of the table."""
     with tempfile.TemporaryDirectory() as folder:
         job = os.path.join(folder, 'job.json')
-        template, data, commands = made
+        template, data, commands, directives = with_directives(made)
         with open(job, 'w', encoding='utf-8') as file:
-            json.dump({'template': template, 'data': data, 'commands': commands, 'rounds': times}, file)
+            json.dump({'template': template, 'data': data, 'commands': commands, 'directives': directives, 'rounds': times}, file)
         ours = here(cmd, made, folder, times)
         theirs = [None if 'jsdom' in without else in_node('in_jsdom.js', ANGULAR, job)]
         theirs.append(None if 'chromium' in without else in_node('in_chromium.js', ANGULAR, job, os.path.join(folder, 'profile')))

@@ -1,11 +1,13 @@
-// One workload on AngularJS. A job has a template, data and commands: expressions that are applied to the root scope one after another, and
+// One workload on AngularJS. A job has a template, data, directives of its own and commands: expressions that are applied to the root scope one after another, and
 // texts that are typed into controls, each a list of a control's id and the text.
 // A round is begin, open, run and end; open compiles, links and digests the page, run applies the commands, end gives what stood at last.
 function workload(angular, document, job) {
   let compile, root, host;
   return {
     begin() {
-      const injector = angular.injector(['ng', plain]);
+      const own = ($compileProvider) => job.directives.forEach((one) => $compileProvider.directive(one.name, () => ({...one})));
+      own.$inject = ['$compileProvider'];
+      const injector = angular.injector(['ng', plain, own]);
       compile = injector.get('$compile');
       root = injector.get('$rootScope');
       Object.assign(root, JSON.parse(JSON.stringify(job.data)));
