@@ -1,9 +1,9 @@
 #!/usr/bin/env python3
 """Times workloads of single crates, at a size and at ten times that size.
 
-usage: bench/crates.py [--cmd PROGRAM]
-PROGRAM is the built `ng_bench` (crates/ng_bench/out/ng_bench after `rt run` in that crate). Each row is a workload,
-its sizes, the seconds of processor time of each, and how much longer the larger one took."""
+usage: bench/crates.py [--cmd PROGRAM] [--acts PROGRAM]
+The programs are the built `ng_bench` and `ng_bench_acts` (crates/ng_bench/out/ng_bench after `rt run` in that crate, and so the other). Each row
+is a workload, its sizes, the seconds of processor time of each, and how much longer the larger one took."""
 import argparse
 import os
 import resource
@@ -32,6 +32,8 @@ ROWS = [
     ('calls of a function', 'calls', 10_000),
     ('scopes with a listener each, destroyed one after another', 'destroy', 10_000),
 ]
+# what the second program does
+ACTS = ['broadcast', 'emit', 'calls', 'destroy']
 
 
 def seconds(cmd, workload, size):
@@ -47,8 +49,10 @@ def main():
     words = argparse.ArgumentParser(description=__doc__, formatter_class=argparse.RawDescriptionHelpFormatter)
     here = os.path.dirname(os.path.abspath(__file__))
     words.add_argument('--cmd', default=os.path.join(here, '..', 'crates', 'ng_bench', 'out', 'ng_bench'))
-    cmd = words.parse_args().cmd
+    words.add_argument('--acts', default=os.path.join(here, '..', 'crates', 'ng_bench_acts', 'out', 'ng_bench_acts'))
+    given = words.parse_args()
     for name, workload, size in ROWS:
+        cmd = given.acts if workload in ACTS else given.cmd
         small, large = (seconds(cmd, workload, n) for n in (size, 10 * size))
         print(f'{name}: {size} in {small:.3f} s, {10 * size} in {large:.3f} s, {large / small:.1f} times')
 

@@ -11,9 +11,9 @@ use Rattle.ng_directives.specs.Free.{is_refused as is_refused_template, is_tpl_w
 use Rattle.ng_directives.specs.declared.fault.TplFault.{TplFault}
 use Rattle.ng_directives.specs.declared.fault.TplKind.{TplKind}
 use Rattle.ng_directives.specs.declared.fault.TplKind.TheVariants as tpl
-use Rattle.ng_app.specs.Free.{is_app_want}
-use Rattle.ng_app.specs.declared.fault.AppFault.{AppFault}
-use Rattle.ng_app.specs.declared.fault.Member.{Member}
+use Rattle.ng_entries.specs.Free.{is_app_want}
+use Rattle.ng_entries.specs.declared.fault.AppFault.{AppFault}
+use Rattle.ng_entries.specs.declared.fault.Member.{Member}
 use Rattle.ng_app.specs.Templates.{markup_fault, as_markup, template_fault, as_template}
 
 -- what is told of the application is no want of memory

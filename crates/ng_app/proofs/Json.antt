@@ -1,5 +1,5 @@
 -- Reading an application, a step at a time.
-use Rattle.std.proofs.Common.{◌≡◌, ℕ, List, Bool, true, false, if◌then◌else◌, refl, ap, Option, Some, None, option_map, is_some}
+use Rattle.std.proofs.Common.{◌≡◌, ℕ, List, Bool, true, false, if◌then◌else◌, refl, ap, Option, Some, None}
 use Rattle.std.proofs.lemmas.Str.{IsUtf8-from_is_utf8, is_utf8-from_IsUtf8}
 use Rattle.std.specs.Prelude.{Err}
 use Rattle.std.specs.Str.{IsUtf8, is_utf8}
@@ -7,9 +7,9 @@ use Rattle.serde_json.specs.Data.{Data}
 use Rattle.serde_json.specs.Read.{read}
 use Rattle.serde_json.specs.Find.{as_object}
 use Rattle.ng_app.specs.App.{facts_of, facts_of_json, facts_of_object}
-use Rattle.ng_app.specs.Refused.{fault}
-use Rattle.ng_app.specs.declared.fault.AppKind.TheVariants.{Json}
-use Rattle.ng_app.specs.declared.fault.Member.TheVariants.{File}
+use Rattle.ng_entries.specs.Refused.{fault}
+use Rattle.ng_entries.specs.declared.fault.AppKind.TheVariants.{Json}
+use Rattle.ng_entries.specs.declared.fault.Member.TheVariants.{File}
 
 pub facts_of-read : (bytes : List ℕ) (d : Data) → IsUtf8 bytes → read bytes ≡ Some d → facts_of bytes ≡ facts_of_object (as_object d)
 facts_of-read bytes d u e = rw (is_utf8-from_IsUtf8 bytes u, e) refl
@@ -20,11 +20,3 @@ refused_by false o h = refl
 
 pub facts_of-refused : (bytes : List ℕ) → (IsUtf8 bytes → read bytes ≡ None) → facts_of bytes ≡ Err (fault File Json)
 facts_of-refused bytes h = refused_by (is_utf8 bytes) (read bytes) (λ t. h (IsUtf8-from_is_utf8 bytes t))
-
-pub is_some-map : {A B : Type 0} (f : A → B) (o : Option A) → is_some (option_map f o) ≡ is_some o
-is_some-map f None = refl
-is_some-map f (Some x) = refl
-
-pub option_map-map : {A B C : Type 0} (f : A → B) (g : B → C) (o : Option A) → option_map (λ x. g (f x)) o ≡ option_map g (option_map f o)
-option_map-map f g None = refl
-option_map-map f g (Some x) = refl

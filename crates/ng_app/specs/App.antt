@@ -12,19 +12,20 @@ use Rattle.ng_base.specs.Objects.{Object}
 use Rattle.ng_language.specs.Trees.{Trees}
 use Rattle.ng_store.specs.declared.json.JsonFault.{JsonFault}
 use Rattle.ng_store.specs.declared.json.JsonFault.TheVariants as json
-use Rattle.ng_app.specs.Directives.{DirectiveEntry, Directive, directive_entries, definitions, directive_templates, rest_in, directives_from}
-use Rattle.ng_app.specs.Entries.{template_entries, function_entries, watch_entries, listener_entries, run_entry}
+use Rattle.ng_entries.specs.DirectiveEntries.{DirectiveEntry, directive_entries}
+use Rattle.ng_app.specs.Directives.{Directive, definitions, directive_templates, rest_in, directives_from}
+use Rattle.ng_entries.specs.Entries.{template_entries, function_entries, watch_entries, listener_entries, run_entry}
 use Rattle.ng_app.specs.Programs.{Declared, Watched, Heard, program_at, functions_read, watches_read, listeners_read}
-use Rattle.ng_app.specs.Refused.{fault}
+use Rattle.ng_entries.specs.Refused.{fault}
 use Rattle.ng_app.specs.Templates.{Partial, templates_read}
-use Rattle.ng_app.specs.declared.entries.FunctionEntry.{FunctionEntry}
-use Rattle.ng_app.specs.declared.entries.TemplateEntry.{TemplateEntry}
-use Rattle.ng_app.specs.declared.entries.WatchEntry.{WatchEntry}
-use Rattle.ng_app.specs.declared.entries.ListenerEntry.{ListenerEntry}
-use Rattle.ng_app.specs.declared.fault.Member.{Member}
-use Rattle.ng_app.specs.declared.fault.Member.TheVariants as the
-use Rattle.ng_app.specs.declared.fault.AppKind.TheVariants as kind
-use Rattle.ng_app.specs.declared.fault.AppFault.{AppFault}
+use Rattle.ng_entries.specs.declared.entries.FunctionEntry.{FunctionEntry}
+use Rattle.ng_entries.specs.declared.entries.TemplateEntry.{TemplateEntry}
+use Rattle.ng_entries.specs.declared.entries.WatchEntry.{WatchEntry}
+use Rattle.ng_entries.specs.declared.entries.ListenerEntry.{ListenerEntry}
+use Rattle.ng_entries.specs.declared.fault.Member.{Member}
+use Rattle.ng_entries.specs.declared.fault.Member.TheVariants as the
+use Rattle.ng_entries.specs.declared.fault.AppKind.TheVariants as kind
+use Rattle.ng_entries.specs.declared.fault.AppFault.{AppFault}
 
 -- what a page begins with: the data stands in the object of the root scope; the definitions of directives; the templates that may be included; what the
 -- directives do; and what is installed and

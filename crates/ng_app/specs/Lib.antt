@@ -1,6 +1,3 @@
-pub mod Free
-pub mod Refused
-pub mod Entries
 pub mod Programs
 pub mod Templates
 pub mod App
@@ -10,4 +7,4 @@ pub mod ProgramsOf
 pub mod WrittenOf
 pub mod AppOf
 pub mod Directives
-pub mod EntryOf
+pub mod RestOf

@@ -6,14 +6,14 @@ use Rattle.ng_base.specs.declared.fault.Fault.{Fault}
 use Rattle.ng_language.specs.Trees.{Trees}
 use Rattle.ng_parts.specs.Directing.{Function, Watching, Hearing}
 use Rattle.ng_view.specs.Purity.{are_pure}
-use Rattle.ng_app.specs.Refused.{fault_at}
-use Rattle.ng_app.specs.declared.fault.Member.{Member}
-use Rattle.ng_app.specs.declared.fault.Member.TheVariants as the
-use Rattle.ng_app.specs.declared.fault.AppKind.TheVariants as kind
-use Rattle.ng_app.specs.declared.fault.AppFault.{AppFault}
-use Rattle.ng_app.specs.declared.entries.FunctionEntry.{FunctionEntry}
-use Rattle.ng_app.specs.declared.entries.WatchEntry.{WatchEntry}
-use Rattle.ng_app.specs.declared.entries.ListenerEntry.{ListenerEntry}
+use Rattle.ng_entries.specs.Refused.{fault_at}
+use Rattle.ng_entries.specs.declared.fault.Member.{Member}
+use Rattle.ng_entries.specs.declared.fault.Member.TheVariants as the
+use Rattle.ng_entries.specs.declared.fault.AppKind.TheVariants as kind
+use Rattle.ng_entries.specs.declared.fault.AppFault.{AppFault}
+use Rattle.ng_entries.specs.declared.entries.FunctionEntry.{FunctionEntry}
+use Rattle.ng_entries.specs.declared.entries.WatchEntry.{WatchEntry}
+use Rattle.ng_entries.specs.declared.entries.ListenerEntry.{ListenerEntry}
 
 -- a function: its name on its scope, its parameters, its program
 abbrev pub Declared : Type 0

@@ -13,12 +13,12 @@ use Rattle.ng_compose.specs.Kept.{Named}
 use Rattle.ng_directives.specs.declared.fault.TplFault.{TplFault}
 use Rattle.ng_directives.specs.declared.fault.TplKind.{TplKind}
 use Rattle.ng_directives.specs.declared.fault.TplKind.TheVariants as tpl
-use Rattle.ng_app.specs.Refused.{fault, fault_at}
-use Rattle.ng_app.specs.declared.entries.TemplateEntry.{TemplateEntry}
-use Rattle.ng_app.specs.declared.fault.AppFault.{AppFault}
-use Rattle.ng_app.specs.declared.fault.AppKind.TheVariants as kind
-use Rattle.ng_app.specs.declared.fault.Member.{Member}
-use Rattle.ng_app.specs.declared.fault.Member.TheVariants as the
+use Rattle.ng_entries.specs.Refused.{fault, fault_at}
+use Rattle.ng_entries.specs.declared.entries.TemplateEntry.{TemplateEntry}
+use Rattle.ng_entries.specs.declared.fault.AppFault.{AppFault}
+use Rattle.ng_entries.specs.declared.fault.AppKind.TheVariants as kind
+use Rattle.ng_entries.specs.declared.fault.Member.{Member}
+use Rattle.ng_entries.specs.declared.fault.Member.TheVariants as the
 
 -- a template by its name
 pub record Partial : Type 0 where

@@ -9,26 +9,19 @@
 //! The contract that the page above uses: `facts_of` (specs/App) says what a file gives, or its first refusal, with its member,
 //! the number of its entry, and why; want of memory alone is free. `installed` (specs/Installing) says what `App::begin` does.
 //!
-//! In reading order: `fault` has the refusals; `members` looks into JSON; `entries` reads what an entry is, as it is written, and
-//! `parameters` the names in it, and `directives` an entry of a directive; `items` are what the entries spell, `programs` reads
-//! that, and `templates` compiles the templates; `registering` judges the directives, and reads their templates and programs;
-//! `app` and `reading` are the application; `installing` is its beginning.
+//! In reading order: `items` are what the entries spell, `programs` reads that, and `templates` compiles the templates; `registering`
+//! judges the directives, and reads their templates and programs; `app` and `reading` are the application; `installing` is its beginning.
+//! What an entry is, as it is written, and what is refused is ng_entries'.
 //!
 //! Nothing here knows of watchers or of a page's document.
 #![tactic(auto)]
 
 pub mod app;
-pub mod directives;
-pub mod entries;
-pub mod fault;
 mod installing;
 pub mod items;
-mod members;
-mod parameters;
 mod programs;
 mod reading;
 mod registering;
 mod templates;
 
 pub use app::App;
-pub use fault::{AppFault, AppKind, Member};

@@ -6,24 +6,24 @@ ghost use Rattle.ng_core.specs.Frames.{state_of};
 ghost use Rattle.ng_base.specs.Meets.{Gives};
 ghost use Rattle.ng_app.specs.App.{member_named, are_known, is_one as is_one_of, is_format, is_data as is_data_of, data_given, data_fault as data_refused, core_with, written as written_in, facts_with, facts_of_format, facts_of_object, facts_of};
 ghost use Rattle.ng_app.specs.AppOf.{facts};
-ghost use Rattle.ng_app.specs.Free.{is_app_want};
+ghost use Rattle.ng_entries.specs.Free.{is_app_want};
 ghost use Rattle.ng_app.specs.Fresh.{IsFresh};
 ghost use Rattle.ng_app.specs.WrittenOf.{written_of};
 
 use crate::app::App;
-use crate::directives::{DirectiveEntry, directive_entries};
-use crate::entries::{
-    FunctionEntry, ListenerEntry, TemplateEntry, WatchEntry, function_entries, listener_entries,
-    run_entry, template_entries, watch_entries,
-};
-use crate::fault::{AppFault, AppKind, Member};
-use crate::members::{fault, member};
 use crate::programs::{functions_read, listeners_read, program_at, watches_read};
 use crate::registering::{directive_templates, directives_read, registered};
 use crate::templates::templates_read;
 use ng_base::fault::Memory;
 use ng_base::txt::Txt;
 use ng_core::core_state::Core;
+use ng_entries::directives::{DirectiveEntry, directive_entries};
+use ng_entries::entries::{
+    FunctionEntry, ListenerEntry, TemplateEntry, WatchEntry, function_entries, listener_entries,
+    run_entry, template_entries, watch_entries,
+};
+use ng_entries::fault::{AppFault, AppKind, Member};
+use ng_entries::members::{fault, member};
 use ng_store::json::JsonFault;
 use serde_json::{Map, Value as Json};
 use std::alloc::Global;

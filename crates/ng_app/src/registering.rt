@@ -5,21 +5,22 @@ ghost use Rattle.ng_base.specs.Meets.{Gives, Meets};
 ghost use Rattle.ng_parts.specs.ProgramsOf.{programs_of, function_of, watch_of, listener_of};
 ghost use Rattle.ng_parts.specs.TemplateOf.{template_of};
 ghost use Rattle.ng_app.specs.Directives.{stands, judged_by, judged, definitions_in, definitions, rest_in, directive_template, directive_templates, functions_at, watches_at, listeners_at, programs_read, directives_from};
-ghost use Rattle.ng_app.specs.EntryOf.{entry_of, rest_of};
-ghost use Rattle.ng_app.specs.Free.{is_app_want};
+ghost use Rattle.ng_entries.specs.EntryOf.{entry_of};
+ghost use Rattle.ng_app.specs.RestOf.{rest_of};
+ghost use Rattle.ng_entries.specs.Free.{is_app_want};
 ghost use Rattle.ng_app.specs.ProgramsOf.{directive_of};
 
-use crate::directives::DirectiveEntry;
-use crate::entries::{FunctionEntry, ListenerEntry, WatchEntry};
-use crate::fault::{AppFault, AppKind, Member};
 use crate::items::AppDirective;
-use crate::members::fault_at;
 use crate::programs::{function_read, listener_read, program_at, watch_read};
 use crate::templates::text_template;
 use ng_base::fault::Memory;
 use ng_base::txt::Txt;
 use ng_collect::definition::{is_bound, is_directive_name, is_restrict};
 use ng_collect::{DefFault, DirectiveDef, Registry};
+use ng_entries::directives::DirectiveEntry;
+use ng_entries::entries::{FunctionEntry, ListenerEntry, WatchEntry};
+use ng_entries::fault::{AppFault, AppKind, Member};
+use ng_entries::members::fault_at;
 use ng_parts::Tpl;
 use ng_parts::programs::{
     Function as AppFunction, Listener as AppListener, Programs, Watch as AppWatch,

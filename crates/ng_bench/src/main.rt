@@ -16,14 +16,11 @@
 //! - `reversed` plans a repeat whose so many rows come in reverse, and `tenths` one of which each tenth row is gone;
 //! - `script` reads a script of so many commands;
 //! - `texts` builds a document of so many paragraphs and writes the text of each, and `groups` inserts a thousand groups in the middle of
-//!   so many at an anchor;
-//! - `broadcast` broadcasts one event to so many listeners on a thousand scopes, and `emit` emits so many from the lowest of sixty scopes;
-//! - `calls` calls a function so many times, and `destroy` destroys so many scopes with a listener each, one after another.
+//!   so many at an anchor.
 //!
-//! It decides nothing and no other crate stands on it.
+//! Those of actions are ng_bench_acts'. It decides nothing and no other crate stands on it.
 #![tactic(auto)]
 
-mod acting;
 mod digests;
 mod documents;
 mod listening;
@@ -60,10 +57,6 @@ fn counted(alloc: Global, workload: &str, size: u64) -> Option<u64> {
         "script" => scripting::commands(alloc, size),
         "texts" => documents::written(alloc, size),
         "groups" => documents::grouped(alloc, size),
-        "broadcast" => acting::heard(alloc, size),
-        "emit" => acting::risen(alloc, size),
-        "calls" => acting::called(alloc, size),
-        "destroy" => acting::buried(alloc, size),
         _ => None,
     }
 }

@@ -12,23 +12,21 @@ use Rattle.ng_base.specs.declared.fault.Fault.{Fault}
 use Rattle.ng_base.specs.declared.path.Key.{Key}
 use Rattle.ng_behaviour.specs.Scopes.{Scope, object_at}
 use Rattle.ng_base.specs.declared.value.Value.{Value}
-use Rattle.ng_base.specs.declared.value.Value.TheVariants as value
 use Rattle.ng_bind.specs.declared.flow.Flow.{Flow}
 use Rattle.ng_core.specs.Keeping.{stores}
 use Rattle.ng_core.specs.State as act
 use Rattle.ng_core.specs.State.{Run, ◌>>=◌}
-use Rattle.ng_drawing.specs.Template.{Piece, Site}
-use Rattle.ng_fire.proofs.Rising.{mark, Rises, rises-refl}
-use Rattle.ng_fire.proofs.Runs.{write_rises}
-use Rattle.ng_fire.proofs.Served.{all_at}
+use Rattle.ng_changes.proofs.Rising.{mark, Rises, rises-refl}
+use Rattle.ng_changes.proofs.Runs.{write_rises}
+use Rattle.ng_changes.proofs.AllAt.{all_at}
 use Rattle.ng_fire.specs.Bindings.{both_fired, flow_by, flows, to_parent, write_run, written_back}
 use Rattle.ng_fire.specs.Blocks.{Firing}
-use Rattle.ng_fire.specs.LinkBindings.{joined_with, set_on, set_to_text, shown_over, text_set, written_to}
-use Rattle.ng_fire.specs.Whole.{HasScope, HaveScopes}
+use Rattle.ng_steps.specs.LinkBindings.{set_on, written_to}
+use Rattle.ng_changes.specs.Whole.{HasScope, HaveScopes}
 use Rattle.ng_language.specs.Trees.{Trees}
-use Rattle.ng_link.specs.Bindings.{Bound, Bounds, BoundStands, bound_in_table}
+use Rattle.ng_instances.specs.Bindings.{Bound, Bounds, BoundStands, bound_in_table}
 use Rattle.ng_link.specs.Calls.{with_core}
-use Rattle.ng_link.specs.Instances.{Inners, Instances, Linked, bound_for, instance_path, linked_at}
+use Rattle.ng_instances.specs.Instances.{Inners, Instances, Linked, bound_for, instance_path, linked_at}
 use Rattle.ng_watch.specs.Verdicts.{own_value}
 use Rattle.ng_write.specs.Making.{value_in}
 
@@ -77,7 +75,3 @@ flowed (Err e) asked f g given is same = absurd (cc)
 -- what goes to a parent
 pub parent_is : (scope : ℕ) (name : List ℕ) (over : ℕ) (writes : Option Trees) (v o : ViewTree) (g : Firing) (r : Run Value) → write_run over writes o g.state.core ≡ r → to_parent scope name over writes v o g ≡ written_back scope name v r.1 (record g { state = with_core r.0 g.state })
 parent_is scope name over writes v o g r is = ap (λ (x : Run Value). written_back scope name v x.1 (record g { state = with_core x.0 g.state })) is
-
--- a text with holes
-pub set_text_is : (scope : ℕ) (name : List ℕ) (over : ℕ) (site : ℕ → Option Site) (ps : List Piece) (c : act.State) (ts : List (List ℕ)) → shown_over over site ps c ≡ Ok ts → (let r : Run (List (List ℕ)) = (set_on scope name (value.Text (joined_with ps ts)) c, Ok ts) in set_to_text scope name over site ps c ≡ r)
-set_text_is scope name over site ps c ts shown = ap (λ (o : Result (List (List ℕ)) Fault). text_set scope name ps o c) shown

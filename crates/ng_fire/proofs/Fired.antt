@@ -1,6 +1,6 @@
 -- What a fire runs.
 use Rattle.std.proofs.Common.{◌≡◌, ◌∙◌, ◌<◌, ℕ, Bool, true, false, List, length, Option, Some, None, refl, ap, subst, sym, if◌then◌else◌}
-use Rattle.std.specs.Prelude.{Ok, Err, option_map}
+use Rattle.std.specs.Prelude.{Ok, option_map}
 use Rattle.std.specs.Map.{lookup}
 use Rattle.std.specs.Option.{ForSome}
 use Rattle.ng_core.specs.Keeping.{stores}
@@ -9,22 +9,22 @@ use Rattle.ng_core.specs.State as act
 use Rattle.ng_core.specs.State.{Run, ◌>>=◌}
 use Rattle.ng_base.specs.Objects.{Object}
 use Rattle.ng_base.specs.Views.{ViewTree}
-use Rattle.ng_base.specs.declared.fault.Fault.{Fault}
 use Rattle.ng_base.specs.declared.path.Key.{Key}
-use Rattle.ng_fire.proofs.Rising.{mark, Rises, rises-refl}
-use Rattle.ng_fire.proofs.Entries.{listener_found}
-use Rattle.ng_fire.proofs.Runs.{asked_rises}
-use Rattle.ng_fire.proofs.RisingPrograms.{bind-rises, stores-rises}
-use Rattle.ng_fire.proofs.Snapshots.{dirty_stands, faulted}
+use Rattle.ng_changes.proofs.Rising.{mark, Rises, rises-refl}
+use Rattle.ng_changes.proofs.Entries.{listener_found}
+use Rattle.ng_changes.proofs.Runs.{asked_rises}
+use Rattle.ng_changes.proofs.RisingPrograms.{bind-rises, stores-rises}
+use Rattle.ng_fire.proofs.Snapshots.{dirty_stands}
 use Rattle.ng_fire.specs.Blocks.{Firing}
-use Rattle.ng_fire.specs.Fires.{adds_by, fire_adds, fire_of_site, fire_run, fired, fired_by, former_value, listener_at, listener_locals, listener_run, run_with, value_at, value_of}
-use Rattle.ng_fire.specs.Runs.{asked_first}
+use Rattle.ng_changes.specs.ListenerRuns.{former_value, listener_locals, listener_run}
+use Rattle.ng_fire.specs.Fires.{adds_by, fire_adds, fire_of_site, fire_run, fired, fired_by, listener_at, value_at}
+use Rattle.ng_changes.specs.Runs.{asked_first}
 use Rattle.ng_fire.specs.SiteFires.{site_fired}
-use Rattle.ng_fire.specs.Whole.{ListenersStand}
+use Rattle.ng_changes.specs.Whole.{ListenersStand}
 use Rattle.ng_language.specs.Objects.{AreObjects}
 use Rattle.ng_language.specs.Views.{ViewStands}
 use Rattle.ng_link.specs.Calls.{keeping_at}
-use Rattle.ng_link.specs.Instances.{is_site}
+use Rattle.ng_instances.specs.Instances.{is_site}
 use Rattle.ng_link.specs.State.{State, Listening}
 use Rattle.ng_watch.specs.Keys.{is_key}
 use Rattle.ng_watch.specs.Now.{value_now}
@@ -37,16 +37,6 @@ use Rattle.ng_watch.specs.Verdicts.{dirty, verdict}
 pub watch_stands : (n : ℕ) (o : Option Watcher) (x : Watching) → option_map (λ (w : Watcher). w.watch) o ≡ Some x → ForSome o (λ w. WatchStands n w.watch) → WatchStands n x
 watch_stands n None x e f = absurd (cc)
 watch_stands n (Some w) x e f = let q : w.watch ≡ x = cc in subst (λ (y : Watching). WatchStands n y) q (f w refl)
-
-pub never_faulted : (objects : List Object) (o : Option Watcher) (x : Watching) (f : Fault) (now : ViewTree) → option_map (λ (w : Watcher). w.watch) o ≡ Some x → ForSome o (λ w. verdict objects w ≡ Ok (dirty now)) → value_now objects x ≡ Err f → ⊥
-never_faulted objects None x f now e d q = cc
-never_faulted objects (Some w) x f now e d q =
-    let i : w.watch ≡ x = cc in
-    faulted objects w f now (value_now objects w.watch) (rw i q) (d w refl)
-
-pub value_found : (s : State) (o : Option Watcher) (x : Watching) (v : ViewTree) → option_map (λ (w : Watcher). w.watch) o ≡ Some x → value_now s.core.objects x ≡ Ok v → value_of s o ≡ Some v
-value_found s None x v e q = absurd (cc)
-value_found s (Some w) x v e q = let i : w.watch ≡ x = cc in rw (i, q) refl
 
 pub dirty_found : (objects : List Object) → AreObjects objects → (o : Option Watcher) (x : Watching) (v now : ViewTree) → option_map (λ (w : Watcher). w.watch) o ≡ Some x → ForSome o (λ w. verdict objects w ≡ Ok (dirty now)) → WatchStands (length objects) x → value_now objects x ≡ Ok v → ViewStands (length objects) v → ViewStands (length objects) now
 dirty_found objects a None x v now e d ws q s = absurd (cc)
@@ -62,22 +52,6 @@ listener_scope n s k l h e = by (is_site s.inner s.instances k) e
     by : (b : Bool) → (if b then None else lookup (is_key k) s.declared) ≡ Some l → l.scope < n
     by true e = absurd (cc)
     by false e = listener_found n (is_key k) s.declared h l e
-
-pub run_is : (s : State) (k : Key) (l : Listening) (former : Option ViewTree) (v : ViewTree) → listener_at s k ≡ Some l → kept_at k s.watchers ≡ former → value_at s k ≡ Some v → fire_run k s ≡ Some (listener_run l former v s.core)
-run_is s k l former v el ef ev =
-    ap (λ (x : Option Listening). run_with x (kept_at k s.watchers) (value_at s k) s.core) el
-    ∙ (ap (λ (x : Option ViewTree). run_with (Some l) x (value_at s k) s.core) ef
-    ∙ ap (λ (x : Option ViewTree). run_with (Some l) former x s.core) ev)
-
-pub none_is : (s : State) (k : Key) → listener_at s k ≡ None → fire_run k s ≡ None
-none_is s k e = ap (λ (x : Option Listening). run_with x (kept_at k s.watchers) (value_at s k) s.core) e
-
-pub site_none : (s : State) (k : Key) → is_site s.inner s.instances k ≡ true → listener_at s k ≡ None
-site_none s k e = by (is_site s.inner s.instances k) e
-  where
-    by : (b : Bool) → b ≡ true → (if b then None else lookup (is_key k) s.declared) ≡ None
-    by true e = refl
-    by false e = absurd (cc)
 
 -- the fire of a site
 

@@ -11,11 +11,13 @@ use Rattle.ng_blocks.specs.declared.plans.PlanFault.{PlanFault}
 use Rattle.ng_blocks.specs.declared.plans.PlanFault.TheVariants.{Dupes}
 use Rattle.ng_drawing.specs.Roles.{Role}
 use Rattle.ng_drawing.specs.Template.{Repeated}
-use Rattle.ng_fire.specs.Repeats.{Row, bodies_at, body_at, kept_from, kept_rows, keys_of, path_from, role_for, rows_from}
-use Rattle.ng_fire.specs.RepeatsOf.{KeptOrGone, RowsOfStand}
-use Rattle.ng_fire.specs.Tracking.{Item, track_key, track_keys}
-use Rattle.ng_fire.specs.TrackingOf.{ItemsStand}
-use Rattle.ng_link.specs.Instances.{Body, is_path}
+use Rattle.ng_rows.specs.RepeatRows.{Row, kept_from, kept_rows, keys_of, path_from, role_for, rows_from}
+use Rattle.ng_fire.specs.Repeats.{bodies_at, body_at}
+use Rattle.ng_rows.specs.RepeatsOf.{RowsOfStand}
+use Rattle.ng_fire.specs.RowsKnown.{KeptOrGone}
+use Rattle.ng_rows.specs.Tracking.{Item, track_key, track_keys}
+use Rattle.ng_rows.specs.TrackingOf.{ItemsStand}
+use Rattle.ng_instances.specs.Instances.{Body, is_path}
 use Rattle.ng_link.specs.Standing.{body_count}
 use Rattle.ng_store.proofs.Sound.{stands_more}
 

@@ -1,17 +1,16 @@
 -- Entries get their values, and items their track keys, one after another.
-use Rattle.std.proofs.Common.{◌≡◌, ◌++◌, ℕ, Bool, true, false, List, [], ◌∷◌, ap, if◌then◌else◌}
-use Rattle.std.specs.Prelude.{Some, Ok, Err}
+use Rattle.std.proofs.Common.{◌++◌, ℕ, Bool, true, false, List, [], ◌∷◌, if◌then◌else◌}
+use Rattle.std.specs.Prelude.{Some, Ok}
 use Rattle.ng_core.specs.Keeping.{stores}
 use Rattle.ng_core.specs.State as act
-use Rattle.ng_core.specs.State.{Run, ◌>>=◌}
+use Rattle.ng_core.specs.State.{Run}
 use Rattle.ng_base.specs.Views.{ViewTree, ViewTrees, ViewFields, prim, list, rec, no_views, view_then, no_fields, field_then}
-use Rattle.ng_base.specs.declared.fault.Fault.{Fault}
 use Rattle.ng_drawing.specs.Roles.{Entry, entries_in, item_entries, named_entries}
-use Rattle.ng_fire.proofs.Rising.{mark, Rises, rises-refl}
-use Rattle.ng_fire.proofs.RisingPrograms.{bind-rises, stores-rises}
-use Rattle.ng_fire.specs.Repeats.{item_made, items_made}
-use Rattle.ng_fire.specs.Tracking.{Item}
-use Rattle.ng_fire.specs.TrackingOf.{EntriesStand}
+use Rattle.ng_changes.proofs.Rising.{mark, Rises, rises-refl}
+use Rattle.ng_changes.proofs.RisingPrograms.{bind-rises, stores-rises}
+use Rattle.ng_rows.specs.RepeatRows.{item_made, items_made}
+use Rattle.ng_rows.specs.Tracking.{Item}
+use Rattle.ng_rows.specs.TrackingOf.{EntriesStand}
 use Rattle.ng_language.specs.Unfolding.{is_dollar}
 use Rattle.ng_language.specs.Views.{ViewStands, ViewsStand, FieldsStand}
 use Rattle.ng_write.specs.Making.{value_in}
@@ -31,14 +30,6 @@ items_rise [] done c = rises-refl (mark c)
 items_rise (e ∷ es) done c =
     let r : Run Item = item_made e c in
     bind-rises (mark c) r.0 r.1 (λ x d. items_made es (done ++ x ∷ []) d) (item_rises e c) (λ x d. items_rise es (done ++ x ∷ []) d)
-
--- ---- the first of some entries
-
-pub first_faults : (e : Entry) (es : List Entry) (done : List Item) (c d : act.State) (f : Fault) → item_made e c ≡ (d, Err f) → items_made (e ∷ es) done c ≡ (d, Err f)
-first_faults e es done c d f is = ap (λ (r : Run Item). r >>= λ x b. items_made es (done ++ x ∷ []) b) is
-
-pub first_made : (e : Entry) (es : List Entry) (done : List Item) (c d : act.State) (x : Item) → item_made e c ≡ (d, Ok x) → items_made (e ∷ es) done c ≡ items_made es (done ++ x ∷ []) d
-first_made e es done c d x is = ap (λ (r : Run Item). r >>= λ y b. items_made es (done ++ y ∷ []) b) is
 
 -- ---- what the entries of a value name stands with it
 

@@ -6,11 +6,11 @@ use Rattle.ng_drawing.specs.Origins.{plain_origin}
 use Rattle.ng_drawing.specs.Template.{Filling, body_if, on_case, for_each, by_name, Fragment, fragment_at}
 use Rattle.ng_drawing.specs.declared.origin.Home.{Home}
 use Rattle.ng_drawing.specs.declared.origin.Origin.{Origin}
-use Rattle.ng_fire.specs.Blocks.{body_of}
+use Rattle.ng_rows.specs.Chosen.{body_of}
 use Rattle.ng_fire.specs.SiteFires.{including_origin}
-use Rattle.ng_fire.specs.Whole.{HasBody}
+use Rattle.ng_changes.specs.Whole.{HasBody}
 use Rattle.ng_compose.specs.Kept.{Named, composing, fragment_in, including, fragment_for}
-use Rattle.ng_fire.proofs.Answered.{there}
+use Rattle.ng_changes.proofs.Answered.{there}
 
 kept_there : (all : List Named) (t : ℕ) → t < length all → (k : Named) × (slice_get all t ≡ Some k)
 kept_there [] t l = absurd (omega (arith, l))

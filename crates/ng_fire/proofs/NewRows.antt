@@ -8,9 +8,12 @@ use Rattle.ng_core.specs.State.{Run}
 use Rattle.ng_drawing.specs.Origins.{is_too_deep}
 use Rattle.ng_drawing.specs.Template.{Fragment, no_fragment}
 use Rattle.ng_drawing.specs.declared.origin.Origin.{Origin}
-use Rattle.ng_fire.specs.Blocks.{Firing, body_linked, body_made, body_on, child_run, filled, linked_then, told_on}
-use Rattle.ng_fire.specs.Links.{Linking, begins_linking, link_at}
-use Rattle.ng_link.specs.Calls.{Place, with_core}
+use Rattle.ng_changes.specs.ChildRun.{child_run}
+use Rattle.ng_rows.specs.Chosen.{told_on}
+use Rattle.ng_fire.specs.Blocks.{Firing, body_linked, body_made, body_on, filled, linked_then}
+use Rattle.ng_steps.specs.Links.{Linking, begins_linking, link_at}
+use Rattle.ng_instances.specs.Changing.{Place}
+use Rattle.ng_link.specs.Calls.{with_core}
 use Rattle.ng_link.specs.State.{State}
 use Rattle.ng_members.specs.Leaves.{Local}
 use Rattle.ng_compose.specs.Kept.{fragment_for, fragments_in}

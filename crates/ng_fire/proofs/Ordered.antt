@@ -24,23 +24,26 @@ use Rattle.ng_language.specs.Trees.{Trees}
 use Rattle.ng_parts.specs.Directing.{Programs}
 use Rattle.ng_compose.specs.Kept.{fragments_in}
 use Rattle.ng_link.proofs.Sorted.{insert_sorted, filter_sorted, remove_sorted}
-use Rattle.ng_fire.specs.Attending.{attended_by, first_attended}
+use Rattle.ng_steps.specs.Attending.{attended_by, first_attended}
 use Rattle.ng_fire.specs.Bindings.{bound_fired, fired_with, flow_by, flows, unless_fault, write_run, written_back}
-use Rattle.ng_fire.specs.Changes.{applied, applied_all, changed, without_changes}
-use Rattle.ng_fire.specs.LinkBindings.{bound_pieces, set_to_text, set_to_value, written_to}
-use Rattle.ng_fire.specs.Links.{Linking, all_buried, begins_linking, ended_link, first_of, link_at, opened_by, opened_with, opening_run, outlet_scope, registered, registered_many, rested_on, rested_on_all, scope_of, source_bound, step_linked, steps_linked, texts_kept, unless_faulted, value_bound_by, value_kept, with_bounds}
-use Rattle.ng_fire.specs.Blocks.{Firing, begins_firing, gone, ended, all_gone, child_run, linked_then, body_linked, told_on, body_made, filled, goes, outlet_emptied, outlets_emptied, cases_due}
+use Rattle.ng_changes.specs.Changes.{applied, applied_all, changed, without_changes}
+use Rattle.ng_steps.specs.LinkBindings.{bound_pieces, set_to_text, set_to_value, written_to}
+use Rattle.ng_steps.specs.Links.{Linking, all_buried, begins_linking, ended_link, first_of, link_at, opened_by, opened_with, opening_run, outlet_scope, registered, registered_many, rested_on, rested_on_all, scope_of, source_bound, step_linked, steps_linked, texts_kept, unless_faulted, value_bound_by, value_kept, with_bounds}
+use Rattle.ng_changes.specs.ChildRun.{child_run}
+use Rattle.ng_rows.specs.Chosen.{told_on, goes, cases_due}
+use Rattle.ng_fire.specs.Blocks.{Firing, begins_firing, gone, ended, all_gone, linked_then, body_linked, body_made, filled, outlet_emptied, outlets_emptied}
 use Rattle.ng_fire.specs.SiteFires.{outlets_filled, bound_site_fired, outlets_fired, site_fired, site_fired_by}
 use Rattle.ng_fire.proofs.RepeatWalks.{outlets_keep}
-use Rattle.ng_fire.specs.Runs.{program_run, followed, destroy_run}
-use Rattle.ng_link.specs.Bindings.{Bound, bound_both, bound_in, bound_text}
-use Rattle.ng_link.specs.Calls.{Place, with_core, declared_at, undeclared_at, left_at, placed_on, unlinked_at}
-use Rattle.ng_link.specs.Due.{Due, all_due}
+use Rattle.ng_changes.specs.Runs.{program_run, followed, destroy_run}
+use Rattle.ng_instances.specs.Bindings.{Bound, bound_both, bound_in, bound_text}
+use Rattle.ng_instances.specs.Changing.{Place}
+use Rattle.ng_link.specs.Calls.{with_core, declared_at, undeclared_at, left_at, placed_on, unlinked_at}
+use Rattle.ng_instances.specs.Due.{Due, all_due}
 use Rattle.ng_link.specs.Events.{scope_in}
-use Rattle.ng_link.specs.Instances.{Body, bound_for, instance_path, is_site, linked_at, linked_for}
-use Rattle.ng_link.specs.Linking.{LinkStep, makes, stops, opens, binds, installs, starts, starts_at, registers, leaves, fault_in, piece_steps, steps, steps_within}
-use Rattle.ng_link.specs.Registering.{Registered, site_rows}
-use Rattle.ng_link.specs.Rows.{Row, watching_site, with_first, with_row, with_sites}
+use Rattle.ng_instances.specs.Instances.{Body, bound_for, instance_path, is_site, linked_at, linked_for}
+use Rattle.ng_build.specs.Linking.{LinkStep, makes, stops, opens, binds, installs, starts, starts_at, registers, leaves, fault_in, piece_steps, steps, steps_within}
+use Rattle.ng_instances.specs.Registering.{Registered, site_rows}
+use Rattle.ng_instances.specs.Rows.{Row, watching_site, with_first, with_row, with_sites}
 use Rattle.ng_link.specs.State.{State, Listening, live_nodes}
 use Rattle.ng_members.specs.Leaves.{Local}
 use Rattle.ng_watch.specs.Keys.{key_cmp, key_cmp_total, is_key, begins}

@@ -13,15 +13,18 @@ use Rattle.ng_drawing.specs.Origins.{plain_origin}
 use Rattle.ng_drawing.specs.Roles.{Entry, a_body, a_named, entries_in}
 use Rattle.ng_drawing.specs.Template.{Filling, body_if, on_case, for_each, by_name, Repeated}
 use Rattle.ng_drawing.specs.declared.origin.Origin.{Origin}
-use Rattle.ng_fire.specs.Blocks.{Firing, ended, faulted_with, told_on, filled, body_of, comes}
-use Rattle.ng_fire.specs.Repeats.{items_made, keys_of, Row, rows_from, role_for, kept_rows, bodies_at, all_ended, rows_taken, with_state, rows_gone, rows_arranged, row_names, Filled, filled_to, row_fired, rows_fired, rows_changed, as_fault, by_plan, by_keys, rows_at, by_items, repeat_fired}
+use Rattle.ng_rows.specs.Chosen.{told_on, body_of, comes}
+use Rattle.ng_fire.specs.Blocks.{Firing, ended, faulted_with, filled}
+use Rattle.ng_rows.specs.RepeatRows.{items_made, keys_of, Row, rows_from, role_for, kept_rows, row_names, as_fault}
+use Rattle.ng_fire.specs.Repeats.{bodies_at, all_ended, rows_taken, with_state, rows_gone, rows_arranged, Filled, filled_to, row_fired, rows_fired, rows_changed, by_plan, by_keys, rows_at, by_items, repeat_fired}
 use Rattle.ng_fire.specs.SiteFires.{body_filled, including_origin, template_filled, filled_by, outlet_filled, outlets_filled}
-use Rattle.ng_fire.specs.Tracking.{Item, track_keys}
+use Rattle.ng_rows.specs.Tracking.{Item, track_keys}
 use Rattle.ng_language.specs.Texts.{text_of}
-use Rattle.ng_link.specs.Calls.{Place, with_core, in_outlet, unlinked_at, arranged_at}
-use Rattle.ng_link.specs.Due.{Due}
+use Rattle.ng_instances.specs.Changing.{Place, in_outlet}
+use Rattle.ng_link.specs.Calls.{with_core, unlinked_at, arranged_at}
+use Rattle.ng_instances.specs.Due.{Due}
 use Rattle.ng_link.specs.Events.{scope_in}
-use Rattle.ng_link.specs.Instances.{Body, linked_at}
+use Rattle.ng_instances.specs.Instances.{Body, linked_at}
 use Rattle.ng_members.specs.Leaves.{Local}
 use Rattle.ng_compose.specs.Kept.{named_from}
 

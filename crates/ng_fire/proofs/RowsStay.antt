@@ -1,19 +1,21 @@
 -- What is linked on other paths stays as rows go, are put in order, and are made.
-use Rattle.std.proofs.Common.{◌≡◌, ◌∙◌, ◌+◌, ◌<◌, ◌≤◌, ◌++◌, ℕ, Bool, true, false, cond, true≢false, List, [], ◌∷◌, slice_get, Option, Some, None, refl, ap, sym, subst, arith, inl, inr, ◌⊎◌}
+use Rattle.std.proofs.Common.{◌≡◌, ◌∙◌, ◌<◌, ◌≤◌, ◌++◌, ℕ, Bool, true, false, cond, true≢false, List, [], ◌∷◌, slice_get, Option, Some, None, refl, ap, sym, subst, arith, inl, inr, ◌⊎◌}
 use Rattle.std.specs.List.{AllByRecursion}
 use Rattle.std.specs.Prelude.{not}
 use Rattle.ng_base.specs.declared.path.Key.{Key}
 use Rattle.ng_drawing.specs.Roles.{Role}
-use Rattle.ng_fire.proofs.InnerPaths.{not_true}
+use Rattle.ng_changes.proofs.InnerPaths.{not_true}
 use Rattle.ng_fire.proofs.RowsTaken.{one_of}
-use Rattle.ng_fire.proofs.Served.{all_at, held_below, not_begun}
+use Rattle.ng_changes.proofs.AllAt.{all_at}
+use Rattle.ng_fire.proofs.Served.{held_below, not_begun}
 use Rattle.ng_fire.specs.Repeats.{bodies_or, rows_at}
 use Rattle.ng_fire.specs.Serving.{OthersStay, RestStays}
 use Rattle.ng_link.proofs.Lookups.{changed_other, inserted_other, kept_found}
-use Rattle.ng_link.proofs.Paths.{begins_itself, not_path, other_path, same_path}
+use Rattle.ng_build.proofs.Paths.{begins_itself}
+use Rattle.ng_link.proofs.PathsBelow.{not_path, other_path, same_path}
 use Rattle.ng_link.specs.Calls.{unlinked_at}
-use Rattle.ng_link.specs.Instances.{Body, OutletState, Linked, Instances, is_path, linked_at, outlets_changed, body_added, body_gone, unlinked, with_instance}
-use Rattle.ng_link.specs.PlaceOf.{outlet_of_linked}
+use Rattle.ng_instances.specs.Instances.{Body, OutletState, Linked, Instances, is_path, linked_at, outlets_changed, body_added, body_gone, unlinked, with_instance}
+use Rattle.ng_instances.specs.PlaceOf.{outlet_of_linked}
 use Rattle.ng_link.specs.Standing.{AreHeld, IsBelow, IsHeldIn, body_count, IsPlaced, ArePlaced}
 use Rattle.ng_link.specs.State.{State}
 use Rattle.ng_watch.specs.Keys.{begins}

@@ -1,35 +1,36 @@
 -- What rows that go, and the others in a new order, leave of the instance that their outlet is in.
-use Rattle.std.proofs.Common.{◌≡◌, ◌∙◌, ◌+◌, ◌<◌, ◌≤◌, ℕ, zero, suc, Bool, true, false, cond, not, List, [], ◌∷◌, ◌++◌, drop, get_or, length, map, slice_get, option_map, Option, Some, None, refl, ap, sym, subst, arith, if◌then◌else◌}
+use Rattle.std.proofs.Common.{◌≡◌, ◌∙◌, ◌+◌, ◌<◌, ◌≤◌, ℕ, zero, suc, Bool, true, false, cond, not, List, [], ◌∷◌, ◌++◌, drop, length, map, slice_get, option_map, Option, Some, None, refl, ap, sym, subst, arith, if◌then◌else◌}
 use Rattle.std.specs.List.{filter}
 use Rattle.std.specs.Prelude.{IsSome}
-use Rattle.std.proofs.lemmas.Option.{slice_get-map, slice_get_past, slice_get_read}
 use Rattle.ng_base.specs.declared.path.Key.{Key}
 use Rattle.ng_behaviour.specs.Scopes.{Scope}
 use Rattle.ng_fire.proofs.Once.{sum_at}
-use Rattle.ng_fire.proofs.Entries.{rows_wider}
+use Rattle.ng_changes.proofs.Entries.{rows_wider}
 use Rattle.ng_fire.proofs.KeptRows.{at_row, gone_count}
 use Rattle.ng_base.specs.declared.name.ScopeId.{ScopeId}
-use Rattle.ng_fire.proofs.InnerPaths.{site_changed}
-use Rattle.ng_fire.proofs.Placed.{OutletsHave, has_with, outlets_arranged, scope_changed, stands_with}
-use Rattle.ng_fire.proofs.Served.{all_at, at_still, gone_bodies, held_below, not_begun, scope_with, unlinked_serves}
-use Rattle.ng_fire.proofs.Wholes.{Stays, stays_of, whole_by}
+use Rattle.ng_changes.proofs.InnerPaths.{site_changed}
+use Rattle.ng_steps.proofs.Placed.{OutletsHave, has_with, outlets_arranged, scope_changed, stands_with}
+use Rattle.ng_changes.proofs.AllAt.{all_at}
+use Rattle.ng_fire.proofs.Served.{at_still, gone_bodies, held_below, not_begun, scope_with, unlinked_serves}
+use Rattle.ng_changes.proofs.Wholes.{Stays, stays_of, whole_by}
 use Rattle.ng_fire.specs.Blocks.{Firing, ended}
-use Rattle.ng_fire.specs.Repeats.{Row, all_ended, bodies_at, body_at, bodies_or, kept_rows, rows_at, rows_taken}
-use Rattle.ng_fire.specs.RepeatsOf.{AreRowsAt, HaveGone, IsSpot, KeptOrGone}
+use Rattle.ng_rows.specs.RepeatRows.{Row, kept_rows}
+use Rattle.ng_fire.specs.Repeats.{all_ended, bodies_at, body_at, bodies_or, rows_at, rows_taken}
+use Rattle.ng_fire.specs.RowsKnown.{AreRowsAt, HaveGone, IsSpot, KeptOrGone}
 use Rattle.ng_fire.specs.Serving.{bare, bare_outlets, outlets_in, Keeps, Serves}
-use Rattle.ng_fire.specs.Whole.{HasBody, HasScope, IsWhole, OutletStands}
+use Rattle.ng_changes.specs.Whole.{HasBody, HasScope, IsWhole, OutletStands}
 use Rattle.ng_fire.specs.declared.repeats.Spot.{Spot}
 use Rattle.ng_link.proofs.Lookups.{changed_all, changed_here, kept_found}
-use Rattle.ng_link.proofs.Paths.{path_is, same_path}
+use Rattle.ng_instances.proofs.PathIs.{path_is}
+use Rattle.ng_link.proofs.PathsBelow.{same_path}
 use Rattle.ng_link.specs.Arranging.{IsRearranged}
 use Rattle.ng_link.specs.Calls.{arranged_at, unlinked_at}
 use Rattle.ng_link.specs.Events.{scope_in}
-use Rattle.ng_link.specs.Instances.{Body, OutletState, Linked, Instances, is_path, is_site, linked_at, with_outlets, outlets_changed, bodies_arranged, without_body, body_gone, unlinked}
-use Rattle.ng_link.specs.PlaceOf.{outlet_of_linked}
+use Rattle.ng_instances.specs.Instances.{Body, OutletState, Linked, Instances, is_path, is_site, linked_at, with_outlets, outlets_changed, bodies_arranged, without_body, body_gone, unlinked}
+use Rattle.ng_instances.specs.PlaceOf.{outlet_of_linked}
 use Rattle.ng_link.specs.Standing.{body_count, held_count, IsPlaced, ArePlaced, IsHeldIn, IsStanding}
-use Rattle.ng_link.specs.State.{State, body_of, state_of}
+use Rattle.ng_link.specs.State.{State, state_of}
 use Rattle.ng_link.specs.declared.works.Works.{Works}
-use Rattle.ng_link.specs.declared.works.Body as code
 use Rattle.ng_compose.specs.Kept.{Named, fragment_for}
 use Rattle.ng_watch.specs.Keys.{begins}
 
@@ -50,14 +51,6 @@ spot_stays all now old new s same keeps h = record {
   outlet = at_still s.holder.now old new s.outlet s.scope.0 (map (λ (n : ScopeId). n.0) s.outsides.now) keeps.outlets h.outlet;
   body = subst (λ (ts : List Named). IsSome (fragment_for ts s.origin)) (sym same) h.body;
 }
-
--- ---- the row at a place
-
-pub row_at : (bs : List code.Body) (i : ℕ) (b : code.Body) → i < length bs → b ≡ get_or bs i b → slice_get (map body_of bs) i ≡ Some (body_of b)
-row_at bs i b l e = slice_get-map body_of bs i ∙ ap (option_map body_of) (slice_get_read bs (length bs) i b refl l e)
-
-pub no_row_at : (bs : List code.Body) (i : ℕ) → length bs ≤ i → slice_get (map body_of bs) i ≡ None
-no_row_at bs i le = slice_get-map body_of bs i ∙ ap (option_map body_of) (slice_get_past bs i le)
 
 -- ---- a row goes
 
@@ -181,9 +174,6 @@ ended_more (x ∷ xs) ys g = ended_more xs ys (ended x.path g)
 pub taken_more : (holder : List ℕ) (xs ys : List Body) (s : State) → rows_taken holder (xs ++ ys) s ≡ rows_taken holder xs (rows_taken holder ys s)
 taken_more holder [] ys s = refl
 taken_more holder (x ∷ xs) ys s = ap (unlinked_at holder x.path) (taken_more holder xs ys s)
-
-pub gone_none : (holder : List ℕ) (o : ℕ) (is : Instances) → HaveGone holder o [] is is
-gone_none holder o is = λ q. omega arith
 
 pub gone_more : (holder : List ℕ) (o : ℕ) (xs ys : List Body) (old mid new : Instances) → HaveGone holder o ys old mid → HaveGone holder o xs mid new → HaveGone holder o (xs ++ ys) old new
 gone_more holder o xs ys old mid new h k = λ q. (let one = h q in let more = k q in let all = counted_more q xs ys in omega (arith, one, more, all))

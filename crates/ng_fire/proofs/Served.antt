@@ -6,18 +6,20 @@ use Rattle.std.proofs.lemmas.Bool.{eq-eqb}
 use Rattle.std.specs.Prelude.{◌&&◌}
 use Rattle.ng_base.specs.declared.path.Key.{Key}
 use Rattle.ng_drawing.specs.Roles.{Role}
-use Rattle.ng_fire.proofs.Answered.{there}
+use Rattle.ng_changes.proofs.Answered.{there}
 use Rattle.ng_fire.specs.Serving.{outlets_in, bare, bare_outlets, bodies_held, AreHeldBy, IsAt, IsThere, due_count, AreDue, Serves}
-use Rattle.ng_fire.specs.Whole.{HasBody, HaveBodies}
+use Rattle.ng_changes.specs.Whole.{HasBody, HaveBodies}
 use Rattle.ng_link.proofs.Lookups.{changed_here, inserted_other, kept_found}
-use Rattle.ng_link.proofs.Paths.{path_is, same_path, other_path}
+use Rattle.ng_instances.proofs.PathIs.{path_is}
+use Rattle.ng_link.proofs.PathsBelow.{same_path, other_path}
 use Rattle.ng_link.proofs.BodiesAt.{added_more}
-use Rattle.ng_link.specs.Due.{Due, due_at, due_from, all_due}
+use Rattle.ng_instances.specs.Due.{Due, due_at, due_from, all_due}
 use Rattle.ng_link.specs.Events.{scope_in}
-use Rattle.ng_link.specs.Instances.{Body, OutletState, Linked, Instances, key_in, is_path, linked_at, is_filled_by, with_outlets, outlets_changed, body_added, body_gone, unlinked, with_instance}
+use Rattle.ng_instances.specs.Instances.{Body, OutletState, Linked, Instances, key_in, is_path, linked_at, is_filled_by, with_outlets, outlets_changed, body_added, body_gone, unlinked, with_instance}
 use Rattle.ng_link.specs.Standing.{IsBelow, IsIn, AreIn, body_count, held_count, IsPlaced, ArePlaced, IsHeldIn}
 use Rattle.ng_compose.specs.Kept.{Named}
 use Rattle.ng_watch.specs.Keys.{begins, is_key}
+use Rattle.ng_changes.proofs.AllAt.{all_at}
 
 -- ---- what is left, one after another
 
@@ -60,9 +62,6 @@ found_behind : (before : List OutletState) (x : OutletState) (xs : List OutletSt
 found_behind [] x xs = refl
 found_behind (y ∷ ys) x xs = found_behind ys x xs
 
-pub due_one : (all : List Named) (holder : List ℕ) (is : Instances) (d : Due) (ds : List Due) → AreDue all holder is (d ∷ ds) → AreDue all holder is (d ∷ [])
-due_one all holder is d ds h = record { there = (h.there.0, tt); bodies = λ q. (let many = h.bodies q in omega (arith, many)) }
-
 pub due_held : (all : List Named) (holder : List ℕ) (is : Instances) (d : Due) (ds : List Due) → AreDue all holder is (d ∷ ds) → AreHeldBy holder d.bodies is
 due_held all holder is d ds h = λ q. (let many = h.bodies q in omega (arith, many))
 
@@ -78,16 +77,6 @@ due_rest all holder old new d ds h s = record {
   there = there_still all holder old new ds s.outlets h.there.1;
   bodies = λ q. (let many = h.bodies q in let one = s.bodies q in omega (arith, many, one));
 }
-
-pub all_at : (P : List ℕ → Linked → Type 0) (is : Instances) (p : List ℕ) (l : Linked) → AllByRecursion (λ (e : List ℕ × Linked). P e.0 e.1) is → linked_at p is ≡ Some l → P p l
-all_at P [] p l h at = absurd (cc)
-all_at P (e ∷ es) p l h at = by (is_path p e.0) refl (all_at P es p l h.1) at
-  where
-    by : (b : Bool) → is_path p e.0 ≡ b → (linked_at p es ≡ Some l → P p l) → cond b (Some e.1) (linked_at p es) ≡ Some l → P p l
-    by true same more at =
-        let here : e.1 ≡ l = cc in
-        subst (λ (m : Linked). P p m) here (subst (λ (q : List ℕ). P q e.1) (sym (path_is p e.0 same)) h.0)
-    by false off more at = more at
 
 module _ (all : List Named) (holder : List ℕ) (is : Instances) (serial : ℕ) where
   -- the outlets from one on

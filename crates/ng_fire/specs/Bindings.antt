@@ -18,16 +18,16 @@ use Rattle.ng_drawing.specs.Instance.{two_way_kind}
 use Rattle.ng_drawing.specs.Looks.{kept_text}
 use Rattle.ng_language.specs.Snapshots.{differs}
 use Rattle.ng_language.specs.Trees.{Trees}
-use Rattle.ng_link.specs.Bindings.{BoundPiece, bound_word, bound_hole, Bound, bound_text, bound_in, bound_both}
+use Rattle.ng_instances.specs.Bindings.{BoundPiece, bound_word, bound_hole, Bound, bound_text, bound_in, bound_both}
 use Rattle.ng_link.specs.Calls.{with_core}
-use Rattle.ng_link.specs.Shape.{key_on}
+use Rattle.ng_build.specs.Shape.{key_on}
 use Rattle.ng_link.specs.State.{State, kept_in}
 use Rattle.ng_value.specs.Taken.{taken}
 use Rattle.ng_watch.specs.Verdicts.{own_value}
 use Rattle.ng_write.specs.Making.{value_in}
 use Rattle.ng_fire.specs.Blocks.{Firing, faulted_with}
-use Rattle.ng_fire.specs.LinkBindings.{set_on, written_to}
-use Rattle.ng_fire.specs.Inputs as inputs
+use Rattle.ng_steps.specs.LinkBindings.{set_on, written_to}
+use Rattle.ng_changes.specs.Inputs as inputs
 
 -- the text of pieces with what their holes have kept; an unset hole is empty
 abbrev pub text_kept : List ℕ → List BoundPiece → State → List ℕ

@@ -1,31 +1,29 @@
 -- What the fire of a site does that fills outlets (API: ngIf, ngSwitch, ngInclude, ngRepeat). First the scopes of bodies that are not to stay are
 -- destroyed, each before its body is gone. Then, where a body is called for that doesn't stand, a child scope is made and the body is linked
 -- on it, up to the first fault.
-use Rattle.std.specs.Prelude.{ℕ, ◌||◌, ◌&&◌, not, ◌++◌, Bool, true, false, List, [], ◌∷◌, length, nat_lt, Option, None, Some, Result, Ok, Err, if◌then◌else◌}
+use Rattle.std.specs.Prelude.{ℕ, ◌||◌, Bool, true, false, List, [], ◌∷◌, Option, None, Some, Result, Ok, Err, if◌then◌else◌}
 use Rattle.ng_core.specs.Burying.{buried}
 use Rattle.ng_core.specs.State as act
-use Rattle.ng_core.specs.State.{Run, with_fault, with_objects, with_scopes}
+use Rattle.ng_core.specs.State.{Run, with_fault}
 use Rattle.ng_base.specs.Views.{ViewTree}
 use Rattle.ng_base.specs.declared.fault.Fault.{Fault}
-use Rattle.ng_base.specs.declared.fault.Fault.TheVariants.{StoreFull, Depth}
-use Rattle.ng_behaviour.specs.ScopeObjects.{with_scope_object}
-use Rattle.ng_behaviour.specs.Scopes.{object_at, with_child}
-use Rattle.ng_drawing.specs.Cases.{Case, case_in, calls_for}
-use Rattle.ng_drawing.specs.Looks.{is_kept_true}
+use Rattle.ng_base.specs.declared.fault.Fault.TheVariants.{Depth}
 use Rattle.ng_drawing.specs.Origins.{is_too_deep}
-use Rattle.ng_drawing.specs.Template.{Fragment, Filling, body_if, on_case, for_each, by_name}
+use Rattle.ng_drawing.specs.Template.{Fragment}
 use Rattle.ng_drawing.specs.declared.origin.Origin.{Origin}
 use Rattle.ng_compose.specs.Kept.{fragments_in}
-use Rattle.ng_link.specs.Calls.{Place, with_core, unlinked_at}
+use Rattle.ng_instances.specs.Changing.{Place}
+use Rattle.ng_link.specs.Calls.{with_core, unlinked_at}
 use Rattle.ng_link.specs.Events.{scope_in}
-use Rattle.ng_link.specs.Due.{Due}
-use Rattle.ng_link.specs.Instances.{Body, linked_at}
+use Rattle.ng_instances.specs.Due.{Due}
+use Rattle.ng_instances.specs.Instances.{Body, linked_at}
 use Rattle.ng_link.specs.State.{State}
-use Rattle.ng_fire.specs.Changes.{changed}
-use Rattle.ng_fire.specs.Links.{Linking, begins_linking, adds, link_at}
-use Rattle.ng_fire.specs.Runs.{followed, destroy_run}
+use Rattle.ng_changes.specs.Changes.{changed}
+use Rattle.ng_steps.specs.Links.{Linking, begins_linking, adds, link_at}
+use Rattle.ng_changes.specs.Runs.{followed, destroy_run}
 use Rattle.ng_members.specs.Leaves.{Local}
-use Rattle.ng_write.specs.Storing.{with_names}
+use Rattle.ng_changes.specs.ChildRun.{child_run}
+use Rattle.ng_rows.specs.Chosen.{told_on, goes}
 
 -- how far a fire has come: the state, whether the fire itself has faulted, and whether it left a watcher more
 pub record Firing : Type 0 where
@@ -55,16 +53,6 @@ abbrev pub all_gone : List ℕ → List Body → Firing → Firing
 all_gone holder [] g = g
 all_gone holder (b ∷ bs) g = all_gone holder bs (gone holder b g)
 
--- the most objects of a page
-abbrev pub object_limit : ℕ
-object_limit = 1000000
-
--- a child of a scope: its object inherits from the scope's (guide: Scopes, "Scope Hierarchies")
-abbrev pub child_run : ℕ → act.State → Run ℕ
-child_run scope c =
-    if nat_lt (length c.objects) object_limit then (with_scopes (with_child c.scopes scope (length c.objects)) (with_objects (with_scope_object c.objects c.scopes (Some (object_at c.scopes scope)) scope) c), Ok (length c.scopes))
-    else (c, Err StoreFull)
-
 -- the fire itself faults
 abbrev pub faulted_with : Fault → Firing → Firing
 faulted_with e g = record g { state = with_core (with_fault e g.state.core) g.state; faulted = true }
@@ -77,10 +65,6 @@ discarded scope s = changed (with_core (buried scope s.core) s)
 abbrev pub linked_then : ℕ → Option Fault → Linking → Firing → Firing
 linked_then scope None l g = record g { state = l.state; added = g.added || l.added }
 linked_then scope (Some e) l g = faulted_with e (record g { state = discarded scope l.state; added = g.added || l.added })
-
--- names of a scope are set, whatever they are
-abbrev pub told_on : ℕ → List Local → act.State → act.State
-told_on scope names c = with_objects (with_names c.objects (object_at c.scopes scope) names) c
 
 abbrev pub linked_by : ℕ → Linking → Firing → Firing
 linked_by child l g = linked_then child l.fault l g
@@ -105,41 +89,9 @@ filled place scope outsides names which g = by (child_run scope g.state.core)
     by : Run ℕ → Firing
     by r = body_made place outsides names which (fragments_in g.state.templates which) r.0 r.1 g
 
-abbrev pub has_bodies : List Body → Bool
-has_bodies [] = false
-has_bodies (b ∷ bs) = true
-
--- The bodies that stand go at a value: that of `ng-if` where it is not called for, those of a switch and that of an inclusion anyhow. The rows
--- of a repeat go by their keys.
-abbrev pub goes : Filling → ViewTree → Bool
-goes (body_if body) v = not (is_kept_true (Some v))
-goes (on_case c body) v = true
-goes (for_each r body) v = false
-goes (by_name body) v = true
-
 abbrev pub outlet_emptied : List ℕ → ViewTree → Due → Firing → Firing
 outlet_emptied holder v d g = if goes d.filling v then all_gone holder d.bodies g else g
 
 abbrev pub outlets_emptied : List ℕ → ViewTree → List Due → Firing → Firing
 outlets_emptied holder v [] g = g
 outlets_emptied holder v (d ∷ ds) g = outlets_emptied holder v ds (outlet_emptied holder v d g)
-
--- whether a body stays in an outlet at a value
-abbrev pub stays : ViewTree → Due → Bool
-stays v d = has_bodies d.bodies && not (goes d.filling v)
-
--- the cases of a switch whose outlets are these
-abbrev pub cases_due : List Due → List Case
-cases_due [] = []
-cases_due (d ∷ ds) = case_in d.filling ++ cases_due ds
-
--- the number of the body of an outlet
-abbrev pub body_of : Filling → ℕ
-body_of (body_if body) = body
-body_of (on_case c body) = body
-body_of (for_each r body) = body
-body_of (by_name body) = body
-
--- whether a body is to be made in an outlet, beside these cases
-abbrev pub comes : List Case → ViewTree → Due → Bool
-comes cases v d = calls_for cases d.filling (Some v) && not (stays v d)

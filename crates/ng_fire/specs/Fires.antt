@@ -1,42 +1,26 @@
 -- The fire of a watcher that was dirty (guide: Scopes, "Scope `$watch` Depths"; API: `$watch`). It keeps the snapshot of now; the
 -- former one is what it had kept before.
-use Rattle.std.specs.Prelude.{◌≡◌, Bool, false, List, [], ◌∷◌, codes, Option, Some, None, Result, Ok, Err, is_err, if◌then◌else◌}
+use Rattle.std.specs.Prelude.{◌≡◌, Bool, false, Option, Some, None, Result, Ok, Err, is_err, if◌then◌else◌}
 use Rattle.std.specs.Map.{lookup}
 use Rattle.std.specs.Option.{ForSome}
-use Rattle.ng_core.specs.Keeping.{stores}
-use Rattle.ng_act.specs.Asked.{a_body}
 use Rattle.ng_core.specs.State as act
-use Rattle.ng_core.specs.State.{Run, ◌>>=◌}
+use Rattle.ng_core.specs.State.{Run}
 use Rattle.ng_base.specs.Views.{ViewTree}
 use Rattle.ng_base.specs.declared.fault.Fault.{Fault}
 use Rattle.ng_base.specs.declared.path.Key.{Key}
-use Rattle.ng_fire.specs.Changes.{has_additions}
-use Rattle.ng_fire.specs.Runs.{asked_first, followed}
+use Rattle.ng_changes.specs.Changes.{has_additions}
+use Rattle.ng_changes.specs.Runs.{followed}
 use Rattle.ng_link.specs.Calls.{keeping_at}
 use Rattle.ng_fire.specs.Blocks.{Firing}
 use Rattle.ng_fire.specs.SiteFires.{site_fired}
-use Rattle.ng_link.specs.Instances.{is_site}
+use Rattle.ng_instances.specs.Instances.{is_site}
 use Rattle.ng_link.specs.State.{State, Listening}
-use Rattle.ng_members.specs.Leaves.{Local}
 use Rattle.ng_watch.specs.Keys.{is_key}
 use Rattle.ng_watch.specs.Now.{value_now}
 use Rattle.ng_watch.specs.Seen.{Watcher}
 use Rattle.ng_watch.specs.Table.{found, kept_at}
 use Rattle.ng_watch.specs.Verdicts.{verdict, dirty}
-use Rattle.ng_write.specs.Making.{value_in}
-
--- What `old` is: what the former snapshot holds, a list or record as a new object. Where nothing was kept it is the value.
-abbrev pub former_value : Option ViewTree → ViewTree → act.State → Run ViewTree
-former_value None v c = (c, Ok v)
-former_value (Some f) v c = stores f c
-
-abbrev pub listener_locals : ViewTree → ViewTree → List Local
-listener_locals v o = (codes "value", value_in v) ∷ (codes "old", value_in o) ∷ []
-
--- the program of a declared watch runs on its scope with `value` and `old`; a fresh list or record of either is a new object
-abbrev pub listener_run : Listening → Option ViewTree → ViewTree → act.State → Run ViewTree
-listener_run l former v c =
-    stores v c >>= λ w d. former_value former w d >>= λ o e. asked_first (a_body l.scope (listener_locals w o) l.body) e
+use Rattle.ng_changes.specs.ListenerRuns.{listener_run}
 
 -- the value now of a watcher
 abbrev pub value_of : State → Option Watcher → Option ViewTree

@@ -10,14 +10,15 @@ use Rattle.ng_drawing.specs.Template.{Filling, body_if, on_case, for_each, by_na
 use Rattle.ng_drawing.specs.declared.origin.Home.{Home}
 use Rattle.ng_drawing.specs.declared.origin.Origin.{Origin}
 use Rattle.ng_language.specs.Texts.{text_of}
-use Rattle.ng_link.specs.Calls.{in_outlet}
-use Rattle.ng_link.specs.Due.{Due, all_due}
-use Rattle.ng_link.specs.Bindings.{Bound}
-use Rattle.ng_link.specs.Instances.{instance_path, linked_for, bound_for}
+use Rattle.ng_instances.specs.Changing.{in_outlet}
+use Rattle.ng_instances.specs.Due.{Due, all_due}
+use Rattle.ng_instances.specs.Bindings.{Bound}
+use Rattle.ng_instances.specs.Instances.{instance_path, linked_for, bound_for}
 use Rattle.ng_link.specs.State.{State}
 use Rattle.ng_compose.specs.Kept.{named_from}
 use Rattle.ng_fire.specs.Bindings.{bound_fired}
-use Rattle.ng_fire.specs.Blocks.{Firing, begins_firing, faulted_with, filled, outlets_emptied, cases_due, body_of, comes}
+use Rattle.ng_rows.specs.Chosen.{cases_due, body_of, comes}
+use Rattle.ng_fire.specs.Blocks.{Firing, begins_firing, faulted_with, filled, outlets_emptied}
 use Rattle.ng_fire.specs.Repeats.{repeat_fired}
 
 -- the body of an outlet is made where it comes, unless one before it faulted

@@ -6,47 +6,51 @@ ghost use Rattle.ng_behaviour.specs.Scopes.{path_at};
 ghost use Rattle.std.specs.List.{AllByRecursion};
 ghost use Rattle.ng_drawing.specs.RolesOf.{role_of};
 ghost use Rattle.ng_drawing.specs.Template.{Fragment};
-ghost use Rattle.ng_fire.specs.Blocks.{begins_firing, ended, gone, all_gone, body_linked, body_on, filled, outlet_emptied, outlets_emptied, cases_due, discarded, faulted_with};
+ghost use Rattle.ng_rows.specs.Chosen.{cases_due};
+ghost use Rattle.ng_fire.specs.Blocks.{begins_firing, ended, gone, all_gone, body_linked, body_on, filled, outlet_emptied, outlets_emptied, discarded, faulted_with};
 ghost use Rattle.ng_fire.specs.SiteFires.{body_filled, template_filled, named_filled, outlet_filled, outlets_filled, outlets_fired};
-ghost use Rattle.ng_fire.specs.FiringOf.{firing};
-ghost use Rattle.ng_fire.specs.Runs.{destroyed};
-ghost use Rattle.ng_fire.specs.LinkingOf.{AreBelow};
+ghost use Rattle.ng_fire.specs.FireOf.{firing};
+ghost use Rattle.ng_changes.specs.Runs.{destroyed};
+ghost use Rattle.ng_steps.specs.LinkingOf.{AreBelow};
 ghost use Rattle.ng_fire.specs.Serving.{IsAt, IsThere, AreHeldBy, AreDue, Keeps, Serves};
-ghost use Rattle.ng_fire.specs.Whole.{IsWhole};
+ghost use Rattle.ng_changes.specs.Whole.{IsWhole};
 ghost use Rattle.ng_language.specs.Views.{ViewStands};
-ghost use Rattle.ng_link.specs.Calls.{in_outlet};
-ghost use Rattle.ng_link.specs.Due.{due_of};
-ghost use Rattle.ng_link.specs.PlaceOf.{place_of, IsFree};
+ghost use Rattle.ng_instances.specs.Changing.{in_outlet};
+ghost use Rattle.ng_instances.specs.Due.{due_of};
+ghost use Rattle.ng_instances.specs.PlaceOf.{place_of};
+ghost use Rattle.ng_link.specs.FreePlace.{IsFree};
 ghost use Rattle.ng_link.specs.Standing.{IsHeld};
-ghost use Rattle.ng_link.specs.State.{body_of as body_in, state_of, templates_of};
+ghost use Rattle.ng_instances.specs.InstanceOf.{body_of as body_in};
+ghost use Rattle.ng_link.specs.State.{state_of, templates_of};
 ghost use Rattle.ng_compose.specs.Kept.{named_from, fragment_in, fragment_for};
 ghost use Rattle.ng_value.specs.Snaps.{snap_of};
 
-use crate::changing::apply_changes;
-use crate::choosing::{body_of, comes, goes};
-use crate::following::{Followed, hand_over};
-use crate::linking::link_at;
 use crate::repeats::{Spot, fire_repeat};
-use crate::scoping::make_child;
 use ng_act::running::destroy;
 use ng_base::fault::{Fault, Memory};
 use ng_base::name::ScopeId;
 use ng_base::path::Path;
 use ng_base::txt::Txt;
+use ng_changes::changing::apply_changes;
+use ng_changes::following::{Followed, hand_over};
+use ng_changes::scoping::make_child;
 use ng_core::burying::bury;
 use ng_core::core_state::Core;
 use ng_drawing::cases::kept_as_text;
 use ng_drawing::origin::Origin;
 use ng_drawing::roles::Role;
-use ng_link::filling::{Due, copied_scopes};
-use ng_link::linking::Place;
-use ng_link::works::{Body, Works};
+use ng_instances::filling::{Due, copied_scopes};
+use ng_instances::instances::Body;
+use ng_instances::linking::Place;
+use ng_link::works::Works;
 use ng_parts::Filling;
+use ng_rows::choosing::{body_of, comes, goes};
+use ng_steps::linking::link_at;
 use ng_value::snapshot::Snap;
 use std::alloc::Global;
 
 /// A scope is destroyed while no body and no event is open (API: `$destroy`).
-#[tactic(auto, using(crate::proofs::Runs::destroyed_is))]
+#[tactic(auto, using(ng_changes::proofs::Runs::destroyed_is))]
 fn destroy_first(core: &mut Core, alloc: Global, scope: ScopeId) -> Result<(), Memory>
     requires sound { IsSound core.old }
     requires idle { core.old.depth ≡ 0 }

@@ -3,37 +3,43 @@ ghost use Rattle.std.specs.Prelude.{ℕ, ◌≡◌, ◌<◌, ◌≤◌, ◌+◌,
 ghost use Rattle.ng_base.specs.Objects.{StandsAmong};
 ghost use Rattle.ng_base.specs.ViewOf.{view_of};
 ghost use Rattle.ng_blocks.specs.Plans.{planned, has_double as has_double_of};
-ghost use Rattle.ng_fire.specs.Blocks.{filled, told_on};
-ghost use Rattle.ng_fire.specs.FiringOf.{firing};
-ghost use Rattle.ng_fire.specs.Repeats.{all_ended, bodies_at, body_at, by_items, by_keys, filled_to, keys_of, kept_rows as kept_rows_of, repeat_fired, role_for as role_for_row, rows_from as rows_from_all, row_fired, row_names, rows_at, rows_changed, rows_fired, rows_taken};
-ghost use Rattle.ng_fire.specs.RepeatsOf.{row_of, rows_of, AreNames, AreRowsAt, HaveGone, IsSpot, KeptOrGone, RowsOfStand};
+ghost use Rattle.ng_rows.specs.Chosen.{told_on};
+ghost use Rattle.ng_fire.specs.Blocks.{filled};
+ghost use Rattle.ng_fire.specs.FireOf.{firing};
+ghost use Rattle.ng_rows.specs.RepeatRows.{keys_of, kept_rows as kept_rows_of, role_for as role_for_row, rows_from as rows_from_all, row_names};
+ghost use Rattle.ng_fire.specs.Repeats.{all_ended, bodies_at, body_at, by_items, by_keys, filled_to, repeat_fired, row_fired, rows_at, rows_changed, rows_fired, rows_taken};
+ghost use Rattle.ng_rows.specs.RepeatsOf.{row_of, rows_of, AreNames, RowsOfStand};
+ghost use Rattle.ng_fire.specs.RowsKnown.{AreRowsAt, HaveGone, IsSpot, KeptOrGone};
 ghost use Rattle.ng_fire.specs.Serving.{BodiesStay, Keeps, OthersStay, RestStays};
-ghost use Rattle.ng_fire.specs.TrackingOf.{item_of, items_of, ItemsStand};
-ghost use Rattle.ng_fire.specs.Whole.{IsWhole};
+ghost use Rattle.ng_rows.specs.TrackingOf.{item_of, items_of, ItemsStand};
+ghost use Rattle.ng_changes.specs.Whole.{IsWhole};
 ghost use Rattle.ng_language.specs.Views.{ViewStands};
-ghost use Rattle.ng_link.specs.Calls.{with_core, in_outlet};
+ghost use Rattle.ng_instances.specs.Changing.{in_outlet};
+ghost use Rattle.ng_link.specs.Calls.{with_core};
 ghost use Rattle.ng_link.specs.Events.{scope_in};
-ghost use Rattle.ng_link.specs.Instances.{linked_at};
-ghost use Rattle.ng_link.specs.PlaceOf.{place_of as place_of_code};
-ghost use Rattle.ng_link.specs.State.{body_of, state_of, templates_of};
+ghost use Rattle.ng_instances.specs.Instances.{linked_at};
+ghost use Rattle.ng_instances.specs.PlaceOf.{place_of as place_of_code};
+ghost use Rattle.ng_instances.specs.InstanceOf.{body_of};
+ghost use Rattle.ng_link.specs.State.{state_of, templates_of};
 ghost use Rattle.ng_parts.specs.RepeatedOf.{repeated_of};
 
 use crate::blocks::{end_body, fault, link_body};
-use crate::following::Followed;
-use crate::rows::{Ground, Row, ground_for, kept_rows, plan_rows, role_for, rows_from, tell_row};
-use crate::scoping::make_child;
-use crate::tracking::{Item, make_items, track_keys};
 use ng_base::fault::{Fault, Memory};
 use ng_base::lists::Numbers;
 use ng_base::name::ScopeId;
 use ng_base::path::Path;
 use ng_base::view::View;
 use ng_blocks::{Plan, TrackKeys};
+use ng_changes::following::Followed;
+use ng_changes::scoping::make_child;
 use ng_drawing::origin::Origin;
 use ng_drawing::roles::entries_in;
-use ng_link::linking::Place;
-use ng_link::works::{Body, Works};
+use ng_instances::instances::Body;
+use ng_instances::linking::Place;
+use ng_link::works::Works;
 use ng_parts::Repeated;
+use ng_rows::rows::{Ground, Row, ground_for, kept_rows, plan_rows, role_for, rows_from, tell_row};
+use ng_rows::tracking::{Item, make_items, track_keys};
 use std::alloc::Global;
 
 /// An outlet of an instance, the fragment that its rows are made of, the scope round them, and the scopes outside what the slots in them are given.
@@ -47,7 +53,7 @@ pub(crate) struct Spot<'a> {
 }
 
 /// The scope of the row at a place is destroyed.
-#[tactic(auto, using(crate::proofs::RowsTaken::row_at, crate::proofs::RowsTaken::no_row_at))]
+#[tactic(auto, using(ng_rows::proofs::RowAt::row_at, ng_rows::proofs::RowAt::no_row_at))]
 fn end_row(
     works: &mut Works,
     alloc: Global,
@@ -90,7 +96,7 @@ fn end_rows(
 }
 
 /// The row at a place is taken out.
-#[tactic(auto, using(crate::proofs::RowsTaken::row_at, crate::proofs::RowsTaken::no_row_at))]
+#[tactic(auto, using(ng_rows::proofs::RowAt::row_at, ng_rows::proofs::RowAt::no_row_at))]
 fn take_row(works: &mut Works, spot: &Spot<'_>, bodies: &[Body], i: u32) -> Result<(), Memory>
     requires whole { IsWhole works.old }
     requires row { AreRowsAt spot.now.holder.now spot.now.outlet (body_at (slice_get (map body_of bodies.now) i)) (state_of works.old).instances }

@@ -1,5 +1,5 @@
 -- What holds of files that are accepted.
-use Rattle.std.proofs.Common.{◌≡◌, ℕ, List, false, subst}
+use Rattle.std.proofs.Common.{ℕ, List, false}
 use Rattle.std.specs.Prelude.{Result, Ok, Err, IfOk}
 use Rattle.ng_base.specs.Meets.{◌>>=◌}
 use Rattle.ng_app.specs.App.{Facts, facts_of}
@@ -38,7 +38,3 @@ sound i =
     any (refused_as Application (facts_of i.application)) (λ facts. of_template i.script facts source) HasSound (λ facts.
     any (refused_as OfTemplate (compiled source facts.definitions false)) (λ template. of_script i.script facts template) HasSound (λ template.
     after (refused_as OfScript (script_of i.script)) (λ commands. Ok (record { facts = facts; template = template; commands = commands })) AreSound HasSound (refused OfScript (script_of i.script) AreSound (commands_sound i.script)) (λ commands h. h))))
-
--- the commands are sound
-pub accepted_sound : (i : Inputs) (a : Accepted) → accepted i ≡ Ok a → AreSound a.commands
-accepted_sound i a e = subst (λ (r : Result Accepted Refusal). IfOk r HasSound) e (sound i)

@@ -1,7 +1,7 @@
 -- Files that are fetched in their order.
 use Rattle.std.proofs.Common.{◌≡◌, ◌<◌, ◌≤◌, ◌+◌, ℕ, List, [], ◌∷◌, ◌++◌, map, drop, get_or, length, refl, ap, sym, ◌∙◌, subst, Option, Some, None, arith, inl, inr, length-append}
 use Rattle.std.specs.Prelude.{◌⊎◌}
-use Rattle.std.proofs.lemmas.List.{at_drop_more, drop_all}
+use Rattle.std.proofs.lemmas.List.{at_drop_more}
 use Rattle.ng_base.specs.Outside.{longest}
 use Rattle.ng_inputs.specs.Files.{File, Inputs, with_file, Telling, Got, failed, too_long, bytes, Brings, Fetched, brought, unread, overlong, FetchedThen, Fetches, Tells, FetchFailed, MayBeLong, MayBeShort, LongFile, HasLong}
 use Rattle.ng_inputs.specs.declared.files.Role.{Role}
@@ -29,10 +29,6 @@ module _ {X : Type 0} (seen : X → File) (told : Telling) (xs : List X) (k : �
   -- a file that is too long
   pub ran_over : (i : Inputs) (n : ℕ) (before now : List (List ℕ)) → Brings (told (seen x).name) (too_long n) → now ≡ before → Fetches told i (map seen (drop k xs)) before now (overlong (seen x).role n)
   ran_over i n before now h e = here i before now (overlong (seen x).role n) (too_long n, h, (e, refl))
-
--- all files came
-pub all_came : {X : Type 0} (seen : X → File) (told : Telling) (xs : List X) (k : ℕ) (i : Inputs) (before now : List (List ℕ)) → length xs ≤ k → now ≡ before → Fetches told i (map seen (drop k xs)) before now (brought i)
-all_came seen told xs k i before now l e = subst (λ zs. Fetches told i (map seen zs) before now (brought i)) (sym (drop_all k xs l)) (e, refl)
 
 -- ---- what the fetches bring
 

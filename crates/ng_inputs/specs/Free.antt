@@ -4,9 +4,9 @@ use Rattle.ng_base.specs.declared.fault.Memory.{Memory}
 use Rattle.ng_tags.specs.declared.fault.HtmlKind.{HtmlKind}
 use Rattle.ng_tags.specs.declared.fault.HtmlKind.TheVariants as html
 use Rattle.ng_html.specs.Free.{is_free}
-use Rattle.ng_app.specs.declared.fault.AppKind.{AppKind}
-use Rattle.ng_app.specs.declared.fault.AppKind.TheVariants as app
-use Rattle.ng_app.specs.Free.{is_app_want}
+use Rattle.ng_entries.specs.declared.fault.AppKind.{AppKind}
+use Rattle.ng_entries.specs.declared.fault.AppKind.TheVariants as app
+use Rattle.ng_entries.specs.Free.{is_app_want}
 use Rattle.ng_script.specs.declared.fault.ScriptKind.{ScriptKind}
 use Rattle.ng_script.specs.declared.fault.ScriptKind.TheVariants as commands
 use Rattle.ng_script.specs.Free as script

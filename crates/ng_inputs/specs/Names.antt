@@ -2,10 +2,10 @@
 use Rattle.std.specs.Prelude.{ℕ, List, codes}
 use Rattle.ng_tags.specs.declared.fault.HtmlKind.{HtmlKind}
 use Rattle.ng_tags.specs.declared.fault.HtmlKind.TheVariants as html
-use Rattle.ng_app.specs.declared.fault.Member.{Member}
-use Rattle.ng_app.specs.declared.fault.Member.TheVariants as the
-use Rattle.ng_app.specs.declared.fault.AppKind.{AppKind}
-use Rattle.ng_app.specs.declared.fault.AppKind.TheVariants as app
+use Rattle.ng_entries.specs.declared.fault.Member.{Member}
+use Rattle.ng_entries.specs.declared.fault.Member.TheVariants as the
+use Rattle.ng_entries.specs.declared.fault.AppKind.{AppKind}
+use Rattle.ng_entries.specs.declared.fault.AppKind.TheVariants as app
 use Rattle.ng_script.specs.declared.fault.ScriptKind.{ScriptKind}
 use Rattle.ng_script.specs.declared.fault.ScriptKind.TheVariants as script
 use Rattle.ng_directives.specs.declared.fault.TplKind.{TplKind}

@@ -5,8 +5,8 @@ ghost use Rattle.ng_inputs.specs.Names.{html_name, tpl_name, member_name, app_na
 ghost use Rattle.ng_inputs.specs.Refusals.{template_text, refusal_text};
 
 use crate::refusal::Refusal;
-use ng_app::{AppFault, AppKind, Member};
 use ng_directives::fault::TplKind;
+use ng_entries::{AppFault, AppKind, Member};
 use ng_html::fault::HtmlKind;
 use ng_script::{ScriptFault, ScriptKind};
 use std::alloc::{AllocError, Global};

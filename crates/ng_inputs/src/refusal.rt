@@ -10,9 +10,10 @@ ghost use Rattle.ng_inputs.specs.declared.refusal.Refusal.TheVariants as refusal
 
 use crate::files::Inputs;
 use crate::scripts::read_commands;
-use ng_app::{App, AppFault, AppKind};
+use ng_app::App;
 use ng_base::fault::Memory;
 use ng_directives::fault::{TplFault, TplKind};
+use ng_entries::{AppFault, AppKind};
 use ng_html::fault::{HtmlFault, HtmlKind};
 use ng_html::reading::read;
 use ng_parts::tpl::Tpl;

@@ -5,14 +5,14 @@ use Rattle.ng_base.specs.declared.path.Key.{Key}
 use Rattle.ng_behaviour.specs.Scopes.{object_at}
 use Rattle.ng_drawing.specs.Template.{Site}
 use Rattle.ng_drawing.specs.declared.kind.SiteKind.{SiteKind}
-use Rattle.ng_link.specs.Bindings.{Bound}
-use Rattle.ng_link.specs.Instances.{key_in}
-use Rattle.ng_link.specs.Registering.{way_of}
-use Rattle.ng_link.specs.Rows.{kind_with}
-use Rattle.ng_page.specs.Settled.{WatchesAt, site_keys, watching_at, AreWatched, leads_in}
+use Rattle.ng_instances.specs.Bindings.{Bound}
+use Rattle.ng_instances.specs.Instances.{key_in}
+use Rattle.ng_instances.specs.Registering.{way_of}
+use Rattle.ng_instances.specs.Rows.{kind_with}
+use Rattle.ng_commands.specs.Settled.{WatchesAt, site_keys, watching_at, AreWatched, leads_in}
 use Rattle.ng_page.proofs.Agreeing.{bindings_agree}
 use Rattle.ng_page.proofs.Rendering.{key_led}
-use Rattle.ng_page.proofs.Watched.{number_there}
+use Rattle.ng_commands.proofs.Watched.{number_there}
 use Rattle.ng_watch.specs.Now.{value_now}
 use Rattle.ng_watch.specs.Seen.{Watching}
 use Rattle.ng_watch.specs.Table.{Table}

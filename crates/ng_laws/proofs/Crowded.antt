@@ -18,35 +18,37 @@ use Rattle.ng_dom.specs.Printed.{nth_of, went}
 use Rattle.ng_drawing.specs.Instance.{shown as drawn}
 use Rattle.ng_drawing.specs.Nodes.{forest_count, nodes, node_limit}
 use Rattle.ng_drawing.specs.Template.{Fragment, Parts, Template}
-use Rattle.ng_fire.proofs.Rooms.{room_found}
-use Rattle.ng_fire.specs.Links.{Linking, begins_linking, ended_link, first_of, given_up, steps_linked}
-use Rattle.ng_link.specs.Calls.{blank, at_top}
-use Rattle.ng_link.specs.Linking.{fault_in, steps, steps_within}
+use Rattle.ng_steps.proofs.Rooms.{room_found}
+use Rattle.ng_steps.specs.Links.{Linking, begins_linking, ended_link, first_of, given_up, steps_linked}
+use Rattle.ng_instances.specs.Changing.{at_top}
+use Rattle.ng_link.specs.Calls.{blank}
+use Rattle.ng_build.specs.Linking.{fault_in, steps, steps_within}
 use Rattle.ng_link.specs.Events.{named}
-use Rattle.ng_link.specs.Instances.{Instances, stands_at}
-use Rattle.ng_link.specs.Shape.{linked}
+use Rattle.ng_instances.specs.Instances.{Instances, stands_at}
+use Rattle.ng_build.specs.Shape.{linked}
 use Rattle.ng_link.specs.State.{State, looks_in, instance_at, live_nodes, shown}
 use Rattle.ng_markup.specs.Forest.{no_nodes}
 use Rattle.ng_page.specs.Answered.{DigestsWhere}
-use Rattle.ng_page.specs.Commands.{Asked, is_idle, begun, asked_run}
+use Rattle.ng_commands.specs.Commands.{Asked, is_idle, begun, asked_run}
 use Rattle.ng_page.specs.Opening.{prepared, linked_by, linked_from, opening, page_origin, templates_for}
 use Rattle.ng_page.specs.Steps.{Outcome, Ends}
 use Rattle.ng_page.specs.Targets.{element_name, target_in}
 use Rattle.ng_page.proofs.DigestsStay.{digest_bare}
 use Rattle.ng_page.proofs.Filled.{both_none}
 use Rattle.ng_page.proofs.LinksStay.{given_up_sites, steps_instances}
-use Rattle.ng_page.proofs.Sites.{SitesStay}
-use Rattle.ng_page.proofs.StepsStay.{followed_sites, program_stays, asked_sites}
+use Rattle.ng_commands.proofs.Sites.{SitesStay}
+use Rattle.ng_commands.proofs.StepsStay.{followed_sites, program_stays, asked_sites}
 use Rattle.ng_script.specs.Acts.{Act, Entry}
 use Rattle.ng_inputs.specs.Refusals.{Accepted}
 use Rattle.ng_run.specs.Aims.{asked_of}
 use Rattle.ng_run.specs.Happenings.{Fired, fired_by, DoesEvent}
-use Rattle.ng_run.specs.Lines.{Digest, header}
+use Rattle.ng_printing.specs.Lines.{Digest, header}
 use Rattle.ng_run.specs.Session.{Reply, all_well, steps_status, whole, Runs, SessionOf}
-use Rattle.ng_run.specs.Steps.{Left, Step, is_well, DoesUnlessIdle, DoesAsked, DoesAct, Continues, OpensPage}
+use Rattle.ng_printing.specs.Left.{Left, Step, is_well}
+use Rattle.ng_run.specs.Steps.{DoesUnlessIdle, DoesAsked, DoesAct, Continues, OpensPage}
 use Rattle.ng_compose.specs.Kept.{Named, fragments_in}
 use Rattle.ng_laws.specs.Sessions.{CrowdedPageIsEmpty, page_fragment}
-use Rattle.ng_fire.specs.Runs.{program_run}
+use Rattle.ng_changes.specs.Runs.{program_run}
 
 -- ---- the linking
 

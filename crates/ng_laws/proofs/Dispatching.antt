@@ -1,13 +1,14 @@
 -- A dispatch of an event comes to an end: each handler's digest does, and no handler adds to the way.
 use Rattle.std.proofs.Common.{◌≡◌, ℕ, Bool, true, false, List, [], ◌∷◌, ◌++◌, Option, Some, None, refl}
 use Rattle.ng_behaviour.specs.Scopes.{live_at}
-use Rattle.ng_fire.specs.Runs.{followed}
+use Rattle.ng_changes.specs.Runs.{followed}
 use Rattle.ng_language.specs.Trees.{Trees}
 use Rattle.ng_link.specs.Calls.{left_at}
-use Rattle.ng_link.specs.Controls.{ControlHere}
+use Rattle.ng_build.specs.Controls.{ControlHere}
 use Rattle.ng_link.specs.Events.{handlers_at, control_at, scope_of}
 use Rattle.ng_link.specs.State.{State}
-use Rattle.ng_page.specs.Dispatch.{Happening, Event, unmade, awaited, made, refused, Going, Told, way, has_turn, ready, handling_run, rested, handled, event_then, MayTakeTurn, Handles, has_touch, touch_run, touched, touched_then, MayTouch, HandlesAt, is_stopped, Unless, Bubbles, before, Dispatches}
+use Rattle.ng_commands.specs.Handling.{Happening, Event, unmade, awaited, made, refused, Going, way, has_turn, ready, handling_run, rested, handled, event_then, has_touch, touch_run, touched, touched_then}
+use Rattle.ng_page.specs.Dispatch.{Told, MayTakeTurn, Handles, MayTouch, HandlesAt, is_stopped, Unless, Bubbles, before, Dispatches}
 use Rattle.ng_fire.proofs.Ordered.{IsOrdered, either, left_ordered, followed_ordered}
 use Rattle.ng_laws.proofs.StepEnds.{StepEnds, step_ends}
 

@@ -2,7 +2,7 @@
 use Rattle.std.proofs.Common.{◌≡◌, ◌∙◌, ◌+◌, ◌-◌, ◌<◌, ◌≤◌, ℕ, zero, suc, Bool, true, false, cond, not, List, [], ◌∷◌, ◌++◌, length, map, slice_get, Option, None, Some, Result, Ok, Err, refl, ap, sym, subst, arith, if◌then◌else◌}
 use Rattle.std.proofs.lemmas.Bool.{and_parts, eqb-true}
 use Rattle.std.specs.List.{AllByRecursion, filter}
-use Rattle.std.specs.Prelude.{◌&&◌, ◌==◌, nat_lt}
+use Rattle.std.specs.Prelude.{◌==◌, nat_lt}
 use Rattle.ng_base.specs.declared.fault.Fault.{Fault}
 use Rattle.ng_base.specs.declared.fault.Fault.TheVariants.{Depth, StoreFull}
 use Rattle.ng_behaviour.specs.Scopes.{IsScopeTree, Scope, child_path, object_at, path_at, with_child}
@@ -22,31 +22,35 @@ use Rattle.ng_drawing.specs.declared.origin.Origin.{Origin}
 use Rattle.ng_fire.proofs.KeptRows.{at_row, gone_count, stands}
 use Rattle.ng_fire.proofs.Once.{sum_at}
 use Rattle.ng_fire.proofs.RowsStay.{inside_other, others_come, others_same, others_then, rest_more, rest_none, row_rest}
-use Rattle.ng_fire.proofs.Served.{all_at}
-use Rattle.ng_fire.specs.Blocks.{Firing, body_linked, body_made, body_on, discarded, ended, faulted_with, filled, linked_by, linked_then, object_limit, told_on}
-use Rattle.ng_fire.specs.Links.{Linking, begins_linking, ended_link, first_of, given_up, placed, rested_on_all, steps_linked}
-use Rattle.ng_fire.specs.Repeats.{Filled, Row, all_ended, as_fault, bodies_at, body_at, by_items, by_keys, by_plan, filled_to, items_made, kept_rows, key_of, keys_of, role_for, row_fired, row_names, rows_arranged, rows_at, rows_changed, rows_fired, rows_from, rows_taken, with_state}
-use Rattle.ng_fire.specs.Runs.{destroy_run}
+use Rattle.ng_changes.proofs.AllAt.{all_at}
+use Rattle.ng_changes.specs.ChildRun.{object_limit}
+use Rattle.ng_rows.specs.Chosen.{told_on}
+use Rattle.ng_fire.specs.Blocks.{Firing, body_linked, body_made, body_on, discarded, ended, faulted_with, filled, linked_by, linked_then}
+use Rattle.ng_steps.specs.Links.{Linking, begins_linking, ended_link, first_of, given_up, placed, rested_on_all, steps_linked}
+use Rattle.ng_rows.specs.RepeatRows.{Row, as_fault, items_made, kept_rows, key_of, keys_of, role_for, row_names, rows_from}
+use Rattle.ng_fire.specs.Repeats.{Filled, all_ended, bodies_at, body_at, by_items, by_keys, by_plan, filled_to, row_fired, rows_arranged, rows_at, rows_changed, rows_fired, rows_taken, with_state}
+use Rattle.ng_changes.specs.Runs.{destroy_run}
 use Rattle.ng_fire.specs.Serving.{OthersStay, RestStays}
-use Rattle.ng_fire.specs.Tracking.{Item, track_keys}
+use Rattle.ng_rows.specs.Tracking.{Item, track_keys}
 use Rattle.ng_link.proofs.Lookups.{changed_all, changed_other, inserted_all, kept_all}
-use Rattle.ng_link.proofs.Paths.{same_path}
-use Rattle.ng_link.specs.Calls.{Place, in_outlet, linked_on, placed_on, with_core}
+use Rattle.ng_link.proofs.PathsBelow.{same_path}
+use Rattle.ng_instances.specs.Changing.{Place, in_outlet}
+use Rattle.ng_link.specs.Calls.{linked_on, placed_on, with_core}
 use Rattle.ng_link.specs.Events.{scope_in}
-use Rattle.ng_link.specs.Instances.{Body, Instances, Linked, bodies_arranged, body_added, body_gone, is_path, linked_at, outlets_changed, unlinked, with_instance}
-use Rattle.ng_link.specs.Linking.{fault_in, steps, steps_within}
+use Rattle.ng_instances.specs.Instances.{Body, Instances, Linked, bodies_arranged, body_added, body_gone, is_path, linked_at, outlets_changed, unlinked, with_instance}
+use Rattle.ng_build.specs.Linking.{fault_in, steps, steps_within}
 use Rattle.ng_link.specs.Standing.{IsBelow, body_count}
 use Rattle.ng_link.specs.State.{State, live_nodes}
 use Rattle.ng_members.specs.Leaves.{Local}
-use Rattle.ng_page.proofs.EventsStay.{part, Stays, stays_trans}
+use Rattle.ng_commands.proofs.EventsStay.{part, Stays, stays_trans}
 use Rattle.ng_page.proofs.Filled.{both_none, fault_sites}
 use Rattle.ng_page.proofs.LinksStay.{all_rested_sites, discarded_sites, given_up_sites, scope_made, steps_sites, with_scope_made}
 use Rattle.ng_page.proofs.RepeatsStay.{items_stay, told_stay}
-use Rattle.ng_page.proofs.ScopesStay.{ScopesStay, child_there}
-use Rattle.ng_page.proofs.Sites.{SitesStay, core_sites, sites_refl, sites_trans}
-use Rattle.ng_page.proofs.StepsStay.{destroyed_stays, followed_sites}
+use Rattle.ng_commands.proofs.ScopesStay.{ScopesStay, child_there}
+use Rattle.ng_commands.proofs.Sites.{SitesStay, core_sites, sites_refl, sites_trans}
+use Rattle.ng_commands.proofs.StepsStay.{destroyed_stays, followed_sites}
 use Rattle.ng_page.proofs.Under.{child_path_there, path_apart}
-use Rattle.ng_page.proofs.Watched.{all_map, all_more}
+use Rattle.ng_commands.proofs.Watched.{all_map, all_more}
 use Rattle.ng_compose.specs.Kept.{fragments_in}
 use Rattle.ng_watch.specs.Keys.{begins}
 use Rattle.ng_laws.specs.KeptRows.{AreRowsOf, IsOnScope, IsRowIn, KeptRowsStay, StandsOnScopes, is_called, keys_for}

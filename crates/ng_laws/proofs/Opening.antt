@@ -11,8 +11,9 @@ use Rattle.ng_digest.specs.declared.rounds.DigestFault.{DigestFault}
 use Rattle.ng_link.specs.Events.{named}
 use Rattle.ng_link.specs.State.{State, rendering}
 use Rattle.ng_page.specs.Answered.{ready_place}
-use Rattle.ng_page.specs.Commands.{Asked, is_idle, begun, asked_run}
-use Rattle.ng_page.specs.Dispatch.{Happening, Told}
+use Rattle.ng_commands.specs.Commands.{Asked, is_idle, begun, asked_run}
+use Rattle.ng_commands.specs.Handling.{Happening}
+use Rattle.ng_page.specs.Dispatch.{Told}
 use Rattle.ng_page.specs.Opening.{opening}
 use Rattle.ng_page.specs.PageMachine as page
 use Rattle.ng_page.specs.PageMachine.{page_machine, readied}
@@ -22,11 +23,13 @@ use Rattle.ng_script.specs.Acts.{Act, Entry}
 use Rattle.ng_inputs.specs.Refusals.{Accepted, accepted}
 use Rattle.ng_inputs.specs.declared.refusal.Refusal.{Refusal}
 use Rattle.ng_run.specs.Aims.{asked_of}
-use Rattle.ng_run.specs.Happenings.{Fired, fired_by, event_step, left_after, HasTold, DoesEvent}
-use Rattle.ng_run.specs.Lines.{header}
-use Rattle.ng_run.specs.ReplyOf.{told_lines}
+use Rattle.ng_printing.specs.EventStep.{event_step}
+use Rattle.ng_run.specs.Happenings.{Fired, fired_by, left_after, HasTold, DoesEvent}
+use Rattle.ng_printing.specs.Lines.{header, told_lines}
 use Rattle.ng_run.specs.Session.{Reply, refused, done, whole, Runs, SessionOf}
-use Rattle.ng_run.specs.Steps.{Left, Step, step_of, left_by, idle_step, aimless_step, same_page, IsTrace, DoesUnlessIdle, DoesAsked, DoesAct, Continues}
+use Rattle.ng_printing.specs.Left.{Left, Step, idle_step, aimless_step, same_page}
+use Rattle.ng_printing.specs.StepLines.{step_of}
+use Rattle.ng_run.specs.Steps.{left_by, IsTrace, DoesUnlessIdle, DoesAsked, DoesAct, Continues}
 use Rattle.ng_run.proofs.Performing.{told_is}
 use Rattle.ng_laws.specs.Sessions.{DigestEnds, SessionIsThere}
 use Rattle.ng_laws.proofs.Ends.{ShortEnds}

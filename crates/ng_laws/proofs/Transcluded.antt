@@ -13,9 +13,9 @@ use Rattle.ng_behaviour.specs.ScopeObjects.{id_name, parent_name, root_name, of_
 use Rattle.ng_behaviour.specs.Scopes.{Scope, object_at, with_child}
 use Rattle.ng_core.specs.State as act
 use Rattle.ng_core.specs.State.{Run, with_scopes, with_objects}
-use Rattle.ng_fire.specs.Links.{object_limit}
+use Rattle.ng_changes.specs.ScopeRuns.{object_limit}
 use Rattle.ng_language.specs.Objects.{proto_of, update_at, with_property, set_name, new_object}
-use Rattle.ng_link.specs.Registering.{scope_in_ground, outside_in_ground}
+use Rattle.ng_instances.specs.Registering.{scope_in_ground, outside_in_ground}
 use Rattle.ng_store.proofs.Looks.{looks_up}
 use Rattle.ng_laws.specs.Bindings.{ReadsFrom, TranscludedReadsOutside}
 

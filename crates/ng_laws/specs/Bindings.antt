@@ -8,16 +8,16 @@ use Rattle.ng_behaviour.specs.Scopes.{object_at}
 use Rattle.ng_core.specs.State as act
 use Rattle.ng_drawing.specs.Template.{Outside, Site}
 use Rattle.ng_drawing.specs.declared.kind.SiteKind.TheVariants as sites
-use Rattle.ng_fire.specs.Links.{opening_run}
+use Rattle.ng_steps.specs.Links.{opening_run}
 use Rattle.ng_language.specs.Objects.{proto_of, look, AreObjects}
 use Rattle.ng_language.specs.Trees.{Trees}
-use Rattle.ng_link.specs.Bindings.{bound_in_table, bound_both}
-use Rattle.ng_link.specs.Instances.{Linked, linked_at, key_in}
-use Rattle.ng_link.specs.Linking.{a_slot}
-use Rattle.ng_link.specs.Registering.{Ground, outside_in_ground}
+use Rattle.ng_instances.specs.Bindings.{bound_in_table, bound_both}
+use Rattle.ng_instances.specs.Instances.{Linked, linked_at, key_in}
+use Rattle.ng_build.specs.Linking.{a_slot}
+use Rattle.ng_instances.specs.Registering.{Ground, outside_in_ground}
 use Rattle.ng_link.specs.Standing.{AreInner}
 use Rattle.ng_link.specs.State.{State}
-use Rattle.ng_page.specs.Settled.{IsSettled, IsWatched, watching_at}
+use Rattle.ng_commands.specs.Settled.{IsSettled, IsWatched, watching_at}
 use Rattle.ng_value.specs.Taken.{taken}
 use Rattle.ng_watch.specs.Now.{value_now, two_way_kind}
 use Rattle.ng_watch.specs.Seen.{Watcher}

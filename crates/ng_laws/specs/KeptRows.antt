@@ -12,9 +12,10 @@ use Rattle.ng_drawing.specs.Roles.{entries_in}
 use Rattle.ng_drawing.specs.Template.{Repeated}
 use Rattle.ng_drawing.specs.declared.origin.Origin.{Origin}
 use Rattle.ng_fire.specs.Blocks.{Firing}
-use Rattle.ng_fire.specs.Repeats.{items_made, key_of, repeat_fired, rows_at}
-use Rattle.ng_fire.specs.Tracking.{Item, track_keys}
-use Rattle.ng_link.specs.Instances.{Body, Linked, linked_at}
+use Rattle.ng_rows.specs.RepeatRows.{items_made, key_of}
+use Rattle.ng_fire.specs.Repeats.{repeat_fired, rows_at}
+use Rattle.ng_rows.specs.Tracking.{Item, track_keys}
+use Rattle.ng_instances.specs.Instances.{Body, Linked, linked_at}
 use Rattle.ng_link.specs.Standing.{body_count}
 use Rattle.ng_link.specs.State.{State}
 

@@ -15,10 +15,10 @@ use Rattle.ng_dom.proofs.Focus.{groups_changed}
 use Rattle.ng_dom.proofs.Homes.{live_names_are_given, bodies_are_homed}
 use Rattle.ng_dom.proofs.Keeping.{holds_inserted}
 use Rattle.ng_dom.proofs.Removing.{among-left, among-right}
-use Rattle.ng_link.specs.Building.{unset, Builds}
-use Rattle.ng_link.specs.Instances.{Linked, Instances, keys_of}
-use Rattle.ng_link.specs.Shape.{shape, unfilled}
-use Rattle.ng_link.specs.Sources.{sources}
+use Rattle.ng_build.specs.Building.{unset, Builds}
+use Rattle.ng_instances.specs.Instances.{Linked, Instances, keys_of}
+use Rattle.ng_build.specs.Shape.{shape, unfilled}
+use Rattle.ng_build.specs.Sources.{sources}
 use Rattle.ng_link.specs.Standing.{IsBuilt}
 use Rattle.ng_link.proofs.Agree.{all_agree}
 use Rattle.ng_link.proofs.Blocks.{BlockAmong, IsAnchor, anchor_at, block_named}

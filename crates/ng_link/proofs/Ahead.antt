@@ -8,8 +8,9 @@ use Rattle.std.specs.declared.cmp.Ordering.{Ordering}
 use Rattle.std.specs.declared.cmp.Ordering.TheVariants.{Less, Equal, Greater}
 use Rattle.std.proofs.lemmas.Map.Keys.{sorted_head, sorted_tail}
 use Rattle.ng_base.specs.Order.{path_cmp, path_cmp_total}
-use Rattle.ng_link.specs.Instances.{Linked, Instances, is_path, linked_at, read_bodies, read, read_after}
-use Rattle.ng_link.proofs.Paths.{path_is, is_that, other_path}
+use Rattle.ng_instances.specs.Instances.{Linked, Instances, is_path, linked_at, read_bodies, read, read_after}
+use Rattle.ng_instances.proofs.PathIs.{path_is}
+use Rattle.ng_link.proofs.PathsBelow.{is_that, other_path}
 use Rattle.ng_link.proofs.ReadOff.{same_held, after_first, read_here, read_past, read_none}
 
 -- an entry on a path or after it, and one after it

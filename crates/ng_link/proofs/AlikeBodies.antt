@@ -3,10 +3,10 @@ use Rattle.std.proofs.Common.{◌≡◌, ◌<◌, ◌+◌, ℕ, suc, Bool, true,
 use Rattle.std.specs.Prelude.{◌&&◌}
 use Rattle.std.proofs.lemmas.List.{take_more, map_push}
 use Rattle.ng_link.specs.Arranging.{are_alike, AreAt, IsPlaceOf}
-use Rattle.ng_link.specs.Instances.{Body, is_path}
-use Rattle.ng_link.specs.State.{body_of}
-use Rattle.ng_link.specs.declared.works.Body as code
-use Rattle.ng_link.proofs.Loops.{next_seen}
+use Rattle.ng_instances.specs.Instances.{Body, is_path}
+use Rattle.ng_instances.specs.InstanceOf.{body_of}
+use Rattle.ng_instances.specs.declared.instances.Body as code
+use Rattle.ng_build.proofs.Loops.{next_seen}
 
 -- as many more on one side
 pub alike_longer : (bs cs : List Body) → (length bs ≡ length cs → ⊥) → are_alike bs cs ≡ false

@@ -8,9 +8,10 @@ use Rattle.ng_dom.specs.Editing.{group_at, picked}
 use Rattle.ng_dom.specs.Nodes.{NamedForest, group_then}
 use Rattle.ng_drawing.specs.Template.{Parts}
 use Rattle.ng_link.specs.Arranging.{are_alike, AreAt, Rearranges}
-use Rattle.ng_link.specs.Instances.{Body, OutletState, is_path, read_bodies, bodies_from, groups_from, bodies_arranged}
+use Rattle.ng_instances.specs.Instances.{Body, OutletState, is_path, read_bodies, bodies_from, groups_from, bodies_arranged}
 use Rattle.ng_link.specs.Standing.{IsIn, AreIn, AreUndrawn, body_count, held_count}
-use Rattle.ng_link.proofs.Paths.{path_is, same_path}
+use Rattle.ng_instances.proofs.PathIs.{path_is}
+use Rattle.ng_link.proofs.PathsBelow.{same_path}
 use Rattle.ng_link.proofs.ReadOff.{in_held}
 
 -- the bodies at some places, in this order

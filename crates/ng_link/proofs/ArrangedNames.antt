@@ -7,8 +7,8 @@ use Rattle.ng_dom.specs.Drawing.{Stands, Bodies, none_stand, stand_names, names_
 use Rattle.ng_drawing.specs.Nodes.{part_nodes}
 use Rattle.ng_drawing.specs.Template.{Part, Contents, Parts, text_part, comment_part, element_part, anchor_part, children, bound, no_parts, part_then}
 use Rattle.ng_link.specs.Arranging.{Rearranges}
-use Rattle.ng_link.specs.Instances.{Body, OutletState, Linked, Instances, is_path, linked_at, keys_of, read_bodies, bodies_from, groups_from, stands_join, stands_at, with_outlets, outlets_changed, bodies_arranged}
-use Rattle.ng_link.specs.Shape.{part_shape, content_shape, shape}
+use Rattle.ng_instances.specs.Instances.{Body, OutletState, Linked, Instances, is_path, linked_at, keys_of, read_bodies, bodies_from, groups_from, stands_join, stands_at, with_outlets, outlets_changed, bodies_arranged}
+use Rattle.ng_build.specs.Shape.{part_shape, content_shape, shape}
 use Rattle.ng_link.proofs.Arranged.{arranged_group, stood_group, arranged_others}
 use Rattle.ng_link.proofs.ReadOff.{read_here, read_past}
 use Rattle.ng_link.proofs.Sums.{sum_of, same_sums, sums_alike}

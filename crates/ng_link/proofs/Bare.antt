@@ -6,10 +6,11 @@ use Rattle.ng_dom.specs.Document.{rooms, top}
 use Rattle.ng_dom.specs.Drawing.{Look, none_stand}
 use Rattle.ng_dom.specs.declared.dom.Dom.{Dom}
 use Rattle.ng_watch.specs.Table.{Table, watchers_of}
-use Rattle.ng_link.specs.Instances.{Instances, Inners}
+use Rattle.ng_instances.specs.Instances.{Instances, Inners}
 use Rattle.ng_link.specs.Standing.{IsBuilt, AreInner, WatchersStand, Standing}
-use Rattle.ng_link.specs.State.{instances_of, looks_in, places_of, spot_in, state_of, templates_of}
-use Rattle.ng_link.specs.declared.works.Linked as code
+use Rattle.ng_instances.specs.InstanceOf.{instances_of, spot_in}
+use Rattle.ng_link.specs.State.{looks_in, places_of, state_of, templates_of}
+use Rattle.ng_instances.specs.declared.instances.Linked as code
 use Rattle.ng_link.specs.declared.works.Works.{Works}
 use Rattle.ng_link.proofs.Grown.{no_some}
 use Rattle.ng_link.proofs.Names.{distinct_up}

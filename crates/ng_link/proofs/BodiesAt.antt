@@ -8,10 +8,11 @@ use Rattle.ng_dom.specs.Editing.{group_inserted, group_removed}
 use Rattle.ng_dom.specs.Lists.{put_at, list_at}
 use Rattle.ng_dom.specs.Nodes.{group_then, name_of, names_of, group_names}
 use Rattle.ng_dom.specs.Removal.{group_emptied}
-use Rattle.ng_link.specs.Instances.{Body, OutletState, is_path, read_bodies, bodies_from, groups_from, body_added, body_gone}
+use Rattle.ng_instances.specs.Instances.{Body, OutletState, is_path, read_bodies, bodies_from, groups_from, body_added, body_gone}
 use Rattle.ng_drawing.specs.Template.{Parts}
 use Rattle.ng_link.specs.Standing.{IsIn, AreIn, AreUndrawn, body_count, held_count}
-use Rattle.ng_link.proofs.Paths.{path_is, is_that}
+use Rattle.ng_instances.proofs.PathIs.{path_is}
+use Rattle.ng_link.proofs.PathsBelow.{is_that}
 
 -- a body is put before the i-th, or at the end where there are fewer; the i-th is taken out; nothing stands in the i-th any more
 abbrev pub bodies_put : ℕ → Stands → Bodies → Bodies

@@ -11,12 +11,13 @@ use Rattle.ng_base.specs.Order.{path_cmp}
 use Rattle.ng_dom.specs.Drawing.{Stands, Bodies, none_stand, body_then, at_block_all, at_block_bodies}
 use Rattle.ng_drawing.specs.Nodes.{nodes}
 use Rattle.ng_parts.specs.Numbering.{after_outlets}
-use Rattle.ng_link.specs.Instances.{OutletState, Linked, Instances, is_path, linked_at, keys_of, read_bodies, bodies_from, groups_from, stands_join, stands_at, with_outlets, outlets_changed}
+use Rattle.ng_instances.specs.Instances.{OutletState, Linked, Instances, is_path, linked_at, keys_of, read_bodies, bodies_from, groups_from, stands_join, stands_at, with_outlets, outlets_changed}
 use Rattle.ng_link.specs.Laws.{BodiesChanged}
-use Rattle.ng_link.specs.Shape.{anchors}
+use Rattle.ng_build.specs.Shape.{anchors}
 use Rattle.ng_link.specs.Standing.{IsBelow, AreIn, IsPlaced, Apart, AreApart}
 use Rattle.ng_link.proofs.AtBlocks.{IsOff, shape_off, Follow, shape_on, anchors_range, in_range, one_place, same_shape, within_bodies}
-use Rattle.ng_link.proofs.Paths.{path_is, below_other, not_after}
+use Rattle.ng_instances.proofs.PathIs.{path_is}
+use Rattle.ng_link.proofs.PathsBelow.{below_other, not_after}
 use Rattle.ng_link.proofs.ReadOff.{at_path, after_first, read_here, read_past, bodies_past, read_all}
 
 -- the anchor is none of an instance's nodes

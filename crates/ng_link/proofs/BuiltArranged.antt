@@ -17,8 +17,8 @@ use Rattle.ng_dom.proofs.Counting.{names_stand}
 use Rattle.ng_dom.proofs.Focus.{groups_changed}
 use Rattle.ng_dom.proofs.Homes.{bodies_are_homed, fewer_are_live}
 use Rattle.ng_link.specs.Arranging.{are_alike, AreAt, IsOrder, PicksBy, Rearranges}
-use Rattle.ng_link.specs.Instances.{Body, OutletState, Linked, Instances, is_path, linked_at, read_bodies, bodies_from, groups_from, stands_at, with_outlets, outlets_changed, bodies_arranged}
-use Rattle.ng_link.specs.Sources.{sources}
+use Rattle.ng_instances.specs.Instances.{Body, OutletState, Linked, Instances, is_path, linked_at, read_bodies, bodies_from, groups_from, stands_at, with_outlets, outlets_changed, bodies_arranged}
+use Rattle.ng_build.specs.Sources.{sources}
 use Rattle.ng_link.specs.Standing.{IsIn, held_count, IsPlaced, ArePlaced, AreApart, IsHeldIn, AreHeld, IsBuilt}
 use Rattle.ng_link.proofs.Arranged.{bodies_picked, show_picked, homed_picked, alike_told, picked_told, arranged_group, stood_group, arranged_others, arranged_anchors, arranged_undrawn, arranged_in, arranged_count, rearranged_in, outlet_in}
 use Rattle.ng_link.proofs.ArrangedNames.{as_often}
@@ -27,7 +27,7 @@ use Rattle.ng_link.proofs.BodiesAt.{top_names}
 use Rattle.ng_link.proofs.BodiesChanged.{bodies_changed}
 use Rattle.ng_link.proofs.Homed.{homed_more, all_stay}
 use Rattle.ng_link.proofs.Lookups.{changed_keys, changed_other, changed_here, changed_all, changed_apart}
-use Rattle.ng_link.proofs.Paths.{path_is}
+use Rattle.ng_instances.proofs.PathIs.{path_is}
 use Rattle.ng_link.proofs.ReadOff.{at_path}
 use Rattle.ng_link.proofs.Reached.{outlet_anchor, block_at}
 use Rattle.ng_link.proofs.Times.{times, same_among, same_distinct}

@@ -13,9 +13,9 @@ use Rattle.ng_dom.specs.declared.dom.Dom.{Dom}
 use Rattle.ng_drawing.specs.Nodes.{nodes}
 use Rattle.ng_drawing.specs.Roles.{Role}
 use Rattle.ng_watch.specs.Keys.{begins}
-use Rattle.ng_link.specs.Building.{unset, Builds}
-use Rattle.ng_link.specs.Instances.{Body, OutletState, Linked, Instances, linked_at, keys_of, read_bodies, groups_from, stands_join, stands_at, outlets_changed, body_added, with_instance}
-use Rattle.ng_link.specs.Shape.{unfilled}
+use Rattle.ng_build.specs.Building.{unset, Builds}
+use Rattle.ng_instances.specs.Instances.{Body, OutletState, Linked, Instances, linked_at, keys_of, read_bodies, groups_from, stands_join, stands_at, outlets_changed, body_added, with_instance}
+use Rattle.ng_build.specs.Shape.{unfilled}
 use Rattle.ng_link.specs.Standing.{IsBelow, IsPlaced, ArePlaced, Apart, AreApart, IsBuilt, body_count, held_count}
 use Rattle.ng_link.proofs.Added.{new_stands, added_holds, added_homed}
 use Rattle.ng_link.proofs.AtBlocks.{same_shape}
@@ -25,7 +25,7 @@ use Rattle.ng_link.proofs.BodiesChanged.{bodies_changed}
 use Rattle.ng_link.proofs.Grown.{all_weaker, come_holder, come_ordered, come_placed, come_apart, none_has, grown_ordered, grown_placed, grown_apart, grown_held}
 use Rattle.ng_link.proofs.Lookups.{inserted_here}
 use Rattle.ng_link.proofs.Names.{shape_names, up}
-use Rattle.ng_link.proofs.Paths.{other_path, below_longer}
+use Rattle.ng_link.proofs.PathsBelow.{other_path, below_longer}
 use Rattle.ng_link.proofs.ReadOff.{at_path, read_found, read_inserted}
 use Rattle.ng_link.proofs.Reached.{all_in, outlet_anchor, block_at}
 

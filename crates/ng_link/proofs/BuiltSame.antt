@@ -7,8 +7,8 @@ use Rattle.ng_dom.specs.Nodes.{NamedForest}
 use Rattle.ng_dom.specs.declared.dom.Dom.{Dom}
 use Rattle.ng_dom.proofs.Counting.{names_stand}
 use Rattle.ng_dom.proofs.Keeping.{holds_same}
-use Rattle.ng_link.specs.Instances.{Instances}
-use Rattle.ng_link.specs.Sources.{sources}
+use Rattle.ng_instances.specs.Instances.{Instances}
+use Rattle.ng_build.specs.Sources.{sources}
 use Rattle.ng_link.specs.Standing.{ArePlaced, IsBuilt}
 use Rattle.ng_link.proofs.Agree.{Agree, all_agree}
 use Rattle.ng_link.proofs.Held.{built_held}

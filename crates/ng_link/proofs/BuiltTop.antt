@@ -14,15 +14,15 @@ use Rattle.ng_dom.proofs.Counting.{names_stand}
 use Rattle.ng_dom.proofs.Homes.{live_names_are_given}
 use Rattle.ng_drawing.specs.Nodes.{nodes}
 use Rattle.ng_watch.specs.Keys.{begins}
-use Rattle.ng_link.specs.Building.{unset}
-use Rattle.ng_link.specs.Instances.{Linked, Instances, is_path, linked_at, keys_of, stands_join, stands_at, with_instance}
-use Rattle.ng_link.specs.Sources.{sources}
+use Rattle.ng_build.specs.Building.{unset}
+use Rattle.ng_instances.specs.Instances.{Linked, Instances, is_path, linked_at, keys_of, stands_join, stands_at, with_instance}
+use Rattle.ng_build.specs.Sources.{sources}
 use Rattle.ng_link.specs.Standing.{IsPlaced, IsHeldIn, IsBuilt, held_count}
 use Rattle.ng_link.proofs.Added.{new_stands}
 use Rattle.ng_link.proofs.BuiltMore.{AreBare, bare_count, bare_joined}
 use Rattle.ng_link.proofs.Homed.{older_live}
 use Rattle.ng_link.proofs.Names.{up, shape_names, up_among, distinct_up}
-use Rattle.ng_link.proofs.Paths.{path_is}
+use Rattle.ng_instances.proofs.PathIs.{path_is}
 use Rattle.ng_link.proofs.ReadOff.{read_here}
 use Rattle.ng_link.proofs.Sorted.{none_in_order, insert_sorted}
 

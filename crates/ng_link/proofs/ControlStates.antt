@@ -1,7 +1,7 @@
 -- The states of controls, where one changes or some begin, and what is shown then.
-use Rattle.std.proofs.Common.{◌≡◌, ◌+◌, ℕ, Bool, true, false, cond, List, [], ◌∷◌, Option, Some, None, refl, ap, ◌∙◌, sym, map}
+use Rattle.std.proofs.Common.{◌≡◌, ◌+◌, ℕ, Bool, true, false, cond, List, [], ◌∷◌, Option, Some, None, refl, ap, ◌∙◌, sym}
 use Rattle.std.specs.BTreeMap.{insert_entry, is_at}
-use Rattle.std.specs.Map.{lookup, set_value}
+use Rattle.std.specs.Map.{lookup}
 use Rattle.std.specs.Ordering.{nat_cmp, match_ordering}
 use Rattle.std.specs.Prelude.{option_map}
 use Rattle.std.specs.declared.cmp.Ordering.{Ordering}
@@ -16,11 +16,12 @@ use Rattle.ng_drawing.specs.Nodes.{part_nodes}
 use Rattle.ng_watch.specs.Keys.{key_cmp, is_key, begins}
 use Rattle.ng_watch.specs.Seen.{Watcher}
 use Rattle.ng_watch.specs.Table.{Table, with_kept}
-use Rattle.ng_link.specs.Controls.{ControlHere, Controlled, with_control, part_controlled, contents_controlled, controlled, controlled_at, Controls, state_under, controls_begun, control_changed}
-use Rattle.ng_link.specs.State.{Resting, kept_or, kept_in, look_of, looks_of, control_of, controlled_of}
-use Rattle.ng_link.specs.declared.works.ControlHere as code
-use Rattle.ng_link.proofs.Keys.{key_is, other_key}
-use Rattle.ng_link.proofs.Tables.{put-other, kept-other}
+use Rattle.ng_build.specs.Controls.{ControlHere, Controlled, with_control, part_controlled, contents_controlled, controlled, controlled_at, Controls, state_under, controls_begun, control_changed}
+use Rattle.ng_build.specs.HandledOf.{control_of, controlled_of}
+use Rattle.ng_link.specs.State.{Resting, kept_or, kept_in, look_of, looks_of}
+use Rattle.ng_build.specs.declared.controlled.ControlHere as code
+use Rattle.ng_build.proofs.Keys.{key_is, other_key}
+use Rattle.ng_build.proofs.Tables.{put-other, kept-other}
 
 -- where one changes, another stays
 pub changed-other : (f : ControlState → ControlState) (k q : Key) (cs : Controls) → (q ≡ k → ⊥) → state_under q (control_changed f k cs) ≡ state_under q cs
@@ -31,25 +32,6 @@ changed-other f k q (e ∷ es) ne = by_test (is_key k e.0) refl (changed-other f
         → state_under q (cond b ((e.0, f e.1) ∷ es) (e ∷ control_changed f k es)) ≡ cond (is_key q e.0) (Some e.1) (state_under q es)
     by_test true is more = let same : k ≡ e.0 = key_is k e.0 is in let apart : is_key q e.0 ≡ false = rw (← same) (other_key q k (λ g. ne (sym g))) in rw apart refl
     by_test false is more = ap (cond (is_key q e.0) (Some e.1)) more
-
--- where there is none of a key, nothing changes
-pub unchanged : (f : ControlState → ControlState) (k : Key) (cs : Controls) → state_under k cs ≡ None → control_changed f k cs ≡ cs
-unchanged f k [] none = refl
-unchanged f k (e ∷ es) none = by_test (is_key k e.0) refl (unchanged f k es)
-  where
-    by_test : (b : Bool) → is_key k e.0 ≡ b → (state_under k es ≡ None → control_changed f k es ≡ es) → cond b ((e.0, f e.1) ∷ es) (e ∷ control_changed f k es) ≡ e ∷ es
-    by_test true is more = let two : Some e.1 ≡ None = sym (ap (λ (b : Bool). cond b (Some e.1) (state_under k es)) is) ∙ none in absurd (cc)
-    by_test false is more = ap (λ (xs : Controls). e ∷ xs) (more (sym (ap (λ (b : Bool). cond b (Some e.1) (state_under k es)) is) ∙ none))
-
--- where there is one, the changed one is put in its place
-pub changed_set : (f : ControlState → ControlState) (k : Key) (cs : Controls) (old new : ControlState) → state_under k cs ≡ Some old → new ≡ f old → set_value (is_key k) cs new ≡ control_changed f k cs
-changed_set f k [] old new at made = refl
-changed_set f k (e ∷ es) old new at made = by_test (is_key k e.0) at (changed_set f k es old new)
-  where
-    by_test : (b : Bool) → cond b (Some e.1) (state_under k es) ≡ Some old → (state_under k es ≡ Some old → new ≡ f old → set_value (is_key k) es new ≡ control_changed f k es)
-        → cond b ((e.0, new) ∷ es) (e ∷ set_value (is_key k) es new) ≡ cond b ((e.0, f e.1) ∷ es) (e ∷ control_changed f k es)
-    by_test true here more = let one : e.1 ≡ old = cc in ap (λ (c : ControlState). (e.0, c) ∷ es) (made ∙ ap f (sym one))
-    by_test false here more = ap (λ (xs : Controls). e ∷ xs) (more here made)
 
 -- what is shown differs at the key of the control at most
 pub control_differs : (f : ControlState → ControlState) (k : Key) (t : Table) (r : Resting) (cs : Controls) → DifferAt k (looks_of t r cs) (looks_of t r (control_changed f k cs))
@@ -111,12 +93,3 @@ entered-seen n (e ∷ es) = by_test (is_at (nat_cmp n) e.0) (entered-seen n es)
         → option_map control_of (cond b (Some e.1) (lookup (is_at (nat_cmp n)) es)) ≡ cond b (Some (control_of e.1)) (controlled_at n (controlled_of es))
     by_test true more = refl
     by_test false more = more
-
--- those that begin
-abbrev pub begun_of : List code.ControlHere → Controls → Controls
-begun_of [] cs = cs
-begun_of (c ∷ rest) cs = begun_of rest (insert_entry key_cmp cs c.key (fresh c.kind))
-
-pub begun_values : (es : List (ℕ × code.ControlHere)) (cs : Controls) → begun_of (map (λ e. e.1) es) cs ≡ controls_begun (controlled_of es) cs
-begun_values [] cs = refl
-begun_values (e ∷ es) cs = begun_values es (insert_entry key_cmp cs e.1.key (fresh e.1.kind))

@@ -1,7 +1,7 @@
 -- The sites that get a number when parts are linked are those of the fragment, where all steps are done; from those of bindings nothing is drawn; and
 -- nodes that find room are few enough.
 use Rattle.std.proofs.Common.{◌≡◌, ◌≤◌, ◌<◌, ◌+◌, ℕ, zero, suc, Bool, true, false, cond, List, [], ◌∷◌, ◌++◌, Ok, Err, Result, Option, Some, None, refl, ap, ◌∙◌, sym, subst, map, length, arith, length-append, append_assoc}
-use Rattle.std.specs.Prelude.{◌&&◌, ◌-◌, ◌==◌, not, is_some, nat_lt, slice_get, slice_index_or, if◌then◌else◌}
+use Rattle.std.specs.Prelude.{◌&&◌, ◌==◌, not, is_some, nat_lt, slice_get, slice_index_or, if◌then◌else◌}
 use Rattle.std.specs.List.{flat_map, list_all}
 use Rattle.std.specs.Option.{option_map_or}
 use Rattle.std.proofs.lemmas.Bool.Decides.{nat_tests}
@@ -10,14 +10,14 @@ use Rattle.std.proofs.lemmas.List.{length-map}
 use Rattle.std.proofs.lemmas.Option.{slice_get-get_or}
 use Rattle.ng_base.specs.declared.fault.Fault.{Fault}
 use Rattle.ng_base.specs.declared.fault.Fault.TheVariants.{NodeLimit}
-use Rattle.ng_drawing.specs.Nodes.{part_nodes, content_nodes, nodes, node_limit}
+use Rattle.ng_drawing.specs.Nodes.{part_nodes, nodes, node_limit}
 use Rattle.ng_drawing.specs.Template.{Piece, word, hole, Source, of_text, of_nothing, one_way, two_way, of_call, Binding, PartAttributes, Uses, Outside, Scopes, Acts, Part, Contents, Parts, text_part, comment_part, element_part, anchor_part, children, bound, no_parts, part_then}
 use Rattle.ng_language.specs.Trees.{Trees}
 use Rattle.ng_parts.proofs.More.{attributes_more}
 use Rattle.ng_parts.specs.Numbering.{hole_numbers, source_numbers, bound_numbers, after_pieces, after_own, after_contents, after_part, after_parts, is_within, is_apart, is_piece_drawn, are_drawn}
-use Rattle.ng_link.specs.Bindings.{Bound, Bounds, bound_in_table, is_unbound}
-use Rattle.ng_link.specs.Linking.{Opening, a_child, an_isolate, a_slot, LinkStep, makes, stops, opens, binds, installs, starts, starts_at, registers, leaves, piece_steps, if_asked, scope_of, uses_entered, entering_steps, uses_left, leaving_steps, slot_steps, element_steps, part_steps, content_steps, steps, source_count, step_count, site_count, bound_flags, is_bound_site, fault_in}
-use Rattle.ng_link.specs.Shape.{own_node, piece_holes, part_holes, content_holes, holes, linked}
+use Rattle.ng_instances.specs.Bindings.{Bound, Bounds, bound_in_table, is_unbound}
+use Rattle.ng_build.specs.Linking.{Opening, a_child, an_isolate, a_slot, LinkStep, makes, stops, opens, binds, installs, starts, starts_at, registers, leaves, piece_steps, if_asked, scope_of, uses_entered, entering_steps, uses_left, leaving_steps, slot_steps, element_steps, part_steps, content_steps, steps, source_count, step_count, site_count, bound_flags, is_bound_site, fault_in}
+use Rattle.ng_build.specs.Shape.{own_node, piece_holes, part_holes, content_holes, holes, linked}
 use Rattle.ng_link.specs.Showing.{part_shows, contents_show, parts_show}
 use Rattle.ng_link.proofs.Below.{within, apart}
 use Rattle.ng_link.proofs.Numbers.{both_true, first_then, bound_then, next_hole, contents_children, contents_bound, counted_own, counted_part, counted}
@@ -60,10 +60,6 @@ abbrev nodes_made : List LinkStep → ℕ
 nodes_made [] = 0
 nodes_made (x ∷ ss) = node_step x + nodes_made ss
 
-made-append : (xs ys : List LinkStep) → nodes_made (xs ++ ys) ≡ nodes_made xs + nodes_made ys
-made-append [] ys = omega arith
-made-append (x ∷ xs) ys = let more = made-append xs ys in omega (arith, more)
-
 -- without a fault all are done, and their nodes find room
 no_fault : (room : ℕ) (ss : List LinkStep) → fault_in room ss ≡ None → (is_done ss ≡ true) × (nodes_made ss ≤ room)
 no_fault zero [] e = (refl, omega arith)
@@ -99,43 +95,22 @@ asked_count : (b : Bool) (o : Opening) → site_count (if_asked b o) ≡ 0
 asked_count true o = refl
 asked_count false o = refl
 
-asked_made : (b : Bool) (o : Opening) → nodes_made (if_asked b o) ≡ 0
-asked_made true o = refl
-asked_made false o = refl
-
 starts_count : (s : ℕ) (ps : List Trees) → site_count (map (starts s) ps) ≡ 0
 starts_count s [] = refl
 starts_count s (p ∷ ps) = let more = starts_count s ps in omega (arith, more)
-
-starts_made : (s : ℕ) (ps : List Trees) → nodes_made (map (starts s) ps) ≡ 0
-starts_made s [] = refl
-starts_made s (p ∷ ps) = let more = starts_made s ps in omega (arith, more)
 
 at_count : (o : ℕ) (ps : List Trees) → site_count (map (starts_at o) ps) ≡ 0
 at_count o [] = refl
 at_count o (p ∷ ps) = let more = at_count o ps in omega (arith, more)
 
-at_made : (o : ℕ) (ps : List Trees) → nodes_made (map (starts_at o) ps) ≡ 0
-at_made o [] = refl
-at_made o (p ∷ ps) = let more = at_made o ps in omega (arith, more)
-
 own_count : (own : List ℕ) → site_count (map (λ n. registers) own) ≡ length own
 own_count [] = refl
 own_count (n ∷ ns) = let more = own_count ns in omega (arith, more)
-
-own_made : (own : List ℕ) → nodes_made (map (λ n. registers) own) ≡ 0
-own_made [] = refl
-own_made (n ∷ ns) = let more = own_made ns in omega (arith, more)
 
 piece_count : (m : ℕ) (ps : List Piece) → site_count (piece_steps ps) ≡ length (piece_holes m ps)
 piece_count m [] = refl
 piece_count m (word w ∷ ps) = piece_count m ps
 piece_count m (hole n ∷ ps) = let more = piece_count m ps in omega (arith, more)
-
-piece_made : (ps : List Piece) → nodes_made (piece_steps ps) ≡ 0
-piece_made [] = refl
-piece_made (word w ∷ ps) = piece_made ps
-piece_made (hole n ∷ ps) = let more = piece_made ps in omega (arith, more)
 
 hole_count : (ps : List Piece) → length (piece_steps ps) ≡ length (hole_numbers ps)
 hole_count [] = refl
@@ -156,25 +131,13 @@ binds_count i o (b ∷ bs) =
     let more = binds_count i o bs in
     omega (arith, one, more, length-append (source_numbers b.source) (flat_map (λ (c : Binding). source_numbers c.source) bs))
 
-binds_made : (i o : ℕ) (bs : List Binding) → nodes_made (map (λ b. binds b i o) bs) ≡ 0
-binds_made i o [] = refl
-binds_made i o (b ∷ bs) = let more = binds_made i o bs in omega (arith, more)
-
 installs_count : (u : Uses) (s : Scopes) (ds : List ℕ) → site_count (map (λ d. installs d (scope_of u s d)) ds) ≡ 0
 installs_count u s [] = refl
 installs_count u s (d ∷ ds) = let more = installs_count u s ds in omega (arith, more)
 
-installs_made : (u : Uses) (s : Scopes) (ds : List ℕ) → nodes_made (map (λ d. installs d (scope_of u s d)) ds) ≡ 0
-installs_made u s [] = refl
-installs_made u s (d ∷ ds) = let more = installs_made u s ds in omega (arith, more)
-
 leaves_count : (u : Uses) (s : Scopes) (ds : List ℕ) → site_count (map (λ d. leaves d (scope_of u s d)) ds) ≡ 0
 leaves_count u s [] = refl
 leaves_count u s (d ∷ ds) = let more = leaves_count u s ds in omega (arith, more)
-
-leaves_made : (u : Uses) (s : Scopes) (ds : List ℕ) → nodes_made (map (λ d. leaves d (scope_of u s d)) ds) ≡ 0
-leaves_made u s [] = refl
-leaves_made u s (d ∷ ds) = let more = leaves_made u s ds in omega (arith, more)
 
 entering_count : (s : Scopes) (o : Option Uses) → site_count (option_map_or (uses_entered s) o []) ≡ length (option_map_or (λ (u : Uses). flat_map (λ (b : Binding). source_numbers b.source) u.bindings) o [])
 entering_count s None = refl
@@ -189,34 +152,13 @@ entering_count s (Some u) =
     let c = count-append (map (λ b. binds b s.isolate s.own) u.bindings) (map (λ d. installs d (scope_of u s d)) u.directives) in
     omega (arith, one, two, three, four, a, b, c)
 
-entering_made : (s : Scopes) (o : Option Uses) → nodes_made (option_map_or (uses_entered s) o []) ≡ 0
-entering_made s None = refl
-entering_made s (Some u) =
-    let opened : List LinkStep = map (λ b. binds b s.isolate s.own) u.bindings ++ map (λ d. installs d (scope_of u s d)) u.directives in
-    let one = asked_made u.child (a_child s.outer) in
-    let two = asked_made (is_some u.isolate) (an_isolate s.own) in
-    let three = binds_made s.isolate s.own u.bindings in
-    let four = installs_made u s u.directives in
-    let a = made-append (if_asked u.child (a_child s.outer)) (if_asked (is_some u.isolate) (an_isolate s.own) ++ opened) in
-    let b = made-append (if_asked (is_some u.isolate) (an_isolate s.own)) opened in
-    let c = made-append (map (λ b. binds b s.isolate s.own) u.bindings) (map (λ d. installs d (scope_of u s d)) u.directives) in
-    omega (arith, one, two, three, four, a, b, c)
-
 slot_count : (own : ℕ) (o : Option Outside) → site_count (option_map_or (λ o. opens (a_slot own o) ∷ []) o []) ≡ 0
 slot_count own None = refl
 slot_count own (Some o) = refl
 
-slot_made : (own : ℕ) (o : Option Outside) → nodes_made (option_map_or (λ o. opens (a_slot own o) ∷ []) o []) ≡ 0
-slot_made own None = refl
-slot_made own (Some o) = refl
-
 leaving_count : (s : Scopes) (o : Option Uses) → site_count (option_map_or (uses_left s) o []) ≡ 0
 leaving_count s None = refl
 leaving_count s (Some u) = leaves_count u s u.directives
-
-leaving_made : (s : Scopes) (o : Option Uses) → nodes_made (option_map_or (uses_left s) o []) ≡ 0
-leaving_made s None = refl
-leaving_made s (Some u) = leaves_made u s u.directives
 
 -- the steps of an element, one kind after another
 module _ (acts : Acts) (own : List ℕ) (inside : List LinkStep) where
@@ -262,20 +204,6 @@ module _ (acts : Acts) (own : List ℕ) (inside : List LinkStep) where
       let e = count-append inside leaving in
       omega (arith, one, two, three, four, five, a, b, c, d, e)
 
-  pub element_made : nodes_made all_steps ≡ 1 + nodes_made inside
-  element_made =
-      let one = entering_made acts.scopes acts.uses in
-      let two = starts_made acts.scopes.own acts.starts in
-      let three = own_made own in
-      let four = slot_made acts.scopes.own acts.scopes.slot in
-      let five = leaving_made acts.scopes acts.uses in
-      let a = made-append entering (starting ++ (owned ++ (slotted ++ (inside ++ leaving)))) in
-      let b = made-append starting (owned ++ (slotted ++ (inside ++ leaving))) in
-      let c = made-append owned (slotted ++ (inside ++ leaving)) in
-      let d = made-append slotted (inside ++ leaving) in
-      let e = made-append inside leaving in
-      omega (arith, one, two, three, four, five, a, b, c, d, e)
-
 mutual
   part_count : (m : ℕ) (p : Part) → is_done (part_steps p) ≡ true → site_count (part_steps p) ≡ length (part_holes m p)
   part_count m (text_part ps) done = let many = piece_count m ps in omega (arith, many)
@@ -303,34 +231,6 @@ mutual
       let first = part_count m p two.0 in
       let rest = parts_count (m + part_nodes p) ps two.1 in
       omega (arith, first, rest, count-append (part_steps p) (steps ps), length-append (part_holes m p) (holes (m + part_nodes p) ps))
-
--- as many nodes are made as parts have
-mutual
-  part_made : (p : Part) → is_done (part_steps p) ≡ true → nodes_made (part_steps p) ≡ part_nodes p
-  part_made (text_part ps) done = let none = piece_made ps in omega (arith, none)
-  part_made (comment_part t) done = omega arith
-  part_made (element_part e own acts ats c) done =
-      let whole = element_done acts own (content_steps c) done in
-      let all : nodes_made (part_steps (element_part e own acts ats c)) ≡ 1 + nodes_made (content_steps c) = ap nodes_made whole.0 ∙ element_made acts own (content_steps c) in
-      let inner = content_made c whole.1 in
-      omega (arith, all, inner)
-  part_made (anchor_part o own programs) done =
-      let two = made-append (map (starts_at o) programs) (map (λ n. registers) own) in
-      let none = at_made o programs in
-      let no_own = own_made own in
-      omega (arith, two, none, no_own)
-
-  content_made : (c : Contents) → is_done (content_steps c) ≡ true → nodes_made (content_steps c) ≡ content_nodes c
-  content_made (children ps) done = parts_made ps done
-  content_made (bound n) done = omega arith
-
-  parts_made : (ps : Parts) → is_done (steps ps) ≡ true → nodes_made (steps ps) ≡ nodes ps
-  parts_made no_parts done = refl
-  parts_made (part_then p ps) done =
-      let two = done_both (part_steps p) (steps ps) done in
-      let first = part_made p two.0 in
-      let rest = parts_made ps two.1 in
-      omega (arith, first, rest, made-append (part_steps p) (steps ps))
 
 -- for the sites from n on it is said which are drawn
 abbrev Passes : (ℕ → Bool) → ℕ → List Bool → Type 0
@@ -479,13 +379,3 @@ by_room false e = refl
 
 pub room_for_nodes : (live : ℕ) (ps : Parts) → linked live ps ≡ Ok tt → live + nodes ps ≤ node_limit
 room_for_nodes live ps e = let h : nat_lt node_limit (live + nodes ps) ≡ false = by_room (nat_lt node_limit (live + nodes ps)) e in grind (arith, nat_tests)
-
--- where all steps are done in so much room, the nodes find room
-pub room_linked : (live : ℕ) (ps : Parts) → live ≤ node_limit → fault_in (node_limit - live) (steps ps) ≡ None → linked live ps ≡ Ok tt
-room_linked live ps few e =
-    let two = no_fault (node_limit - live) (steps ps) e in
-    let all = parts_made ps two.0 in
-    let to = two.1 in
-    let fits : live + nodes ps ≤ node_limit = omega (arith, all, to, few) in
-    let none : nat_lt node_limit (live + nodes ps) ≡ false = grind (arith, nat_tests) in
-    ap (λ (b : Bool). if b then Err NodeLimit else Ok tt) none

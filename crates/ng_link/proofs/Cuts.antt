@@ -3,11 +3,11 @@ use Rattle.std.proofs.Common.{◌≡◌, ◌≤◌, ℕ, zero, suc, Bool, true, 
 use Rattle.std.specs.Prelude.{not}
 use Rattle.std.specs.List.{filter}
 use Rattle.ng_dom.specs.Lists.{without_at}
-use Rattle.ng_link.specs.Instances.{Body, OutletState, is_path, body_gone}
+use Rattle.ng_instances.specs.Instances.{Body, OutletState, is_path, body_gone}
 use Rattle.ng_link.specs.Standing.{body_count, held_count}
 use Rattle.ng_link.specs.Unlinking.{IsHeldAt, body_cut}
 use Rattle.ng_link.proofs.BodiesAt.{counted, counted_at}
-use Rattle.ng_link.proofs.Paths.{is_that}
+use Rattle.ng_link.proofs.PathsBelow.{is_that}
 
 module _ (p : List ℕ) where
   abbrev others : List Body → List Body

@@ -20,18 +20,19 @@ use Rattle.ng_drawing.specs.Looks.{Seen, seen_by, is_seen_true, is_seen_false}
 use Rattle.ng_drawing.specs.Nodes.{forest_count}
 use Rattle.ng_drawing.specs.Template.{Piece, word, hole, Hiding, while_true, while_false, PartClass, PartValue, always, unless_empty, flag, classes, PartAttributes, Part, Contents, Parts, text_part, comment_part, element_part, anchor_part, children, bound, no_parts, part_then}
 use Rattle.ng_watch.specs.Table.{Table}
-use Rattle.ng_link.specs.Controls.{Controls}
+use Rattle.ng_build.specs.Controls.{Controls}
 use Rattle.ng_link.specs.Holes.{PiecesBelow, SitesBelow, HidingsBelow, ClassBelow, ValueBelow, ValuesBelow, PartBelow, ContentsBelow, HolesBelow}
-use Rattle.ng_link.specs.Instances.{OutletState, Page, Linked, Instances, scope_number, key_in, keys_of, bodies_from, groups_from, stands_join, stands_at}
+use Rattle.ng_instances.specs.Instances.{OutletState, Page, Linked, Instances, scope_number, key_in, keys_of, bodies_from, groups_from, stands_join, stands_at}
 use Rattle.ng_link.specs.Laws.{PageDisplaysInstance, PageHasItsNames}
-use Rattle.ng_link.specs.Registering.{mark_in}
+use Rattle.ng_instances.specs.Registering.{mark_in}
 use Rattle.ng_link.specs.Standing.{IsPlaced, ArePlaced, Standing}
 use Rattle.ng_link.specs.State.{State, Resting, looks_of, seen_under, looks_in, site_state, site_states, nothing_linked, groups_in, instance_join, instance_at, shown, live_nodes, places_of, state_of}
 use Rattle.ng_link.specs.declared.works.Works.{Works}
 use Rattle.ng_link.proofs.Below.{all_below}
 use Rattle.ng_link.proofs.Inner.{keys_at}
 use Rattle.ng_link.proofs.ReadAlike.{Alike, read_alike}
-use Rattle.ng_link.proofs.Shapes.{same_followed, shape_draws}
+use Rattle.ng_build.proofs.Shapes.{same_followed}
+use Rattle.ng_link.proofs.LinkedLooks.{shape_draws}
 
 -- what is kept alike of each site, and stands alike in each outlet, is drawn alike
 module _ (look same : Look) (groups others : Groups) (count : ℕ) (agree : (n : ℕ) → n < count → look n ≡ same n) (alike : (o : ℕ) → groups o ≡ others o) where

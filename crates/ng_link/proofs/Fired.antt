@@ -18,17 +18,18 @@ use Rattle.ng_watch.specs.Keys.{is_key}
 use Rattle.ng_watch.specs.Seen.{Watcher}
 use Rattle.ng_watch.specs.Table.{Table, watchers_of, with_kept}
 use Rattle.ng_watch.specs.declared.watched.Watched.{Watched}
-use Rattle.ng_link.specs.Controls.{Controls, state_under, control_changed}
+use Rattle.ng_build.specs.Controls.{Controls, state_under, control_changed}
 use Rattle.ng_link.specs.Firing.{Redraw, nothing_new, a_text, on_element, drawn_anew, Tells, WritesAt}
-use Rattle.ng_link.specs.Sources.{sources, source_of}
+use Rattle.ng_build.specs.Sources.{sources, source_of}
 use Rattle.ng_link.specs.Standing.{WatchersStand, Standing}
-use Rattle.ng_link.specs.State.{Resting, kept_or, state_of, look_of, looks_of, looks_in, spot_in, places_of}
+use Rattle.ng_instances.specs.InstanceOf.{spot_in}
+use Rattle.ng_link.specs.State.{Resting, kept_or, state_of, look_of, looks_of, looks_in, places_of}
 use Rattle.ng_link.specs.declared.works.Works.{Works}
 use Rattle.ng_link.proofs.Agree.{IsDrawn, Agree, all_agree}
 use Rattle.ng_link.proofs.BuiltSame.{built_told}
 use Rattle.ng_link.proofs.ControlStates.{control_differs, keeping_differs}
 use Rattle.ng_link.proofs.Held.{built_held}
-use Rattle.ng_link.proofs.Tables.{kept-other}
+use Rattle.ng_build.proofs.Tables.{kept-other}
 use Rattle.ng_link.proofs.Watched.{stand_kept}
 
 -- what is shown differs at the key at most

@@ -1,52 +1,23 @@
 -- What a watcher has kept is forgotten, where its site is drawn nowhere.
-use Rattle.std.proofs.Common.{◌≡◌, ℕ, Bool, true, false, List, Option, Some, None, refl, ap, ◌∙◌, sym, map, not, length}
-use Rattle.std.specs.Prelude.{◌&&◌, is_some, option_map}
-use Rattle.std.specs.BTreeMap.{is_at}
-use Rattle.std.specs.Map.{lookup}
-use Rattle.std.specs.Ordering.{nat_cmp}
-use Rattle.std.proofs.lemmas.Map.Made.{is_some-lookup, lookup-map_values}
+use Rattle.std.proofs.Common.{◌≡◌, Bool, true, false, List, Option, Some, None, refl, ap, ◌∙◌, sym, not, length}
+use Rattle.std.specs.Prelude.{◌&&◌, is_some}
 use Rattle.ng_base.specs.declared.path.Key.{Key}
 use Rattle.ng_dom.specs.Drawing.{Look, Stands, DifferAt}
-use Rattle.ng_compose.specs.Kept.{Named}
 use Rattle.ng_watch.specs.Table.{Table, watchers_of, with_kept}
 use Rattle.ng_watch.specs.declared.watched.Watched.{Watched}
-use Rattle.ng_link.specs.Bindings.{bound_in_table}
-use Rattle.ng_link.specs.BoundOf.{bound_of, bounds_of}
-use Rattle.ng_link.specs.Calls.{fills_any, is_drawn_in, is_drawn}
-use Rattle.ng_link.specs.Instances.{Linked, Instances, Inners, is_path, linked_for, instance_path, is_site_of, is_site_in, is_site}
+use Rattle.ng_instances.specs.Bindings.{bound_in_table}
+use Rattle.ng_instances.specs.Changing.{fills_any, is_drawn_in}
+use Rattle.ng_link.specs.Calls.{is_drawn}
+use Rattle.ng_instances.specs.Instances.{Linked, Instances, Inners, linked_for, is_site_of, is_site_in, is_site}
 use Rattle.ng_link.specs.Standing.{IsBuilt, Standing}
-use Rattle.ng_link.specs.State.{outlet_of, instances_of, state_of, looks_of, looks_in, places_of}
-use Rattle.ng_link.specs.declared.works.Bound as code_bound
-use Rattle.ng_link.specs.declared.works.Linked as code
+use Rattle.ng_link.specs.State.{state_of, looks_of, looks_in, places_of}
 use Rattle.ng_link.specs.declared.works.Works.{Works}
 use Rattle.ng_link.proofs.Undrawn.{filling_forgotten, binding_forgotten}
 use Rattle.ng_link.proofs.BuiltSame.{built_same}
 use Rattle.ng_link.proofs.Fired.{kept_differs}
 use Rattle.ng_link.proofs.Grown.{is_some_of}
-use Rattle.ng_link.proofs.Places.{for_none, for_some, placed_site}
+use Rattle.ng_link.proofs.PlacedSites.{placed_site}
 use Rattle.ng_link.proofs.Watched.{stand_kept}
-
--- whether a site is drawn, as the code's table says it
-pub drawn_none : (all : List Named) (inner : Inners) (is : List (List ℕ × code.Linked)) (k : Key) → lookup (is_path (instance_path inner k.path)) is ≡ None → is_drawn_in (linked_for inner k.path (instances_of all is)) k ≡ false
-drawn_none all inner is k e = ap (λ (o : Option Linked). is_drawn_in o k) (for_none all inner is k e)
-
--- a number under which nothing is noted
-none_bound : (n : ℕ) (es : List (ℕ × code_bound.Bound)) → is_some (lookup (is_at (nat_cmp n)) es) ≡ is_some (bound_in_table n (bounds_of es))
-none_bound n es = by_found (lookup (is_at (nat_cmp n)) es) ∙ ap is_some (sym (lookup-map_values bound_of (is_at (nat_cmp n)) es))
-  where
-    by_found : (o : Option code_bound.Bound) → is_some o ≡ is_some (option_map bound_of o)
-    by_found None = refl
-    by_found (Some b) = refl
-
-pub drawn_some : (all : List Named) (inner : Inners) (is : List (List ℕ × code.Linked)) (k : Key) (i : code.Linked) → lookup (is_path (instance_path inner k.path)) is ≡ Some i
-    → is_drawn_in (linked_for inner k.path (instances_of all is)) k
-    ≡ is_some (lookup (is_at (nat_cmp k.serial.0)) i.spots.entries) && (not (fills_any k.serial.0 (map outlet_of i.outlets.items)) && not (is_some (lookup (is_at (nat_cmp k.serial.0)) i.bounds.entries)))
-drawn_some all inner is k i e =
-    let fills : Bool = not (fills_any k.serial.0 (map outlet_of i.outlets.items)) in
-    let noted : Bool = is_some (bound_in_table k.serial.0 (bounds_of i.bounds.entries)) in
-    ap (λ (o : Option Linked). is_drawn_in o k) (for_some all inner is k i e)
-    ∙ (ap (λ (b : Bool). b && (fills && not noted)) (sym (is_some-lookup (is_at (nat_cmp k.serial.0)) i.spots.entries))
-    ∙ ap (λ (b : Bool). is_some (lookup (is_at (nat_cmp k.serial.0)) i.spots.entries) && (fills && not b)) (sym (none_bound k.serial.0 i.bounds.entries)))
 
 module _ (w : Works) (ws : List (Key × Watched)) (k : Key) (is_table : watchers_of ws ≡ with_kept k None (state_of w).watchers) (off : is_drawn (state_of w) k ≡ false) (ts : Stands) (g : Standing w ts) where
   abbrev same : Table

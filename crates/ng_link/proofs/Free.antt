@@ -11,13 +11,13 @@ use Rattle.ng_drawing.specs.Nodes.{part_nodes}
 use Rattle.ng_drawing.specs.Template.{Part, Contents, Parts, text_part, comment_part, element_part, anchor_part, children, bound, no_parts, part_then}
 use Rattle.ng_parts.specs.Numbering.{are_drawn}
 use Rattle.ng_watch.specs.Keys.{is_key}
-use Rattle.ng_link.specs.Building.{unset}
-use Rattle.ng_link.specs.Instances.{Linked, keys_of, bodies_from, groups_from}
-use Rattle.ng_link.specs.Shape.{part_shape, content_shape, shape, unfilled}
+use Rattle.ng_build.specs.Building.{unset}
+use Rattle.ng_instances.specs.Instances.{Linked, keys_of, bodies_from, groups_from}
+use Rattle.ng_build.specs.Shape.{part_shape, content_shape, shape, unfilled}
 use Rattle.ng_link.specs.Showing.{part_shows, contents_show, parts_show}
 use Rattle.ng_link.proofs.Added.{new_stands}
 use Rattle.ng_link.proofs.Holding.{drawn_holes, drawn_values}
-use Rattle.ng_link.proofs.Keys.{key_is, same_key}
+use Rattle.ng_build.proofs.Keys.{key_is, same_key}
 use Rattle.ng_link.proofs.Numbers.{both_true}
 
 module _ (good : Key → Bool) where

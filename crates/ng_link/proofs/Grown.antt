@@ -8,15 +8,17 @@ use Rattle.std.specs.declared.cmp.Ordering.TheVariants.{Less}
 use Rattle.std.proofs.lemmas.Map.Keys.{sorted_head, sorted_tail}
 use Rattle.ng_base.specs.Order.{path_cmp, path_cmp_total}
 use Rattle.ng_base.specs.declared.path.Key.{Key}
-use Rattle.ng_link.specs.Building.{AllAt}
+use Rattle.ng_build.specs.Building.{AllAt}
 use Rattle.ng_drawing.specs.Roles.{Role}
-use Rattle.ng_link.specs.Instances.{Body, OutletState, Linked, Instances, is_path, linked_at, keys_of, with_outlets, outlets_changed, body_added, with_instance}
-use Rattle.ng_link.specs.Shape.{holes}
+use Rattle.ng_instances.specs.Instances.{Body, OutletState, Linked, Instances, is_path, linked_at, keys_of, with_outlets, outlets_changed, body_added, with_instance}
+use Rattle.ng_build.specs.Shape.{holes}
 use Rattle.ng_link.specs.Standing.{IsBelow, IsPlaced, ArePlaced, Apart, AreApart, IsHeldIn, AreHeld, held_count}
 use Rattle.ng_watch.specs.Keys.{begins}
 use Rattle.ng_link.proofs.BodiesAt.{added_anchors, added_undrawn, added_in, added_count, added_more, added_there}
 use Rattle.ng_link.proofs.Lookups.{changed_keys, changed_other, changed_here, changed_all, changed_apart, inserted_here, inserted_other, inserted_all, inserted_apart}
-use Rattle.ng_link.proofs.Paths.{path_is, same_path, other_path, less_other, below_other, two_ways}
+use Rattle.ng_build.proofs.Paths.{two_ways}
+use Rattle.ng_instances.proofs.PathIs.{path_is}
+use Rattle.ng_link.proofs.PathsBelow.{same_path, other_path, less_other, below_other}
 use Rattle.ng_link.proofs.ReadOff.{at_path}
 use Rattle.ng_link.proofs.Sorted.{insert_sorted}
 
@@ -43,16 +45,6 @@ each_found (e ∷ es) ordered = (
   ap (λ (b : Bool). cond b (Some e.1) (linked_at e.0 es)) (same_path e.0),
   found_past e es (sorted_head path_cmp e.0 (map_keys es) ordered) es (each_found es (sorted_tail path_cmp e.0 (map_keys es) ordered)),
 )
-
--- where nothing is found on a path, no entry is there
-pub none_there : (p : List ℕ) (is : Instances) → linked_at p is ≡ None → AllByRecursion (λ (x : List ℕ × Linked). is_path p x.0 ≡ false) is
-none_there p [] free = tt
-none_there p (e ∷ es) free = by_test (is_path p e.0) refl free (none_there p es)
-  where
-    by_test : (b : Bool) → is_path p e.0 ≡ b → cond b (Some e.1) (linked_at p es) ≡ None → (linked_at p es ≡ None → AllByRecursion (λ (x : List ℕ × Linked). is_path p x.0 ≡ false) es)
-        → AllByRecursion (λ (x : List ℕ × Linked). is_path p x.0 ≡ false) (e ∷ es)
-    by_test true is same more = absurd (cc)
-    by_test false is same more = (is, more same)
 
 -- sites of other instances are where they were
 pub still_at : (site same : Key → Option ℕ) (keys : ℕ → Key) → ((n x : ℕ) → site (keys n) ≡ Some x → same (keys n) ≡ Some x) → (n : ℕ) (xs : List ℕ) → AllAt site keys n xs → AllAt same keys n xs

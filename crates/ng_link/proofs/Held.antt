@@ -5,8 +5,8 @@ use Rattle.ng_base.specs.declared.path.Key.{Key}
 use Rattle.ng_dom.specs.Document.{next_name}
 use Rattle.ng_dom.specs.Drawing.{Look, Source, Stands, none_stand, HomedAll, HomedBodies, HeldAll, HeldBodies}
 use Rattle.ng_dom.specs.declared.dom.Dom.{Dom}
-use Rattle.ng_link.specs.Instances.{Linked, Instances, keys_of, bodies_from, groups_from, stands_join, stands_at}
-use Rattle.ng_link.specs.Sources.{sources}
+use Rattle.ng_instances.specs.Instances.{Linked, Instances, keys_of, bodies_from, groups_from, stands_join, stands_at}
+use Rattle.ng_build.specs.Sources.{sources}
 use Rattle.ng_link.specs.Standing.{ArePlaced, IsBuilt}
 use Rattle.ng_link.proofs.Holding.{all_held}
 use Rattle.ng_link.proofs.ReadOff.{read_all}

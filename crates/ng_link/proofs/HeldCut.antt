@@ -11,13 +11,13 @@ use Rattle.std.specs.BTreeMap.{is_at}
 use Rattle.std.specs.Ordering.{nat_cmp}
 use Rattle.ng_dom.specs.Lists.{without_at}
 use Rattle.ng_compose.specs.Kept.{Named}
-use Rattle.ng_link.specs.Instances.{Body, OutletState, Instances, Inners, instance_path, is_path, with_outlets, outlets_changed}
+use Rattle.ng_instances.specs.Instances.{Body, OutletState, Instances, Inners, instance_path, is_path, with_outlets, outlets_changed}
 use Rattle.ng_link.specs.Standing.{body_count, held_count}
-use Rattle.ng_link.specs.State.{body_of, outlet_of, linked_of, instances_of, spot_at, spot_in}
+use Rattle.ng_instances.specs.InstanceOf.{body_of, outlet_of, linked_of, instances_of, spot_at, spot_in}
 use Rattle.ng_link.specs.Unlinking.{IsHeldAt, body_cut}
-use Rattle.ng_link.specs.declared.works.Body as code_body
-use Rattle.ng_link.specs.declared.works.OutletState as code_outlet
-use Rattle.ng_link.specs.declared.works.Linked as code
+use Rattle.ng_instances.specs.declared.instances.Body as code_body
+use Rattle.ng_instances.specs.declared.instances.OutletState as code_outlet
+use Rattle.ng_instances.specs.declared.instances.Linked as code
 
 -- the i-th of what is seen
 pub seen_at : {A B : Type 0} (f : A → B) (xs : List A) (i : ℕ) (x : A) → i < length xs → x ≡ get_or xs i x → slice_get (map f xs) i ≡ Some (f x)

@@ -6,7 +6,7 @@ use Rattle.ng_dom.specs.Drawing.{Source, Stand, Stands, Bodies, text_stands, com
 use Rattle.ng_dom.specs.declared.dom.Dom.{Dom}
 use Rattle.ng_dom.specs.declared.record.Home.{Home}
 use Rattle.ng_dom.proofs.Homes.{live_nodes_have_homes, live_names_are_given}
-use Rattle.ng_link.specs.Sources.{source_of, sources}
+use Rattle.ng_build.specs.Sources.{source_of, sources}
 
 -- what is drawn from something stays so
 module _ (home same : ℕ → Option Source) (stays : (q : ℕ) (s : Source) → home q ≡ Some s → same q ≡ Some s) where

@@ -9,14 +9,16 @@ use Rattle.std.proofs.lemmas.Map.Entries.{lookup-filter-keys}
 use Rattle.ng_base.specs.Order.{path_cmp, path_cmp_total}
 use Rattle.ng_base.specs.declared.path.Key.{Key}
 use Rattle.ng_watch.specs.Keys.{begins}
-use Rattle.ng_link.specs.Instances.{OutletState, Inner, Page, Linked, Instances, Inners, is_path, linked_at, instance_path, inner_or, scope_path, key_in, keys_of, with_inner, inner_without, with_outlets, outlets_changed, without_below, with_instance}
-use Rattle.ng_link.specs.Registering.{mark_in}
-use Rattle.ng_link.specs.Shape.{key_on}
+use Rattle.ng_instances.specs.Instances.{OutletState, Inner, Page, Linked, Instances, Inners, is_path, linked_at, instance_path, inner_or, scope_path, key_in, keys_of, with_inner, inner_without, with_outlets, outlets_changed, without_below, with_instance}
+use Rattle.ng_instances.specs.Registering.{mark_in}
+use Rattle.ng_build.specs.Shape.{key_on}
 use Rattle.ng_link.specs.Standing.{IsBelow, LeadsTo, AreInner}
 use Rattle.ng_link.proofs.Grown.{all_weaker, no_some, is_some_of}
-use Rattle.ng_link.proofs.Listed.{noted_found}
+use Rattle.ng_link.proofs.NotedFound.{noted_found}
 use Rattle.ng_link.proofs.Lookups.{changed_other, changed_here, inserted_here, inserted_other, kept_found, kept_gone}
-use Rattle.ng_link.proofs.Paths.{path_is, same_path, is_that, other_path, not_path, below_other, below_begins, begins_itself, begins_through, begins_either, not_begins, two_ways}
+use Rattle.ng_build.proofs.Paths.{begins_itself, begins_through, begins_either, not_begins, two_ways}
+use Rattle.ng_instances.proofs.PathIs.{path_is}
+use Rattle.ng_link.proofs.PathsBelow.{same_path, is_that, other_path, not_path, below_other, below_begins}
 use Rattle.ng_link.proofs.Sorted.{insert_sorted, filter_sorted}
 
 -- a path is that of one of some inner scopes
@@ -279,20 +281,6 @@ module _ (p : List ℕ) (l : Linked) (inner : Inners) (is : Instances) (g : AreI
       by_test : (b : Bool) → is_among p l.page.inner ≡ b → b ≡ false
       by_test true e = absurd (below_other p p (among_below p p l.page.inner below e) refl)
       by_test false e = refl
-
-  -- what leads to the instance begins with its path
-  pub leads_here : (q : List ℕ) → instance_path then_inner q ≡ p → begins p q ≡ true
-  leads_here q e = by_test (begins p q) refl
-    where
-      by_found : (o : Option (List ℕ)) → lookup (is_path q) inner ≡ o → begins p q ≡ false → begins p q ≡ true
-      by_found None none off = ap (begins p) (sym (path_alone inner q none) ∙ (sym (other_leads q off) ∙ e)) ∙ begins_itself p
-      by_found (Some c) at off =
-          let is_p : c ≡ p = sym (path_noted inner q c at) ∙ (sym (other_leads q off) ∙ e) in
-          below_begins p q (subst (λ (r : List ℕ). IsBelow r q) is_p (g.leads q c at).below)
-
-      by_test : (b : Bool) → begins p q ≡ b → begins p q ≡ true
-      by_test true on = on
-      by_test false off = by_found (lookup (is_path q) inner) refl off
 
   come_other : (q : List ℕ) → is_path q p ≡ false → linked_at q come ≡ linked_at q is
   come_other q off = inserted_other p l is q off

@@ -27,21 +27,24 @@ use Rattle.ng_watch.specs.Keys.{is_key, begins}
 use Rattle.ng_watch.specs.Seen.{Watcher}
 use Rattle.ng_watch.specs.Table.{Table, watchers_of, found}
 use Rattle.ng_watch.specs.declared.watched.Watched.{Watched}
-use Rattle.ng_link.specs.Bindings.{Bound, bound_text, bound_in, bound_both, Bounds, bound_in_table, BoundStands}
-use Rattle.ng_link.specs.Building.{unset, AllAt, Builds, IsStood}
-use Rattle.ng_link.specs.Calls.{Place, at_top, in_outlet, outlets_from, page_on, linked_on, taken_in}
-use Rattle.ng_link.specs.Controls.{state_under, controls_begun}
-use Rattle.ng_link.specs.Instances.{OutletState, Inner, Page, Linked, Instances, Inners, is_path, linked_at, instance_path, key_in, keys_of, outlets_changed, body_added, with_instance, with_inner}
-use Rattle.ng_link.specs.Linking.{is_bound_site, steps}
-use Rattle.ng_link.specs.PlaceOf.{outlet_of_linked, IsNewBelow, IsFree, spot_from, spot_for}
+use Rattle.ng_instances.specs.Bindings.{Bound, bound_text, bound_in, bound_both, bound_in_table, BoundStands}
+use Rattle.ng_build.specs.Building.{unset, AllAt, Builds, IsStood}
+use Rattle.ng_instances.specs.Changing.{Place, at_top, in_outlet, outlets_from}
+use Rattle.ng_link.specs.Calls.{page_on, linked_on, taken_in}
+use Rattle.ng_build.specs.Controls.{state_under, controls_begun}
+use Rattle.ng_instances.specs.Instances.{OutletState, Inner, Page, Linked, Instances, Inners, is_path, linked_at, instance_path, key_in, keys_of, outlets_changed, body_added, with_instance, with_inner}
+use Rattle.ng_build.specs.Linking.{is_bound_site, steps}
+use Rattle.ng_instances.specs.PlaceOf.{outlet_of_linked, spot_from, spot_for}
+use Rattle.ng_link.specs.FreePlace.{IsNewBelow, IsFree}
 use Rattle.ng_link.specs.Placing.{IsRegistered}
-use Rattle.ng_link.specs.Registering.{Ground, scope_in_ground, Registered, mark_at, way_of, keys_on, row_at, site_rows}
-use Rattle.ng_link.specs.Rows.{Row, with_sites}
-use Rattle.ng_link.specs.Shape.{keys_or, holes, anchors}
-use Rattle.ng_link.specs.Sources.{sources}
+use Rattle.ng_instances.specs.Registering.{Ground, scope_in_ground, Registered, mark_at, way_of, keys_on, row_at, site_rows}
+use Rattle.ng_instances.specs.Rows.{Row, with_sites}
+use Rattle.ng_build.specs.Shape.{keys_or, holes, anchors}
+use Rattle.ng_build.specs.Sources.{sources}
 use Rattle.ng_link.specs.Standing.{IsBelow, AreIn, AreUndrawn, IsPlaced, IsBuilt, AreInner, WatchersStand, IsStanding, Standing}
-use Rattle.ng_link.specs.State.{State, kept_or, look_of, templates_of, spot_at, spot_in, places_of, state_of, looks_in}
-use Rattle.ng_link.specs.declared.works.Linked as code
+use Rattle.ng_instances.specs.InstanceOf.{spot_at, spot_in}
+use Rattle.ng_link.specs.State.{State, kept_or, look_of, templates_of, places_of, state_of, looks_in}
+use Rattle.ng_instances.specs.declared.instances.Linked as code
 use Rattle.ng_link.specs.declared.works.Works.{Works}
 use Rattle.ng_link.proofs.Added.{new_stands}
 use Rattle.ng_link.proofs.AtBlocks.{counted_anchors}
@@ -58,11 +61,16 @@ use Rattle.ng_link.proofs.Lookups.{inserted_here}
 use Rattle.ng_link.proofs.Marks.{marks_found, key_at, site_row, site_numbers, site_all, ground_all, ground_on, inner_below}
 use Rattle.ng_link.proofs.NewInstance.{after, many_holes}
 use Rattle.ng_link.proofs.Numbers.{both_true}
-use Rattle.ng_link.proofs.Paths.{path_is, is_that, other_path, not_path, begins_itself, not_begins, two_ways}
-use Rattle.ng_link.proofs.Places.{linked_seen, number_below}
-use Rattle.ng_link.proofs.Rows.{fresh_watcher, sites_other, sites_found, all_at}
+use Rattle.ng_build.proofs.Paths.{begins_itself, not_begins, two_ways}
+use Rattle.ng_instances.proofs.PathIs.{path_is}
+use Rattle.ng_link.proofs.PathsBelow.{is_that, other_path, not_path}
+use Rattle.ng_instances.proofs.Places.{linked_seen}
+use Rattle.ng_link.proofs.PlacedSites.{number_below}
+use Rattle.ng_instances.proofs.Rows.{fresh_watcher, sites_other, all_at}
+use Rattle.ng_link.proofs.FoundSites.{sites_found}
 use Rattle.ng_link.proofs.Serials.{paired, paired_keys, paired_found}
 use Rattle.ng_link.proofs.Watched.{RowStands, WayStands, stand_sites}
+use Rattle.ng_instances.proofs.NotedStands.{noted_stands}
 
 no_site : Site
 no_site = record { kind = Text; one_time = false; program = no_trees }
@@ -139,15 +147,6 @@ at_place : {X : Type 0} (P : X → Type 0) (xs : List X) (j : ℕ) (x : X) → A
 at_place P [] j x h e = absurd (cc)
 at_place P (y ∷ ys) zero x h e = let same : y ≡ x = cc in subst P same h.0
 at_place P (y ∷ ys) (suc j) x h e = at_place P ys j x h.1 e
-
--- the scopes that are noted for a number are there
-pub noted_stands : (count n : ℕ) (bs : Bounds) (b : Bound) → AllByRecursion (λ (e : ℕ × Bound). BoundStands count e.1) bs → bound_in_table n bs ≡ Some b → BoundStands count b
-noted_stands count n [] b all at = absurd (cc)
-noted_stands count n (e ∷ es) b all at = by_test (is_at (nat_cmp n) e.0) refl at (noted_stands count n es b all.1)
-  where
-    by_test : (t : Bool) → is_at (nat_cmp n) e.0 ≡ t → cond t (Some e.1) (bound_in_table n es) ≡ Some b → (bound_in_table n es ≡ Some b → BoundStands count b) → BoundStands count b
-    by_test true is same more = let one : e.1 ≡ b = cc in subst (BoundStands count) one all.0
-    by_test false is same more = more same
 
 way_stands : (scopes : List Scope) (objects : ℕ) → ((s : ℕ) → s < length scopes → object_at scopes s < objects) → (o : Option Bound) → ((b : Bound) → o ≡ Some b → BoundStands (length scopes) b) → WayStands objects (way_of scopes o)
 way_stands scopes objects among None each = tt

@@ -5,10 +5,11 @@ use Rattle.ng_base.specs.declared.name.NodeId.{NodeId}
 use Rattle.ng_dom.specs.Document.{rooms, next_name, IsLive}
 use Rattle.ng_dom.specs.Drawing.{Stands, Bodies, shows}
 use Rattle.ng_dom.specs.Rooms.{Room, ReadsIn}
-use Rattle.ng_link.specs.Building.{parent_name, IsThere}
-use Rattle.ng_link.specs.Calls.{Place, at_top, in_outlet}
-use Rattle.ng_link.specs.Instances.{OutletState, Linked, Instances, linked_at, read_bodies, groups_from, stands_at}
-use Rattle.ng_link.specs.PlaceOf.{outlet_of_linked, IsFree, spot_from, spot_for}
+use Rattle.ng_build.specs.Building.{parent_name, IsThere}
+use Rattle.ng_instances.specs.Changing.{Place, at_top, in_outlet}
+use Rattle.ng_instances.specs.Instances.{OutletState, Linked, Instances, linked_at, read_bodies, groups_from, stands_at}
+use Rattle.ng_instances.specs.PlaceOf.{outlet_of_linked, spot_from, spot_for}
+use Rattle.ng_link.specs.FreePlace.{IsFree}
 use Rattle.ng_link.specs.Standing.{Standing}
 use Rattle.ng_link.specs.State.{looks_in, places_of, state_of}
 use Rattle.ng_link.specs.declared.works.Works.{Works}

@@ -7,15 +7,13 @@ use Rattle.std.specs.Ordering.{is_eq, match_ordering}
 use Rattle.std.specs.declared.cmp.Ordering.{Ordering}
 use Rattle.std.specs.declared.cmp.Ordering.TheVariants.{Less, Equal, Greater}
 use Rattle.ng_base.specs.Order.{path_cmp}
-use Rattle.ng_link.specs.Instances.{OutletState, Linked, Instances, is_path, linked_at, with_outlets, outlets_changed, with_instance}
+use Rattle.ng_instances.specs.Instances.{OutletState, Linked, Instances, is_path, linked_at, with_outlets, outlets_changed, with_instance}
 use Rattle.ng_link.specs.Standing.{Apart, AreApart}
-use Rattle.ng_link.proofs.Paths.{path_is, same_path, other_path}
+use Rattle.ng_instances.proofs.PathIs.{path_is}
+use Rattle.ng_link.proofs.PathsBelow.{same_path, other_path}
 
 -- the outlets of an instance change
 module _ (p : List ℕ) (f : List OutletState → List OutletState) where
-  abbrev entry : Bool → List ℕ × Linked → List ℕ × Linked
-  entry b e = cond b (e.0, with_outlets f e.1) e
-
   pub changed_keys : (is : Instances) → map_keys (outlets_changed p f is) ≡ map_keys is
   changed_keys [] = refl
   changed_keys (e ∷ es) = by_test (is_path p e.0) (changed_keys es)

@@ -16,14 +16,16 @@ use Rattle.ng_behaviour.specs.Scopes.{Scope, path_at, live_at}
 use Rattle.ng_drawing.specs.Template.{SiteScopes, Fragment}
 use Rattle.ng_drawing.specs.declared.origin.Origin.{Origin}
 use Rattle.ng_watch.specs.Keys.{begins}
-use Rattle.ng_link.specs.Calls.{page_on, any_on}
-use Rattle.ng_link.specs.Instances.{Inner, Page, inner_or, scope_number, scope_path, key_in, keys_of}
-use Rattle.ng_link.specs.Registering.{Ground, scope_in_ground, IsGrounded, Registered, own_mark, mark_at, Marks, mark_in, is_own, with_mark, marks_from, site_key, keys_on, row_at, rows_from, site_rows, any_lives}
-use Rattle.ng_link.specs.Rows.{Row}
-use Rattle.ng_link.specs.Shape.{key_on, keys_by}
+use Rattle.ng_instances.specs.Changing.{any_on}
+use Rattle.ng_link.specs.Calls.{page_on}
+use Rattle.ng_instances.specs.Instances.{Inner, Page, inner_or, scope_number, scope_path, key_in, keys_of}
+use Rattle.ng_instances.specs.Registering.{Ground, scope_in_ground, IsGrounded, Registered, own_mark, mark_at, Marks, mark_in, is_own, with_mark, marks_from, site_key, keys_on, row_at, rows_from, site_rows, any_lives}
+use Rattle.ng_instances.specs.Rows.{Row}
+use Rattle.ng_build.specs.Shape.{key_on, keys_by}
 use Rattle.ng_link.specs.Standing.{IsBelow}
-use Rattle.ng_link.proofs.Keys.{equal_numbers}
-use Rattle.ng_link.proofs.Paths.{below_begins, begins_itself}
+use Rattle.ng_build.proofs.Keys.{equal_numbers}
+use Rattle.ng_build.proofs.Paths.{begins_itself}
+use Rattle.ng_link.proofs.PathsBelow.{below_begins}
 use Rattle.ng_link.proofs.Serials.{first_apart, not_at}
 
 -- a mark is noted

@@ -13,7 +13,7 @@ use Rattle.ng_dom.proofs.Apart.{names_are_live}
 use Rattle.ng_dom.proofs.Homes.{live_names_are_given}
 use Rattle.ng_drawing.specs.Nodes.{part_nodes, content_nodes, nodes}
 use Rattle.ng_drawing.specs.Template.{Part, Contents, Parts, text_part, comment_part, element_part, anchor_part, children, bound, no_parts, part_then}
-use Rattle.ng_link.specs.Shape.{part_shape, content_shape, shape, unfilled}
+use Rattle.ng_build.specs.Shape.{part_shape, content_shape, shape, unfilled}
 
 -- so many names from one on
 abbrev pub up : ℕ → ℕ → List ℕ

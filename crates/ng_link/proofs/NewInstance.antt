@@ -17,21 +17,25 @@ use Rattle.ng_parts.specs.Numbering.{after_parts}
 use Rattle.ng_compose.specs.Kept.{Named, fragments_in}
 use Rattle.ng_watch.specs.Table.{Table, watchers_of}
 use Rattle.ng_watch.specs.declared.watched.Watched.{Watched}
-use Rattle.ng_link.specs.Bindings.{Bounds}
-use Rattle.ng_link.specs.BoundOf.{inner_of, bounds_of}
-use Rattle.ng_link.specs.Building.{IsStood}
-use Rattle.ng_link.specs.Calls.{Place, outlets_on, inner_on, page_on, linked_on, taken_in, placed_under}
-use Rattle.ng_link.specs.Controls.{Controlled, controlled, Controls, controls_begun}
-use Rattle.ng_link.specs.Instances.{OutletState, Inner, Page, Linked, Instances, Inners, Owners, is_path, instance_path, with_instance, with_inner}
-use Rattle.ng_link.specs.MarksOf.{marks_of}
-use Rattle.ng_link.specs.Handlers.{Handled, handled, scoped}
-use Rattle.ng_link.specs.Registering.{Registered, Marks, marks_from, keys_on}
-use Rattle.ng_link.specs.Rows.{Row, with_sites}
-use Rattle.ng_link.specs.Shape.{keys_or, holes, anchors}
-use Rattle.ng_link.specs.State.{State, handled_of, controlled_of, outlet_of, page_of, linked_of, instances_of, templates_of, spot_at, spot_in, state_of}
-use Rattle.ng_link.specs.declared.works.Linked as code
+use Rattle.ng_instances.specs.Bindings.{Bounds}
+use Rattle.ng_instances.specs.BoundOf.{inner_of, bounds_of}
+use Rattle.ng_build.specs.Building.{IsStood}
+use Rattle.ng_instances.specs.Changing.{Place, outlets_on, inner_on}
+use Rattle.ng_link.specs.Calls.{page_on, linked_on, taken_in, placed_under}
+use Rattle.ng_build.specs.Controls.{Controlled, controlled, Controls, controls_begun}
+use Rattle.ng_instances.specs.Instances.{OutletState, Inner, Page, Linked, Instances, Inners, Owners, is_path, instance_path, with_instance, with_inner}
+use Rattle.ng_instances.specs.MarksOf.{marks_of}
+use Rattle.ng_build.specs.Handlers.{Handled, handled, scoped}
+use Rattle.ng_instances.specs.Registering.{Registered, Marks, marks_from, keys_on}
+use Rattle.ng_instances.specs.Rows.{Row, with_sites}
+use Rattle.ng_build.specs.Shape.{keys_or, holes, anchors}
+use Rattle.ng_build.specs.HandledOf.{handled_of, controlled_of}
+use Rattle.ng_instances.specs.InstanceOf.{outlet_of, page_of, linked_of, instances_of, spot_at, spot_in}
+use Rattle.ng_link.specs.State.{State, templates_of, state_of}
+use Rattle.ng_instances.specs.declared.instances.Linked as code
 use Rattle.ng_link.specs.declared.works.Works.{Works}
-use Rattle.ng_link.proofs.Listed.{noted-seen, noted_found}
+use Rattle.ng_instances.proofs.Listed.{noted-seen}
+use Rattle.ng_link.proofs.NotedFound.{noted_found}
 use Rattle.ng_link.proofs.Numbers.{counted}
 
 -- What is left: the works with other watchers, more controls, another document, one instance more, and more inner scopes.

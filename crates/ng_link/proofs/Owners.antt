@@ -9,13 +9,14 @@ use Rattle.std.specs.Prelude.{nat_le, option_map, option_and_then, unwrap_or}
 use Rattle.std.specs.declared.ops.Bound.TheVariants.{Included, Unbounded}
 use Rattle.std.proofs.lemmas.Bool.Decides.{nat_tests}
 use Rattle.ng_compose.specs.Kept.{Named}
-use Rattle.ng_link.specs.Controls.{Controlled}
+use Rattle.ng_build.specs.Controls.{Controlled}
 use Rattle.ng_link.specs.Events.{handled_in, controlled_in, scope_in, element_scope}
-use Rattle.ng_link.specs.Handlers.{Handled}
-use Rattle.ng_link.specs.Instances.{Linked, Owners, owner_or, is_path, linked_at, scope_number}
-use Rattle.ng_link.specs.State.{handled_of, controlled_of, page_of, linked_of, instances_of}
-use Rattle.ng_link.specs.declared.works.Linked as code
-use Rattle.ng_link.proofs.Places.{linked_seen}
+use Rattle.ng_build.specs.Handlers.{Handled}
+use Rattle.ng_instances.specs.Instances.{Linked, Owners, owner_or, is_path, linked_at, scope_number}
+use Rattle.ng_build.specs.HandledOf.{handled_of, controlled_of}
+use Rattle.ng_instances.specs.InstanceOf.{page_of, linked_of, instances_of}
+use Rattle.ng_instances.specs.declared.instances.Linked as code
+use Rattle.ng_instances.proofs.Places.{linked_seen}
 
 -- the last path of some entries
 abbrev pub last_or : Option (List ℕ) → Owners → Option (List ℕ)

@@ -9,10 +9,10 @@ use Rattle.std.proofs.lemmas.Option.{slice_get-map, slice_get-get_or}
 use Rattle.std.specs.Prelude.{option_map}
 use Rattle.ng_base.specs.Order.{path_cmp}
 use Rattle.ng_link.specs.Arranging.{ArePlaces, IsPlaceOf}
-use Rattle.ng_link.specs.Instances.{Body, is_path}
-use Rattle.ng_link.specs.State.{body_of}
-use Rattle.ng_link.specs.declared.works.Body as code
-use Rattle.ng_link.proofs.Paths.{path_is}
+use Rattle.ng_instances.specs.Instances.{Body, is_path}
+use Rattle.ng_instances.specs.InstanceOf.{body_of}
+use Rattle.ng_instances.specs.declared.instances.Body as code
+use Rattle.ng_instances.proofs.PathIs.{path_is}
 
 -- one more
 pub places_more : (bs : List Body) (p : List ℕ) (i : ℕ) → IsPlaceOf bs p i → (es : List (List ℕ × ℕ)) → ArePlaces bs es → ArePlaces bs (insert_entry path_cmp es p i)

@@ -7,11 +7,12 @@ use Rattle.std.proofs.lemmas.Option.{slice_get-map}
 use Rattle.ng_base.specs.Order.{path_cmp}
 use Rattle.ng_base.specs.declared.path.Key.{Key}
 use Rattle.ng_dom.specs.Drawing.{Stands, Bodies, block_stands, none_stand}
-use Rattle.ng_link.specs.Instances.{Body, OutletState, Linked, Instances, is_path, linked_at, keys_of, read_bodies, bodies_from, groups_from, stands_join, stands_at}
-use Rattle.ng_link.specs.Shape.{anchors}
+use Rattle.ng_instances.specs.Instances.{Body, OutletState, Linked, Instances, is_path, linked_at, keys_of, read_bodies, bodies_from, groups_from, stands_join, stands_at}
+use Rattle.ng_build.specs.Shape.{anchors}
 use Rattle.ng_link.specs.Standing.{IsPlaced, ArePlaced, IsHeldIn, AreHeld, body_count, held_count}
 use Rattle.ng_link.proofs.Blocks.{BlockIn, BlockAmong, BlockInside, shape_block}
-use Rattle.ng_link.proofs.Paths.{path_is, below_longer}
+use Rattle.ng_instances.proofs.PathIs.{path_is}
+use Rattle.ng_link.proofs.PathsBelow.{below_longer}
 use Rattle.ng_link.proofs.ReadOff.{in_held, at_path, AllIn, read_found}
 
 -- each instance holds bodies that are in it

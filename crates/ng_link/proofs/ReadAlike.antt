@@ -1,7 +1,7 @@
 -- Reading what is linked: what is read off by one word is related to what is read off by another, where the words are.
 use Rattle.std.proofs.Common.{ℕ, Bool, true, false, cond, List, [], ◌∷◌, map}
 use Rattle.std.specs.List.{AllByRecursion}
-use Rattle.ng_link.specs.Instances.{Body, OutletState, Linked, Instances, is_path, read_bodies, read}
+use Rattle.ng_instances.specs.Instances.{Body, OutletState, Linked, Instances, is_path, read_bodies, read}
 
 -- lists whose items are related one by one
 abbrev pub Alike : {A B : Type 0} → (A → B → Type 0) → List A → List B → Type 0

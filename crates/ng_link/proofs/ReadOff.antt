@@ -10,9 +10,10 @@ use Rattle.std.specs.declared.cmp.Ordering.TheVariants.{Less, Equal, Greater}
 use Rattle.std.proofs.lemmas.Map.Keys.{sorted_head, sorted_tail}
 use Rattle.ng_base.specs.Order.{path_cmp}
 use Rattle.ng_watch.specs.Keys.{begins}
-use Rattle.ng_link.specs.Instances.{Body, OutletState, Linked, Instances, is_path, linked_at, read_bodies, read, without_below, with_instance}
+use Rattle.ng_instances.specs.Instances.{Body, OutletState, Linked, Instances, is_path, linked_at, read_bodies, read, without_below, with_instance}
 use Rattle.ng_link.specs.Standing.{IsBelow, IsIn, AreIn, body_count, held_count}
-use Rattle.ng_link.proofs.Paths.{path_is, same_path, other_path, below_other, not_after}
+use Rattle.ng_instances.proofs.PathIs.{path_is}
+use Rattle.ng_link.proofs.PathsBelow.{same_path, other_path, below_other, not_after}
 
 -- a body is among those that it is counted with
 count_here : (b : Body) (bs : List Body) → 0 < body_count b.path (b ∷ bs)

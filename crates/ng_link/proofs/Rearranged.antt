@@ -9,11 +9,12 @@ use Rattle.ng_dom.specs.Drawing.{Stands}
 use Rattle.ng_dom.specs.declared.dom.Dom.{Dom}
 use Rattle.ng_link.specs.Arranging.{IsOrder, PicksBy, IsRearranged}
 use Rattle.ng_link.specs.Calls.{arranged_at}
-use Rattle.ng_link.specs.Instances.{Body, OutletState, Linked, Instances, is_path, linked_at, with_outlets, outlets_changed, bodies_arranged}
-use Rattle.ng_link.specs.PlaceOf.{outlet_of_linked}
+use Rattle.ng_instances.specs.Instances.{Body, OutletState, Linked, Instances, is_path, linked_at, with_outlets, outlets_changed, bodies_arranged}
+use Rattle.ng_instances.specs.PlaceOf.{outlet_of_linked}
 use Rattle.ng_link.specs.Standing.{IsBuilt, AreInner, IsStanding}
-use Rattle.ng_link.specs.State.{instances_of, looks_in, places_of, spot_in, state_of, templates_of}
-use Rattle.ng_link.specs.declared.works.Linked as code
+use Rattle.ng_instances.specs.InstanceOf.{instances_of, spot_in}
+use Rattle.ng_link.specs.State.{looks_in, places_of, state_of, templates_of}
+use Rattle.ng_instances.specs.declared.instances.Linked as code
 use Rattle.ng_link.specs.declared.works.Works.{Works}
 use Rattle.ng_link.proofs.BuiltArranged.{built_arranged}
 use Rattle.ng_link.proofs.Inner.{changed_inner}

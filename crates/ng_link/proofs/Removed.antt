@@ -16,7 +16,7 @@ use Rattle.ng_dom.proofs.Focus.{groups_changed}
 use Rattle.ng_dom.proofs.Groups.{names-at, reads-at}
 use Rattle.ng_dom.proofs.Homes.{homes_stay, bodies_are_homed}
 use Rattle.ng_dom.proofs.Keeping.{holds_emptied, holds_cut}
-use Rattle.ng_link.specs.Sources.{source_of, sources}
+use Rattle.ng_build.specs.Sources.{source_of, sources}
 use Rattle.ng_link.specs.Unlinking.{Empties}
 use Rattle.ng_link.proofs.Blocks.{BlockAmong, IsAnchor, anchor_at, block_named, block_becomes}
 use Rattle.ng_link.proofs.BodiesAt.{bodies_cut, bodies_emptied, show_cut, show_emptied, none_at, top_names, homed_cut}

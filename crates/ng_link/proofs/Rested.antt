@@ -15,10 +15,10 @@ use Rattle.ng_watch.specs.Keys.{key_cmp, is_key}
 use Rattle.ng_watch.specs.Seen.{Watcher}
 use Rattle.ng_watch.specs.Table.{Table, found}
 use Rattle.ng_link.specs.Calls.{rested}
-use Rattle.ng_link.specs.Instances.{Instances, Inners, is_site}
+use Rattle.ng_instances.specs.Instances.{Instances, Inners, is_site}
 use Rattle.ng_link.specs.State.{Resting, kept_or, kept_in, resting_of}
-use Rattle.ng_link.proofs.Keys.{key_is, same_key}
-use Rattle.ng_link.proofs.Tables.{put-other, put-same, first_alone, passed, found_filtered, ordered_filtered}
+use Rattle.ng_build.proofs.Keys.{key_is, same_key}
+use Rattle.ng_build.proofs.Tables.{put-other, put-same, first_alone, passed, found_filtered, ordered_filtered}
 
 -- what a watcher had kept, or else what was at rest before
 abbrev rest_or : Option Watcher → Option (Option ViewTree) → Option (Option ViewTree)

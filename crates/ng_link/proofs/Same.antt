@@ -15,17 +15,17 @@ use Rattle.ng_watch.specs.Seen.{Watching, Watcher, WatchStands}
 use Rattle.ng_watch.specs.Table.{watchers_of, found, with_watch, without_watch}
 use Rattle.ng_watch.specs.declared.watched.Watched.{Watched}
 use Rattle.ng_link.specs.Calls.{rested}
-use Rattle.ng_link.specs.Controls.{state_under}
-use Rattle.ng_link.specs.Instances.{is_site}
+use Rattle.ng_build.specs.Controls.{state_under}
+use Rattle.ng_instances.specs.Instances.{is_site}
 use Rattle.ng_link.specs.Laws.{StandingWithCore}
 use Rattle.ng_link.specs.Standing.{WatchersStand, Standing}
 use Rattle.ng_link.specs.State.{kept_or, resting_of, state_of, look_of, looks_of, looks_in, places_of}
-use Rattle.ng_link.specs.declared.works.Listener.{Listener}
+use Rattle.ng_instances.specs.declared.instances.Listener.{Listener}
 use Rattle.ng_link.specs.declared.works.Works.{Works}
 use Rattle.ng_link.proofs.BuiltSame.{built_same}
-use Rattle.ng_link.proofs.Places.{placed_site}
+use Rattle.ng_link.proofs.PlacedSites.{placed_site}
 use Rattle.ng_link.proofs.Rested.{kept_rested}
-use Rattle.ng_link.proofs.Tables.{put-other, removed-other}
+use Rattle.ng_build.proofs.Tables.{put-other, removed-other}
 use Rattle.ng_link.proofs.Watched.{stand_more, stand_put, stand_removed, stand_filtered}
 
 some_at : {X : Type 0} (o : Option X) (x : X) → o ≡ Some x → IsSome o

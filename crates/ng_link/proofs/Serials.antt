@@ -11,8 +11,8 @@ use Rattle.std.specs.declared.cmp.Ordering.TheVariants.{Less, Greater}
 use Rattle.std.proofs.lemmas.Bool.Decides.{nat_tests}
 use Rattle.std.proofs.lemmas.Cmp.{nat_cmp_total, ranked, tied_itself}
 use Rattle.std.proofs.lemmas.Map.Keys.{sorted_head, sorted_tail}
-use Rattle.ng_link.specs.Rows.{spots_by}
-use Rattle.ng_link.proofs.Keys.{equal_numbers}
+use Rattle.ng_instances.specs.Rows.{spots_by}
+use Rattle.ng_build.proofs.Keys.{equal_numbers}
 
 -- a number that is among others has a place there
 pub number_at : (s : ℕ) (ns : List ℕ) → list_any (is_at (nat_cmp s)) ns ≡ true → (j : ℕ) × (slice_get ns j ≡ Some s)

@@ -8,12 +8,14 @@ use Rattle.ng_base.specs.Order.{path_cmp, path_cmp_total}
 use Rattle.ng_base.specs.declared.path.Key.{Key}
 use Rattle.ng_dom.specs.Drawing.{none_stand}
 use Rattle.ng_watch.specs.Keys.{begins}
-use Rattle.ng_link.specs.Instances.{OutletState, Linked, Instances, is_path, linked_at, keys_of, with_outlets, outlets_changed, body_gone, without_below, stands_join, stands_at}
+use Rattle.ng_instances.specs.Instances.{OutletState, Linked, Instances, is_path, linked_at, keys_of, with_outlets, outlets_changed, body_gone, without_below, stands_join, stands_at}
 use Rattle.ng_link.specs.Standing.{IsBelow, IsPlaced, ArePlaced, AreApart, IsHeldIn, AreHeld, held_count}
 use Rattle.ng_link.proofs.BodiesAt.{gone_anchors, gone_undrawn, gone_in, gone_count, gone_itself, gone_other}
 use Rattle.ng_link.proofs.Grown.{all_weaker, all_both, each_found, still_placed, no_some, is_some_of}
 use Rattle.ng_link.proofs.Lookups.{changed_keys, changed_other, changed_here, changed_all, changed_apart, kept_all, kept_apart, kept_pass, kept_found, kept_gone}
-use Rattle.ng_link.proofs.Paths.{path_is, other_path, below_longer, below_other, below_begins, begins_itself, begins_length, not_begins, two_ways, begins_through, begins_each}
+use Rattle.ng_build.proofs.Paths.{begins_itself, begins_length, not_begins, two_ways, begins_through, begins_each}
+use Rattle.ng_instances.proofs.PathIs.{path_is}
+use Rattle.ng_link.proofs.PathsBelow.{other_path, below_longer, below_other, below_begins}
 use Rattle.ng_link.proofs.ReadOff.{in_held, at_path, read_without}
 use Rattle.ng_link.proofs.Sorted.{filter_sorted}
 
@@ -80,9 +82,6 @@ module _ (holder p : List ℕ) (m : Linked) (is : Instances) (child : IsBelow ho
       once = λ r. (let few = gone_count p r k.page.outlets in let at_most = y.once r in omega (arith, few, at_most));
       end = y.end;
     }
-
-    pub cut_placed : ArePlaced places next cut
-    cut_placed = changed_all holder fewer (λ (y : List ℕ × Linked). IsPlaced places next y.0 y.1) is (λ k there y. fewer_placed places holder k y) each
 
     -- those that stay are placed where they were
     abbrev StaysPlaced : List ℕ × Linked → Type 0

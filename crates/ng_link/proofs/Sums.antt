@@ -1,9 +1,10 @@
 -- What bodies come to together, by their paths: as much where the same paths stand as often.
 use Rattle.std.proofs.Common.{◌≡◌, ◌+◌, ◌<◌, ℕ, Bool, true, false, cond, List, [], ◌∷◌, refl, ap, sym, arith}
 use Rattle.ng_link.specs.Arranging.{Rearranges}
-use Rattle.ng_link.specs.Instances.{Body, is_path}
+use Rattle.ng_instances.specs.Instances.{Body, is_path}
 use Rattle.ng_link.specs.Standing.{body_count}
-use Rattle.ng_link.proofs.Paths.{path_is, same_path}
+use Rattle.ng_instances.proofs.PathIs.{path_is}
+use Rattle.ng_link.proofs.PathsBelow.{same_path}
 
 module _ (f : List ℕ → ℕ) where
   abbrev pub sum_of : List Body → ℕ

@@ -16,19 +16,20 @@ use Rattle.ng_drawing.specs.Template.{Outlet, Fragment, Parts}
 use Rattle.ng_drawing.specs.declared.origin.Origin.{Origin}
 use Rattle.ng_parts.specs.Numbering.{is_within, is_apart, is_outlet, is_body, is_undrawn, is_whole}
 use Rattle.ng_parts.proofs.Ranges.{parts_within}
-use Rattle.ng_link.specs.Bindings.{bound_in_table, is_unbound}
-use Rattle.ng_link.specs.Calls.{fills_any, round_by, outlet_on, outlets_from, outlets_on}
-use Rattle.ng_link.specs.Instances.{OutletState, Linked, Instances, Inners, linked_at, linked_for, instance_path, is_path, is_filled_by, key_in, keys_of, groups_from, stands_join}
-use Rattle.ng_link.specs.Registering.{Ground, Round}
+use Rattle.ng_instances.specs.Bindings.{bound_in_table, is_unbound}
+use Rattle.ng_instances.specs.Changing.{fills_any, round_by, outlet_on, outlets_from, outlets_on}
+use Rattle.ng_instances.specs.Instances.{OutletState, Linked, Instances, Inners, linked_at, linked_for, instance_path, is_path, is_filled_by, key_in, keys_of, groups_from, stands_join}
+use Rattle.ng_instances.specs.Registering.{Ground, Round}
 use Rattle.ng_link.specs.Showing.{parts_show}
 use Rattle.ng_link.specs.Standing.{IsUndrawn, AreUndrawn, IsPlaced, ArePlaced, IsBuilt, AreInner}
 use Rattle.ng_link.proofs.Below.{within, apart}
 use Rattle.ng_link.proofs.Free.{AreFree, all_agree, parts_free, groups_free}
 use Rattle.ng_link.proofs.Grown.{each_found}
 use Rattle.ng_link.proofs.Inner.{keys_at, key_leads}
-use Rattle.ng_link.proofs.Keys.{equal_numbers, same_key, other_key}
+use Rattle.ng_build.proofs.Keys.{equal_numbers, same_key, other_key}
 use Rattle.ng_link.proofs.Numbers.{both_true, whole_numbers, whole_undrawn}
-use Rattle.ng_link.proofs.Paths.{path_is, not_path}
+use Rattle.ng_instances.proofs.PathIs.{path_is}
+use Rattle.ng_link.proofs.PathsBelow.{not_path}
 use Rattle.ng_link.proofs.ReadOff.{at_path, read_all}
 use Rattle.ng_link.proofs.Showing.{parts_showing}
 use Rattle.ng_watch.specs.Keys.{is_key}

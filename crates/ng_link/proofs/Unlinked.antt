@@ -19,22 +19,25 @@ use Rattle.ng_value.specs.declared.snapshot.Snap.{Snap}
 use Rattle.ng_watch.specs.Keys.{is_key, begins}
 use Rattle.ng_watch.specs.Table.{found}
 use Rattle.ng_link.specs.Calls.{cut_at}
-use Rattle.ng_link.specs.Controls.{Controls, state_under}
-use Rattle.ng_link.specs.Instances.{OutletState, Linked, Instances, Inners, Owners, is_path, linked_at, instance_path, key_in, keys_of, with_outlets, outlets_changed, body_gone, without_below, inner_without, owners_less, owners_without, unlinked}
+use Rattle.ng_build.specs.Controls.{Controls, state_under}
+use Rattle.ng_instances.specs.Instances.{OutletState, Linked, Instances, Inners, Owners, is_path, linked_at, instance_path, key_in, keys_of, with_outlets, outlets_changed, body_gone, without_below, inner_without, owners_less, owners_without, unlinked}
 use Rattle.ng_link.specs.Standing.{IsBelow, IsPlaced, IsBuilt, AreInner, IsHeldIn, IsStanding}
-use Rattle.ng_link.specs.State.{Resting, kept_or, kept_in, look_of, linked_of, instances_of, resting_of, spot_at, spot_in, places_of, looks_in, state_of, templates_of}
+use Rattle.ng_instances.specs.InstanceOf.{linked_of, instances_of, spot_at, spot_in}
+use Rattle.ng_link.specs.State.{Resting, kept_or, kept_in, look_of, resting_of, places_of, looks_in, state_of, templates_of}
 use Rattle.ng_link.specs.Unlinking.{IsHeldAt, body_cut, CutsOut}
-use Rattle.ng_link.specs.declared.works.Linked as code
+use Rattle.ng_instances.specs.declared.instances.Linked as code
 use Rattle.ng_link.specs.declared.works.Works.{Works}
 use Rattle.ng_link.proofs.BuiltLess.{built_less}
 use Rattle.ng_link.proofs.BodiesAt.{bodies_cut}
 use Rattle.ng_link.proofs.Cuts.{gone_cut}
 use Rattle.ng_link.proofs.Grown.{no_some, is_some_of}
 use Rattle.ng_link.proofs.Inner.{path_alone, keys_case, key_leads, changed_inner, still_linked, on_stays, stays_off, left_path, left_gone, cut_inner}
-use Rattle.ng_link.proofs.Keys.{key_is}
-use Rattle.ng_link.proofs.Paths.{path_is, below_longer, begins_length, not_begins}
+use Rattle.ng_build.proofs.Keys.{key_is}
+use Rattle.ng_build.proofs.Paths.{begins_length, not_begins}
+use Rattle.ng_instances.proofs.PathIs.{path_is}
+use Rattle.ng_link.proofs.PathsBelow.{below_longer}
 use Rattle.ng_link.proofs.ReadOff.{in_held, at_path}
-use Rattle.ng_link.proofs.Tables.{filtered-seen}
+use Rattle.ng_build.proofs.Tables.{filtered-seen}
 
 -- the outlets of an instance change alike
 pub alike_changed : (p : List ℕ) (f g : List OutletState → List OutletState) (is : Instances) → ((l : Linked) → linked_at p is ≡ Some l → f l.page.outlets ≡ g l.page.outlets) → outlets_changed p f is ≡ outlets_changed p g is

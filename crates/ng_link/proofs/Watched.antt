@@ -18,7 +18,7 @@ use Rattle.ng_watch.specs.Table.{Table, found, keeping, with_kept, with_watch, A
 use Rattle.ng_watch.specs.declared.watch.WatchKind.{WatchKind}
 use Rattle.ng_watch.specs.declared.watch.WatchKind.TheVariants as kinds
 use Rattle.ng_link.specs.Laws.{WatchersAreFound}
-use Rattle.ng_link.specs.Rows.{Row, watch_kind, kind_against, kind_with, watching_site, with_first, with_row, with_sites}
+use Rattle.ng_instances.specs.Rows.{Row, watch_kind, kind_against, kind_with, watching_site, with_first, with_row, with_sites}
 use Rattle.ng_link.specs.Standing.{WatchersStand}
 
 -- objects only come

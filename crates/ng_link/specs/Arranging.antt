@@ -4,8 +4,8 @@ use Rattle.std.specs.List.{AllByRecursion}
 use Rattle.ng_dom.specs.Document.{Becomes, Stays}
 use Rattle.ng_dom.specs.Editing.{changed_in, with_groups, picked}
 use Rattle.ng_dom.specs.declared.dom.Dom.{Dom}
-use Rattle.ng_link.specs.Instances.{Body, OutletState, Instances, is_path, linked_at}
-use Rattle.ng_link.specs.PlaceOf.{outlet_of_linked}
+use Rattle.ng_instances.specs.Instances.{Body, OutletState, Instances, is_path, linked_at}
+use Rattle.ng_instances.specs.PlaceOf.{outlet_of_linked}
 use Rattle.ng_link.specs.Standing.{body_count}
 
 -- whether bodies are on the same paths, one by one

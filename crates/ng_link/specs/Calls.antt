@@ -1,18 +1,16 @@
 -- What the calls on the works of a page come to.
-use Rattle.std.specs.Prelude.{ℕ, ◌+◌, ◌&&◌, Bool, false, List, [], ◌∷◌, map, drop, Option, None, not, Some, is_some, slice_get, slice_index_or, if◌then◌else◌}
+use Rattle.std.specs.Prelude.{ℕ, ◌+◌, Bool, List, [], ◌∷◌, None, not, Some, if◌then◌else◌}
 use Rattle.std.specs.BTreeMap.{insert_entry}
-use Rattle.std.specs.List.{filter, list_any}
+use Rattle.std.specs.List.{filter}
 use Rattle.std.specs.Ordering.{nat_cmp}
 use Rattle.std.specs.Map.{remove_entry}
 use Rattle.ng_core.specs.State as act
 use Rattle.ng_base.specs.Views.{ViewTree}
 use Rattle.ng_base.specs.declared.path.Key.{Key}
-use Rattle.ng_behaviour.specs.Scopes.{Scope, path_at, live_at}
+use Rattle.ng_behaviour.specs.Scopes.{Scope, path_at}
 use Rattle.ng_control.specs.State.{ControlState, with_model}
 use Rattle.ng_drawing.specs.Nodes.{nodes}
-use Rattle.ng_drawing.specs.Origins.{inner_home}
-use Rattle.ng_drawing.specs.Roles.{Role}
-use Rattle.ng_drawing.specs.Template.{Outlet, OutletScope, Fragment}
+use Rattle.ng_drawing.specs.Template.{Fragment}
 use Rattle.ng_drawing.specs.declared.origin.Origin.{Origin}
 use Rattle.ng_parts.specs.Directing.{Programs}
 use Rattle.ng_compose.specs.Kept.{Named}
@@ -20,14 +18,14 @@ use Rattle.ng_watch.specs.Ended.{over, without_over}
 use Rattle.ng_watch.specs.Keys.{key_cmp, is_key, begins}
 use Rattle.ng_watch.specs.Seen.{Watching}
 use Rattle.ng_watch.specs.Table.{Table, with_kept, with_watch, without_watch, under, without_under}
-use Rattle.ng_link.specs.Bindings.{bound_in_table}
-use Rattle.ng_link.specs.Controls.{controlled, controls_begun, control_changed}
-use Rattle.ng_link.specs.Handlers.{handled, scoped}
-use Rattle.ng_link.specs.Registering.{Ground, scope_in_ground, outside_in_ground, Round, Registered, mark_in, marks_from, keys_on, site_rows}
-use Rattle.ng_link.specs.Rows.{Row, with_sites}
-use Rattle.ng_link.specs.Instances.{Body, OutletState, Inner, Page, Linked, Instances, Inners, scope_number, linked_for, is_site_of, is_site, is_filled_by, with_instance, with_inner, outlets_changed, body_added, bodies_arranged, unlinked, owners_without, inner_without}
-use Rattle.ng_link.specs.Shape.{keys_or, anchors}
+use Rattle.ng_build.specs.Controls.{controlled, controls_begun, control_changed}
+use Rattle.ng_build.specs.Handlers.{handled, scoped}
+use Rattle.ng_instances.specs.Registering.{Registered, marks_from, keys_on, site_rows}
+use Rattle.ng_instances.specs.Rows.{Row, with_sites}
+use Rattle.ng_instances.specs.Instances.{Body, Page, Linked, Instances, Inners, linked_for, is_site, with_instance, with_inner, outlets_changed, body_added, bodies_arranged, unlinked, owners_without, inner_without}
+use Rattle.ng_build.specs.Shape.{keys_or, anchors}
 use Rattle.ng_link.specs.State.{Listening, Resting, State}
+use Rattle.ng_instances.specs.Changing.{is_drawn_in, outlets_on, inner_on, Place, at_top, in_outlet}
 
 -- nothing is watched and nothing is linked yet
 abbrev pub blank : List Named → List Programs → act.State → State
@@ -43,14 +41,6 @@ with_control_at f k s = record s { controls = control_changed f k s.controls }
 -- The watcher of a key keeps a snapshot. A control whose model that is drops what was typed, where that was read as another value.
 abbrev pub keeping_at : Key → ViewTree → State → State
 keeping_at k v s = record s { watchers = with_kept k (Some v) s.watchers; controls = control_changed (λ c. with_model c v) k s.controls }
-
--- whether the site of a key is drawn: one that fills outlets is not, nor one of a binding
-abbrev pub fills_any : ℕ → List OutletState → Bool
-fills_any serial os = list_any (is_filled_by serial) os
-
-abbrev pub is_drawn_in : Option Linked → Key → Bool
-is_drawn_in None k = false
-is_drawn_in (Some l) k = is_site_of l.page k.serial.0 && (not (fills_any k.serial.0 l.page.outlets) && not (is_some (bound_in_table k.serial.0 l.page.bounds)))
 
 abbrev pub is_drawn : State → Key → Bool
 is_drawn s k = is_drawn_in (linked_for s.inner k.path s.instances) k
@@ -87,27 +77,6 @@ ended_at s = record s {
   resting = rested s.inner s.instances (over s.core.objects s.watchers) s.resting;
 }
 
--- the outlets of a fragment whose sites have these numbers of registration, at anchors of these names; nothing fills them yet
-abbrev pub round_by : Origin → Ground → Option OutletScope → Round
-round_by which g None = record { home = inner_home which; scope = scope_in_ground g 0; outsides = g.outsides }
-round_by which g (Some s) = record { home = s.home; scope = scope_in_ground g s.scope; outsides = map (outside_in_ground g) s.outsides }
-
-abbrev pub outlet_on : Round → List ℕ → Outlet → ℕ → OutletState
-outlet_on r serials o a = record { serial = slice_index_or serials o.site 0; home = r.home; scope = r.scope; outsides = r.outsides; filling = o.filling; anchor = a; bodies = [] }
-
-abbrev pub outlets_from : Origin → Ground → List ℕ → Fragment → ℕ → List Outlet → List ℕ → List OutletState
-outlets_from which g serials f i [] names = []
-outlets_from which g serials f i (o ∷ os) [] = []
-outlets_from which g serials f i (o ∷ os) (a ∷ names) = outlet_on (round_by which g (slice_get f.spots i)) serials o a ∷ outlets_from which g serials f (i + 1) os names
-
-abbrev pub outlets_on : Origin → Ground → List ℕ → Fragment → List ℕ → List OutletState
-outlets_on which g serials f names = outlets_from which g serials f 0 f.outlets names
-
--- the instance of a fragment on a scope of a path: its sites have these numbers of registration, its nodes the names
--- from one on, and its handlers, controls and anchors are entered with these
-abbrev pub inner_on : List Scope → List ℕ → List Inner
-inner_on scopes ns = map (λ n. record { scope = n; path = path_at scopes n }) (drop 1 ns)
-
 abbrev pub page_on : List Scope → Origin → ℕ → Fragment → Registered → ℕ → Page
 page_on scopes which scope f r node = record {
   origin = which;
@@ -126,16 +95,6 @@ page_on scopes which scope f r node = record {
 
 abbrev pub linked_on : List Scope → Origin → ℕ → Fragment → Registered → ℕ → Linked
 linked_on scopes which scope f r node = record { fragment = f; page = page_on scopes which scope f r node }
-
--- whether one of an instance's sites is on a scope that lives
-abbrev pub any_on : List Scope → Page → List ℕ → Bool
-any_on scopes p ns = list_any (λ n. live_at scopes (scope_number p (mark_in p.marks n).under)) ns
-
--- where an instance stands: it is the page's, or a body in an outlet of another instance, which stands for this, and before the i-th of
--- those that are there, or at the end
-pub data Place : Type 0 where
-  at_top : Place
-  in_outlet : (holder : List ℕ) → (outlet : ℕ) → (i : ℕ) → Role → Place
 
 abbrev pub taken_in : Place → List ℕ → Instances → Instances
 taken_in at_top p is = is

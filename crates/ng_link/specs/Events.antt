@@ -8,9 +8,9 @@ use Rattle.ng_dom.specs.Nodes.{NamedForest}
 use Rattle.ng_language.specs.Trees.{Trees}
 use Rattle.ng_control.specs.State.{ControlState}
 use Rattle.ng_control.specs.declared.kind.ControlKind.{ControlKind}
-use Rattle.ng_link.specs.Controls.{ControlHere, Controlled, controlled_at, state_under, kind_in}
-use Rattle.ng_link.specs.Handlers.{Handled, programs_at, is_entered}
-use Rattle.ng_link.specs.Instances.{Linked, linked_at, scope_number, stands_at, owner_of}
+use Rattle.ng_build.specs.Controls.{ControlHere, Controlled, controlled_at, state_under, kind_in}
+use Rattle.ng_build.specs.Handlers.{Handled, programs_at, is_entered}
+use Rattle.ng_instances.specs.Instances.{Linked, linked_at, scope_number, stands_at, owner_of}
 use Rattle.ng_link.specs.State.{State, looks_in}
 
 -- what stands of what is linked

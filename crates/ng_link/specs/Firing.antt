@@ -6,8 +6,9 @@ use Rattle.ng_dom.specs.Drawing.{Look, Source, of_text, of_comment, of_element, 
 use Rattle.ng_dom.specs.Editing.{changed_in, with_text, with_attributes}
 use Rattle.ng_dom.specs.declared.dom.Dom.{Dom}
 use Rattle.ng_markup.specs.Forest.{Attributes}
-use Rattle.ng_link.specs.Sources.{sources}
-use Rattle.ng_link.specs.State.{state_of, looks_in, spot_in}
+use Rattle.ng_build.specs.Sources.{sources}
+use Rattle.ng_instances.specs.InstanceOf.{spot_in}
+use Rattle.ng_link.specs.State.{state_of, looks_in}
 use Rattle.ng_link.specs.declared.firing.Redraw as code
 use Rattle.ng_link.specs.declared.firing.Redraw.TheVariants as changes
 use Rattle.ng_link.specs.declared.works.Works.{Works}

@@ -13,8 +13,8 @@ use Rattle.ng_drawing.specs.Looks.{Seen}
 use Rattle.ng_drawing.specs.Template.{Parts}
 use Rattle.ng_watch.specs.Table.{Table, AllStand}
 use Rattle.ng_link.specs.Events.{named}
-use Rattle.ng_link.specs.Instances.{OutletState, Linked, Instances, linked_at, read_bodies, groups_from, stands_at, outlets_changed}
-use Rattle.ng_link.specs.Shape.{shape, anchors}
+use Rattle.ng_instances.specs.Instances.{OutletState, Linked, Instances, linked_at, read_bodies, groups_from, stands_at, outlets_changed}
+use Rattle.ng_build.specs.Shape.{shape, anchors}
 use Rattle.ng_link.specs.State.{look_of, state_of, shown}
 use Rattle.ng_link.specs.Standing.{AreIn, ArePlaced, AreApart, WatchersStand, Standing, Displays}
 use Rattle.ng_link.specs.declared.works.Works.{Works}

@@ -1,41 +1,27 @@
 -- What is known of an instance whose nodes were made and whose sites are watched, before it is noted.
-use Rattle.std.specs.Prelude.{ℕ, ◌≡◌, ◌<◌, false, [], ◌∷◌, List, map, Option, Some, None, drop, length, slice_get}
+use Rattle.std.specs.Prelude.{ℕ, ◌≡◌, ◌<◌, false, [], ◌∷◌, Option, Some, None, drop, length, slice_get}
 use Rattle.std.specs.List.{AllByRecursion}
 use Rattle.std.specs.List.Sorted.{IsStrictlySortedBy}
 use Rattle.std.specs.Ordering.{nat_cmp}
-use Rattle.ng_behaviour.specs.Scopes.{Scope, path_at}
+use Rattle.ng_behaviour.specs.Scopes.{path_at}
 use Rattle.ng_dom.specs.Document.{next_name}
 use Rattle.ng_drawing.specs.Nodes.{nodes}
 use Rattle.ng_drawing.specs.Template.{Fragment}
 use Rattle.ng_drawing.specs.declared.origin.Origin.{Origin}
 use Rattle.ng_parts.specs.Numbering.{after_parts, after_outlets}
-use Rattle.ng_link.specs.Building.{IsStood}
-use Rattle.ng_link.specs.Bindings.{Bound, bound_in_table, BoundStands}
-use Rattle.ng_link.specs.BoundOf.{inner_of}
-use Rattle.ng_link.specs.Calls.{inner_on, outlets_on, page_on, linked_on}
-use Rattle.ng_link.specs.Controls.{controlled}
-use Rattle.ng_link.specs.Handlers.{handled, scoped}
-use Rattle.ng_link.specs.MarksOf.{marks_of}
-use Rattle.ng_link.specs.Rows.{with_sites, spots_by}
-use Rattle.ng_link.specs.Instances.{keys_of}
-use Rattle.ng_link.specs.Linking.{is_bound_site, steps, site_count, fault_in}
-use Rattle.ng_link.specs.Registering.{Ground, Registered, kept_of, marks_from, keys_on, site_rows}
-use Rattle.ng_link.specs.Shape.{keys_or, shape, unfilled, holes, anchors}
+use Rattle.ng_build.specs.Building.{IsStood}
+use Rattle.ng_instances.specs.Bindings.{Bound, bound_in_table, BoundStands}
+use Rattle.ng_link.specs.Calls.{page_on, linked_on}
+use Rattle.ng_instances.specs.Rows.{with_sites, spots_by}
+use Rattle.ng_instances.specs.Instances.{keys_of}
+use Rattle.ng_build.specs.Linking.{is_bound_site, steps, site_count, fault_in}
+use Rattle.ng_instances.specs.Registering.{Registered, kept_of, site_rows}
+use Rattle.ng_build.specs.Shape.{shape, unfilled, holes}
 use Rattle.ng_link.specs.Standing.{IsBelow, AreUndrawn}
-use Rattle.ng_link.specs.State.{State, handled_of, controlled_of, outlet_of, linked_of, state_of, templates_of}
-use Rattle.ng_link.specs.declared.linking.Laid as code_laid
-use Rattle.ng_link.specs.declared.works.Linked as code
+use Rattle.ng_instances.specs.InstanceOf.{linked_of}
+use Rattle.ng_link.specs.State.{State, state_of, templates_of}
+use Rattle.ng_instances.specs.declared.instances.Linked as code
 use Rattle.ng_link.specs.declared.works.Works.{Works}
-
--- What an instance of a fragment on a scope has beside its nodes and watchers.
-pub record IsLaid (scopes : List Scope) (which : Origin) (scope : ℕ) (f : Fragment) (g : Ground) (serials : List ℕ) (node : ℕ) (laid : code_laid.Laid) : Type 0 where
-  pub handlers : handled_of laid.handlers.entries ≡ handled node f.parts []
-  pub controls : controlled_of laid.controls.entries ≡ controlled (keys_or (path_at scopes scope) (keys_on scopes f g 0 serials)) node f.parts []
-  pub outlets : map outlet_of laid.outlets.items ≡ outlets_on which g serials f (anchors node f.parts)
-  pub inner : map inner_of laid.inner.items ≡ inner_on scopes g.scopes
-  pub marks : marks_of laid.marks.entries ≡ marks_from f 0 serials []
-  pub elements : laid.elements.entries ≡ scoped node f.parts []
-  pub keys : laid.keys.items ≡ keys_on scopes f g 0 serials
 
 -- A fragment was linked on a scope: its sites and outlets are numbered in document order, it is known in which node each
 -- site is drawn, its sites are watched, and its nodes stand at the top, or in a group of an anchor.

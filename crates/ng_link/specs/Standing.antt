@@ -17,13 +17,13 @@ use Rattle.ng_parts.specs.Numbering.{after_parts, is_apart, after_outlets}
 use Rattle.ng_watch.specs.Keys.{begins}
 use Rattle.ng_watch.specs.Seen.{WatchStands}
 use Rattle.ng_watch.specs.Table.{Table}
-use Rattle.ng_link.specs.Bindings.{is_unbound}
-use Rattle.ng_link.specs.Building.{HomedAll, AllAt}
-use Rattle.ng_link.specs.Instances.{Body, OutletState, Inner, Linked, Instances, Inners, keys_of, is_path, linked_at, instance_path, stands_at}
-use Rattle.ng_link.specs.Registering.{mark_at, mark_in}
-use Rattle.ng_link.specs.Shape.{holes, anchors}
+use Rattle.ng_instances.specs.Bindings.{is_unbound}
+use Rattle.ng_build.specs.Building.{HomedAll, AllAt}
+use Rattle.ng_instances.specs.Instances.{Body, OutletState, Inner, Linked, Instances, Inners, keys_of, is_path, linked_at, instance_path, stands_at}
+use Rattle.ng_instances.specs.Registering.{mark_at, mark_in}
+use Rattle.ng_build.specs.Shape.{holes, anchors}
 use Rattle.ng_link.specs.Showing.{parts_show}
-use Rattle.ng_link.specs.Sources.{sources}
+use Rattle.ng_build.specs.Sources.{sources}
 use Rattle.ng_link.specs.State.{State, state_of, places_of, looks_in}
 use Rattle.ng_link.specs.declared.works.Works.{Works}
 

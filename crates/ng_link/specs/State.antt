@@ -1,10 +1,6 @@
 -- The state of a page, as contracts see its works.
-use Rattle.std.specs.Prelude.{ℕ, List, [], ◌∷◌, Option, Some, None, map, option_map, option_and_then, slice_get, not, is_some}
-use Rattle.std.specs.BTreeMap.{is_at}
-use Rattle.std.specs.Ordering.{nat_cmp}
-use Rattle.std.specs.Map.{lookup, keys_of as map_keys}
-use Rattle.std.specs.declared.alloc.Global.{Global}
-use Rattle.std.specs.declared.vec.Vec.{Vec}
+use Rattle.std.specs.Prelude.{ℕ, List, [], ◌∷◌, Option, Some, None, map, option_map, not, is_some}
+use Rattle.std.specs.Map.{lookup}
 use Rattle.ng_core.specs.Frames as cores
 use Rattle.ng_core.specs.State as act
 use Rattle.ng_base.specs.Views.{ViewTree}
@@ -15,37 +11,27 @@ use Rattle.ng_drawing.specs.Drawing.{Rendered}
 use Rattle.ng_drawing.specs.Instance as drawn
 use Rattle.ng_drawing.specs.Instance.{SiteState, Instance, Group, instance_with, no_outlets, instances_from, outlets_from}
 use Rattle.ng_drawing.specs.Roles.{Role}
-use Rattle.ng_drawing.specs.RolesOf.{role_of}
 use Rattle.ng_drawing.specs.Looks.{Seen, seen_by}
 use Rattle.ng_drawing.specs.Nodes.{forest_count}
-use Rattle.ng_drawing.specs.Template.{Template, no_fragment}
+use Rattle.ng_drawing.specs.Template.{no_fragment}
 use Rattle.ng_language.specs.Trees.{Trees}
 use Rattle.ng_markup.specs.Forest.{Forest}
 use Rattle.ng_parse.specs.ProgramOf.{program}
-use Rattle.ng_compose.specs.Kept.{Named, fragments_in}
-use Rattle.ng_parts.specs.FragmentOf.{filling_of}
+use Rattle.ng_compose.specs.Kept.{Named}
 use Rattle.ng_compose.specs.Kept as templates
 use Rattle.ng_parts.specs.Directing.{Programs}
 use Rattle.ng_compose.specs.DirectivesOf.{directives_of}
-use Rattle.ng_parts.specs.Seen.{handler_of}
-use Rattle.ng_parts.specs.declared.acts.Handler.{Handler}
 use Rattle.ng_value.specs.Snaps.{snap_of}
 use Rattle.ng_value.specs.declared.snapshot.Snap.{Snap}
 use Rattle.ng_watch.specs.Keys.{is_key}
 use Rattle.ng_watch.specs.Seen.{Watcher}
 use Rattle.ng_watch.specs.Table.{Table, watchers_of, found}
-use Rattle.ng_link.specs.Controls.{ControlHere, Controlled, Controls, state_under}
-use Rattle.ng_link.specs.Handlers.{Handled}
-use Rattle.ng_link.specs.BoundOf.{bounds_of, inner_of}
-use Rattle.ng_link.specs.Instances.{Body, OutletState, Page, Linked, Instances, Inners, Owners, is_path, linked_at, instance_path, scope_number, key_in, read, read_after}
-use Rattle.ng_link.specs.MarksOf.{marks_of}
-use Rattle.ng_link.specs.Registering.{mark_in}
-use Rattle.ng_link.specs.declared.works.Body as code_body
-use Rattle.ng_link.specs.declared.works.ControlHere as code_control
-use Rattle.ng_link.specs.declared.works.OutletState as code_outlet
-use Rattle.ng_link.specs.declared.works.Linked as code
-use Rattle.ng_link.specs.declared.works.Listener.{Listener}
+use Rattle.ng_build.specs.Controls.{Controls, state_under}
+use Rattle.ng_instances.specs.Instances.{Body, OutletState, Page, Linked, Instances, Inners, Owners, linked_at, scope_number, key_in, read, read_after}
+use Rattle.ng_instances.specs.Registering.{mark_in}
+use Rattle.ng_instances.specs.declared.instances.Listener.{Listener}
 use Rattle.ng_link.specs.declared.works.Works.{Works}
+use Rattle.ng_instances.specs.InstanceOf.{instances_of, spot_in}
 
 -- the program that a declared watch runs, and the scope that it runs on
 pub record Listening : Type 0 where
@@ -154,47 +140,6 @@ live_nodes s = forest_count (shown s)
 abbrev pub templates_of : Works → List Named
 templates_of w = templates.templates_of w.templates
 
-abbrev pub template_at : List Named → ℕ → Option Template
-template_at all n = option_map (λ k. k.1) (slice_get all n)
-
-abbrev pub handled_of : List (ℕ × Vec Handler Global) → Handled
-handled_of t = map (λ e. (e.0, map handler_of e.1.items)) t
-
-abbrev pub control_of : code_control.ControlHere → ControlHere
-control_of c = record { key = c.key; kind = c.kind; writes = program c.writes; changes = map program c.changes.items }
-
-abbrev pub controlled_of : List (ℕ × code_control.ControlHere) → Controlled
-controlled_of t = map (λ e. (e.0, control_of e.1)) t
-
-abbrev pub body_of : code_body.Body → Body
-body_of b = record { path = b.path; role = role_of b.role }
-
-abbrev pub outlet_of : code_outlet.OutletState → OutletState
-outlet_of o = record { serial = o.serial; home = o.home; scope = o.scope.0; outsides = map (λ s. s.0) o.outsides.items; filling = filling_of o.filling; anchor = o.anchor; bodies = map body_of o.bodies.items }
-
--- an instance keeps under the number of each site the node that it is drawn in
-abbrev pub page_of : List ℕ → code.Linked → Page
-page_of path i = record {
-  origin = i.origin;
-  scope = i.scope.0;
-  path = path;
-  serials = map_keys i.spots.entries;
-  node = i.node;
-  handlers = handled_of i.handlers.entries;
-  controls = controlled_of i.controls.entries;
-  outlets = map outlet_of i.outlets.items;
-  inner = map inner_of i.inner.items;
-  marks = marks_of i.marks.entries;
-  elements = i.elements.entries;
-  bounds = bounds_of i.bounds.entries;
-}
-
-abbrev pub linked_of : List Named → List ℕ → code.Linked → Linked
-linked_of all path i = record { fragment = fragments_in all i.origin; page = page_of path i }
-
-abbrev pub instances_of : List Named → List (List ℕ × code.Linked) → Instances
-instances_of all is = map (λ e. (e.0, linked_of all e.0 e.1)) is
-
 abbrev pub resting_of : List (Key × Option Snap) → Resting
 resting_of r = map (λ e. (e.0, option_map snap_of e.1)) r
 
@@ -218,13 +163,6 @@ state_of w = record {
   inner = w.inner.entries;
   next_node = next_name w.dom;
 }
-
--- the node that the site of a key is drawn in
-abbrev pub spot_at : code.Linked → Key → Option ℕ
-spot_at i k = lookup (is_at (nat_cmp k.serial.0)) i.spots.entries
-
-abbrev pub spot_in : Inners → List (List ℕ × code.Linked) → Key → Option ℕ
-spot_in inner is k = option_and_then (λ i. spot_at i k) (lookup (is_path (instance_path inner k.path)) is)
 
 -- the node that the site of a key is drawn in, among all that stands
 abbrev pub places_of : Works → Key → Option ℕ

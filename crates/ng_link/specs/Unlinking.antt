@@ -7,7 +7,7 @@ use Rattle.ng_dom.specs.Nodes.{NamedForest, names_of}
 use Rattle.ng_dom.specs.Removal.{groups_in, group_emptied, AreGone, IsThere, IsApartFromOthers}
 use Rattle.ng_dom.specs.Rooms.{ReadsIn}
 use Rattle.ng_dom.specs.declared.dom.Dom.{Dom}
-use Rattle.ng_link.specs.Instances.{Body, OutletState}
+use Rattle.ng_instances.specs.Instances.{Body, OutletState}
 
 -- the i-th of some bodies has this path
 abbrev pub IsBodyAt : List ℕ → ℕ → List Body → Type 0

@@ -4,18 +4,20 @@ ghost use Rattle.ng_base.specs.declared.path.Key.{Key};
 ghost use Rattle.ng_compose.specs.Kept.{Named};
 ghost use Rattle.ng_link.specs.Arranging.{are_alike as alike_of, ArePlaces, AreAt, IsPlaceOf, IsOrder, PicksBy, IsRearranged};
 ghost use Rattle.ng_link.specs.Calls.{arranged_at};
-ghost use Rattle.ng_link.specs.Instances.{Body as BodyOf, Inners, with_bodies, bodies_arranged, outlets_changed, linked_at};
-ghost use Rattle.ng_link.specs.PlaceOf.{outlet_of_linked};
+ghost use Rattle.ng_instances.specs.Instances.{Body as BodyOf, Inners, with_bodies, bodies_arranged, outlets_changed, linked_at};
+ghost use Rattle.ng_instances.specs.PlaceOf.{outlet_of_linked};
 ghost use Rattle.ng_link.specs.Standing.{IsStanding};
-ghost use Rattle.ng_link.specs.State.{body_of, outlet_of, instances_of, spot_in, state_of, templates_of};
+ghost use Rattle.ng_instances.specs.InstanceOf.{body_of, outlet_of, instances_of, spot_in};
+ghost use Rattle.ng_link.specs.State.{state_of, templates_of};
 
-use crate::outlets::outlet_in;
-use crate::works::{Body, Linked, OutletState, Works};
+use crate::works::Works;
 use ng_base::fault::Memory;
 use ng_base::lists::Numbers;
 use ng_base::name::{NodeId, Serial};
 use ng_base::path::Path;
 use ng_dom::dom::Dom;
+use ng_instances::instances::{Body, Linked, OutletState};
+use ng_instances::outlets::outlet_in;
 use std::alloc::Global;
 use std::collections::BTreeMap;
 
@@ -123,7 +125,7 @@ fn put_bodies(state: &mut OutletState, bodies: Vec<Body>)
 }
 
 /// The outlet of a number gets other bodies.
-#[tactic(auto, using(crate::proofs::Written::arranged_set, crate::proofs::Written::arranged_past))]
+#[tactic(auto, using(ng_instances::proofs::Written::arranged_set, ng_instances::proofs::Written::arranged_past))]
 fn set_bodies(outlets: &mut Vec<OutletState>, outlet: usize, bodies: Vec<Body>)
     ensures { map outlet_of outlets.new.items ≡ bodies_arranged outlet (map body_of bodies.items) (map outlet_of outlets.old.items) }
 {

@@ -1,55 +1,21 @@
-//! Watches that programs declare come and go.
-ghost use Rattle.std.specs.Prelude.{◌≡◌, ◌&&◌, List, map, not, is_some, length, OnOk, IfErr};
-ghost use Rattle.std.specs.BTreeMap.{is_at};
-ghost use Rattle.std.specs.Map.{lookup};
-ghost use Rattle.std.specs.Ordering.{nat_cmp};
+//! Watches that programs declare.
+ghost use Rattle.std.specs.Prelude.{◌≡◌, length, OnOk, IfErr};
 ghost use Rattle.ng_dom.specs.Drawing.{Stands};
-ghost use Rattle.ng_compose.specs.Kept.{Named};
 ghost use Rattle.ng_watch.specs.Seen.{watching_of, WatchStands};
-ghost use Rattle.ng_link.specs.Calls.{fills_any, is_drawn_in, unset_at, declared_at, undeclared_at};
-ghost use Rattle.ng_link.specs.Instances.{linked_for};
+ghost use Rattle.ng_link.specs.Calls.{unset_at, declared_at, undeclared_at};
 ghost use Rattle.ng_link.specs.Standing.{Standing};
-ghost use Rattle.ng_link.specs.State.{outlet_of, instances_of, listening_of, state_of, templates_of};
+ghost use Rattle.ng_link.specs.State.{listening_of, state_of, templates_of};
 
-use crate::works::{Linked, Listener, OutletState, Works, instance_of};
+use crate::works::Works;
 use ng_base::fault::Memory;
-use ng_base::path::{Key, Path};
+use ng_base::path::Key;
+use ng_instances::declaring::is_drawn;
+use ng_instances::instances::Listener;
 use ng_watch::watch::Watch;
-use std::collections::BTreeMap;
-
-/// Whether a site fills an outlet.
-fn fills_any(outlets: &[OutletState], serial: u64) -> bool
-    ensures { result ≡ fills_any serial (map outlet_of outlets.now) }
-{
-    for outlet in outlets {
-        if outlet.serial == serial {
-            return true;
-        }
-    }
-    false
-}
-
-/// Whether an instance has a site that is drawn, by its number: it fills no outlet, and is no binding's.
-fn draws(one: &Linked, serial: u64) -> bool
-    ensures { result ≡ (is_some (lookup (is_at (nat_cmp serial)) one.now.spots.entries) && (not (fills_any serial (map outlet_of one.now.outlets.items)) && not (is_some (lookup (is_at (nat_cmp serial)) one.now.bounds.entries)))) }
-{
-    one.spots.contains_key(&serial)
-        && (!fills_any(one.outlets.as_slice(), serial) && !one.bounds.contains_key(&serial))
-}
-
-/// Whether the site of a key is drawn.
-fn is_drawn(instances: &BTreeMap<Path, Linked>, inner: &BTreeMap<Path, Path>, key: &Key) -> bool
-    ensures { (all : List Named) → result ≡ is_drawn_in (linked_for inner.now.entries key.now.path (instances_of all instances.now.entries)) key.now }
-{
-    match instance_of(instances, inner, &key.path) {
-        None => false,
-        Some(one) => draws(one, key.serial.0),
-    }
-}
 
 impl Works {
-    /// A declared watch, or a site that fills outlets or is a binding's, keeps nothing any more, so that it is dirty again: what is done where its fire
-    /// met a fault. A site that is drawn keeps what it has.
+    /// A declared watch, or a site that fills outlets or is a binding's, keeps nothing any more, so that it is dirty again: what is done
+    /// where its fire met a fault. A site that is drawn keeps what it has.
     pub fn unset(&mut self, key: &Key)
         ensures state { state_of self.new ≡ unset_at key.now (state_of self.old) }
         ensures core { self.new.core ≡ self.old.core }

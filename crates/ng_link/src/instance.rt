@@ -4,19 +4,21 @@ ghost use Rattle.ng_drawing.specs.Instance.{instances_from};
 ghost use Rattle.ng_drawing.specs.InstanceOf.{state_of as seen_state, instance_of as seen_instance, group_of as seen_group};
 ghost use Rattle.ng_compose.specs.Kept.{fragments_in};
 ghost use Rattle.ng_value.specs.Snaps.{snap_of};
-ghost use Rattle.ng_link.specs.Controls.{state_under};
-ghost use Rattle.ng_link.specs.Instances.{Body as BodyOf, read_bodies};
-ghost use Rattle.ng_link.specs.State.{body_of, outlet_of, page_of, templates_of, kept_in, site_state, site_states, nothing_linked, roles_in, groups_in, instance_at, body_at, instance, state_of};
+ghost use Rattle.ng_build.specs.Controls.{state_under};
+ghost use Rattle.ng_instances.specs.Instances.{Body as BodyOf, read_bodies};
+ghost use Rattle.ng_instances.specs.InstanceOf.{body_of, outlet_of, page_of};
+ghost use Rattle.ng_link.specs.State.{templates_of, kept_in, site_state, site_states, nothing_linked, roles_in, groups_in, instance_at, body_at, instance, state_of};
 
-use crate::copying::key_on;
 use crate::looks::kept_in;
-use crate::works::{Body, Linked, OutletState, Works};
+use crate::works::Works;
 use ng_base::fault::Memory;
 use ng_base::name::{ScopeId, TplId};
 use ng_base::path::{Key, Path};
+use ng_build::copying::key_on;
 use ng_control::Control;
 use ng_drawing::instance::{Instance, Instances, SiteState};
 use ng_drawing::origin::{Home, Origin};
+use ng_instances::instances::{Body, Linked, OutletState};
 use ng_value::copies::copied;
 use ng_value::snapshot::Snap;
 

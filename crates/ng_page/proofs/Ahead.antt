@@ -22,7 +22,8 @@ use Rattle.ng_watch.specs.Walks.{Arrival, behind_all, at_watcher, Walks, came_to
 use Rattle.ng_watch.specs.declared.watch.Verdict.{Verdict}
 use Rattle.ng_page.specs.PageLaws.{is_itself, key_is}
 use Rattle.ng_page.specs.PageMachine.{State, found_as, verdict_of, verdict_at, tell, tested_of, tested, handed_on, handed_on_of, handed_on_at, page_machine}
-use Rattle.ng_page.specs.PlaceOf.{IsAtStage, IsAtWatcher, WorksAre, Holds, judged_in, judged_at, seen_found, key_at, last_at, found_there, state_of}
+use Rattle.ng_commands.specs.BetweenSteps.{WorksAre}
+use Rattle.ng_page.specs.PlaceOf.{IsAtStage, IsAtWatcher, Holds, judged_in, judged_at, seen_found, key_at, last_at, found_there, state_of}
 use Rattle.ng_page.specs.declared.engine.Engine.{Engine}
 use Rattle.ng_page.proofs.Stages.{first_next, after_next}
 

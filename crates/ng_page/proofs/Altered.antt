@@ -4,9 +4,9 @@ use Rattle.std.specs.Prelude.{◌==◌}
 use Rattle.std.specs.List.{AllByRecursion}
 use Rattle.std.proofs.lemmas.Bool.{eqb-true, eq-eqb}
 use Rattle.ng_drawing.specs.Template.{Outlet}
-use Rattle.ng_link.specs.Instances.{Body, OutletState, with_body, body_added, with_bodies, bodies_arranged, without_body, body_gone}
+use Rattle.ng_instances.specs.Instances.{Body, OutletState, with_body, body_added, with_bodies, bodies_arranged, without_body, body_gone}
 use Rattle.ng_link.specs.Standing.{body_count, held_count}
-use Rattle.ng_page.specs.Settled.{AreOutlets}
+use Rattle.ng_commands.specs.Settled.{AreOutlets}
 use Rattle.ng_page.proofs.Bodies.{filter_none}
 
 -- what holds at each place holds of all

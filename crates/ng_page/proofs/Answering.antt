@@ -6,17 +6,18 @@ use Rattle.ng_base.specs.declared.fault.Memory.{Memory as Wanted}
 use Rattle.ng_drawing.specs.Drawing.{shown_as}
 use Rattle.ng_link.specs.State.{shown, rendering}
 use Rattle.ng_page.specs.Answered.{WhenOk}
-use Rattle.ng_page.specs.Dispatch.{Happening, Dispatches, last_digest}
+use Rattle.ng_commands.specs.Handling.{Happening}
+use Rattle.ng_page.specs.Dispatch.{Dispatches, last_digest}
 use Rattle.ng_page.specs.Dispatched.{told_all, Dispatched}
 use Rattle.ng_page.specs.PageOf.{state_of, IsPage}
-use Rattle.ng_page.specs.PlaceOf.{PageIs}
-use Rattle.ng_page.specs.Settled.{IsSettled}
+use Rattle.ng_commands.specs.BetweenSteps.{PageIs}
+use Rattle.ng_commands.specs.Settled.{IsSettled}
 use Rattle.ng_page.specs.declared.engine.Engine.{Engine}
 use Rattle.ng_page.specs.declared.outcome.Outcome.{Outcome}
 use Rattle.ng_page.specs.declared.outcome.PageFault.TheVariants.{Idle, Spent, Memory}
 use Rattle.ng_page.specs.declared.page.Page.{Page}
 use Rattle.ng_page.proofs.Rendering.{settled_renders, when_done}
-use Rattle.ng_page.proofs.Wholes.{works_display}
+use Rattle.ng_commands.proofs.Wholes.{works_display}
 
 is_none : (n : ℕ) → (n == 0) ≡ true → n ≡ 0
 is_none n e = grind (arith, nat_tests)

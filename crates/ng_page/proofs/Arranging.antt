@@ -6,19 +6,19 @@ use Rattle.ng_base.specs.Order.{path_cmp}
 use Rattle.ng_base.specs.Views.{ViewTree}
 use Rattle.ng_base.specs.declared.path.Key.{Key}
 use Rattle.ng_link.specs.Calls.{arranged_at}
-use Rattle.ng_link.specs.Instances.{Body, OutletState, Linked, linked_at, key_in, is_site_of, is_site_in, instance_path, with_outlets, bodies_arranged}
+use Rattle.ng_instances.specs.Instances.{Body, OutletState, Linked, linked_at, key_in, is_site_of, is_site_in, instance_path, with_outlets, bodies_arranged}
 use Rattle.ng_link.specs.Standing.{held_count}
 use Rattle.ng_link.specs.State.{State}
 use Rattle.ng_link.proofs.Lookups.{changed_keys, changed_here}
 use Rattle.ng_watch.specs.Keys.{is_key}
 use Rattle.ng_watch.specs.Seen.{Watcher}
 use Rattle.ng_watch.specs.Table.{found}
-use Rattle.ng_page.specs.Settled.{site_keys, IsChild, IsRound, IsLinked, leads_in, NumbersDiffer, OutletFits, IsWatched, Fits}
+use Rattle.ng_commands.specs.Settled.{site_keys, IsChild, IsRound, IsLinked, leads_in, NumbersDiffer, OutletFits, IsWatched, Fits}
 use Rattle.ng_page.proofs.Altered.{arranged_all, arranged_outlets}
-use Rattle.ng_page.proofs.ScopesStay.{scopes_refl}
+use Rattle.ng_commands.proofs.ScopesStay.{scopes_refl}
 use Rattle.ng_page.proofs.Under.{IsUnder, IsOfSite, not_asked}
 use Rattle.ng_page.proofs.Unlinking.{some_changed, changed_some}
-use Rattle.ng_page.proofs.Watched.{all_map, linked_stays}
+use Rattle.ng_commands.proofs.Watched.{all_map, linked_stays}
 
 -- bodies that may stand in an outlet of an instance
 pub record MayStand (s : State) (o : ℕ) (bs : List Body) (m : Linked) : Type 0 where

@@ -7,10 +7,10 @@ use Rattle.ng_dom.specs.Lists.{put_at}
 use Rattle.ng_drawing.specs.Cases.{Case}
 use Rattle.ng_drawing.specs.Rows.{is_filled}
 use Rattle.ng_drawing.specs.Template.{Filling, Outlet}
-use Rattle.ng_link.specs.Instances.{Body, OutletState, is_path, with_body, body_added, body_gone}
+use Rattle.ng_instances.specs.Instances.{Body, OutletState, is_path, with_body, body_added, body_gone}
 use Rattle.ng_link.specs.Standing.{body_count, held_count}
 use Rattle.ng_link.specs.State.{roles_in}
-use Rattle.ng_page.specs.Settled.{CallsFor, AreOutlets}
+use Rattle.ng_commands.specs.Settled.{CallsFor, AreOutlets}
 
 -- what a value calls for is asked of the filling and of the bodies that stand
 pub calls_same : (cases : List Case) (o : Option ViewTree) (x y : OutletState) → y.filling ≡ x.filling → y.bodies ≡ x.bodies → CallsFor cases o x → CallsFor cases o y

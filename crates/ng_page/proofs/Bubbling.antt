@@ -6,10 +6,11 @@ use Rattle.ng_digest.specs.declared.rounds.DigestFault.{DigestFault}
 use Rattle.ng_language.specs.Trees.{Trees}
 use Rattle.ng_link.specs.State as link
 use Rattle.ng_page.specs.Answered.{WhenOk}
-use Rattle.ng_page.specs.Dispatch.{Happening, Event, Going, Told, way, has_turn, TakesTurn, MayTakeTurn, Handles, Touches, MayTouch, HandlesAt, is_stopped, Unless, Bubbles, before, Dispatches, last_digest}
+use Rattle.ng_commands.specs.Handling.{Happening, Event, Going, way, has_turn}
+use Rattle.ng_page.specs.Dispatch.{Told, TakesTurn, MayTakeTurn, Handles, Touches, MayTouch, HandlesAt, is_stopped, Unless, Bubbles, before, Dispatches, last_digest}
 use Rattle.ng_page.specs.Dispatched.{told_of, told_all, UnlessFailed}
 use Rattle.ng_page.specs.EventSeen.{IsStill, last_of, LastIs, LastSettled}
-use Rattle.ng_page.specs.Settled.{IsSettled}
+use Rattle.ng_commands.specs.Settled.{IsSettled}
 use Rattle.ng_page.specs.declared.dispatching.Dispatch.{Dispatch}
 use Rattle.ng_page.specs.declared.engine.Engine.{Engine}
 use Rattle.ng_page.specs.declared.outcome.Outcome.{Outcome}
@@ -60,16 +61,10 @@ last_settled (o ∷ os) s h = when_unless (last_digest (told_all (o ∷ os))) (I
 
 -- ---- one handler
 
-pub no_turn : (b : Bool) (x : Happening) (n : ℕ) (p : Trees) (g : Going) → b ≡ false → MayTakeTurn b x n p g [] g
-no_turn b x n p g e = subst (λ t. MayTakeTurn t x n p g [] g) (sym e) (refl, refl)
-
 pub one_turn : (b : Bool) (x : Happening) (n : ℕ) (p : Trees) (g : Going) (o : Told) (h : Going) → b ≡ true → TakesTurn x n p g o h → MayTakeTurn b x n p g (o ∷ []) h
 one_turn b x n p g o h e t = subst (λ u. MayTakeTurn u x n p g (o ∷ []) h) (sym e) (o, t, refl)
 
 -- ---- the control of a node
-
-pub no_touch : (b : Bool) (n : ℕ) (g : Going) → b ≡ false → MayTouch b n g [] g
-no_touch b n g e = subst (λ t. MayTouch t n g [] g) (sym e) (refl, refl)
 
 pub one_touch : (b : Bool) (n : ℕ) (g : Going) (o : Told) (h : Going) → b ≡ true → Touches n g o h → MayTouch b n g (o ∷ []) h
 one_touch b n g o h e t = subst (λ u. MayTouch u n g (o ∷ []) h) (sym e) (o, t, refl)

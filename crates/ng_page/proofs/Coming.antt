@@ -13,16 +13,16 @@ use Rattle.ng_drawing.specs.Looks.{is_kept_true}
 use Rattle.ng_drawing.specs.Roles.{a_named, has_roles, is_named_so, is_one_named}
 use Rattle.ng_drawing.specs.Rows.{is_as_called, is_filled}
 use Rattle.ng_drawing.specs.Template.{Filling, body_if, on_case, for_each, by_name, Outlet}
-use Rattle.ng_fire.specs.Blocks.{has_bodies, goes, cases_due, comes}
+use Rattle.ng_rows.specs.Chosen.{has_bodies, goes, cases_due, comes}
 use Rattle.ng_language.specs.Texts.{text_of}
-use Rattle.ng_link.specs.Due.{Due, due_at, due_from}
-use Rattle.ng_link.specs.Instances.{Body, OutletState, is_filled_by, with_body, body_added}
+use Rattle.ng_instances.specs.Due.{Due, due_at, due_from}
+use Rattle.ng_instances.specs.Instances.{Body, OutletState, is_filled_by, with_body, body_added}
 use Rattle.ng_link.specs.State.{roles_in}
 use Rattle.ng_link.proofs.Numbers.{both_true}
-use Rattle.ng_page.specs.Settled.{AreOutlets, cases_under}
+use Rattle.ng_commands.specs.Settled.{AreOutlets, cases_under}
 use Rattle.ng_page.proofs.Altered.{by_same_place, Altered, IsAlike, ChangedAt, added_place}
 use Rattle.ng_page.proofs.Going.{leaves, AreSpared, IsSpared, at_place}
-use Rattle.ng_page.proofs.Watched.{all_map}
+use Rattle.ng_commands.proofs.Watched.{all_map}
 
 and_false : (b : Bool) → (b && false) ≡ false
 and_false true = refl

@@ -2,7 +2,7 @@
 use Rattle.std.proofs.Common.{◌≡◌, Bool, true, false, Option, Some, None, Result, Ok, Err, IsOk, IfOk, OnOk, refl, sym, subst, ◌∙◌}
 use Rattle.ng_base.specs.declared.fault.Memory.{Memory as Wanted}
 use Rattle.ng_link.specs.State as link
-use Rattle.ng_page.specs.Commands.{Asked, is_idle, begun, asked_run}
+use Rattle.ng_commands.specs.Commands.{Asked, is_idle, begun, asked_run}
 use Rattle.ng_page.specs.Commanded.{Commanded, Ended, IsLeft, LeavesBehind, refusal}
 use Rattle.ng_page.specs.OutcomeOf.{outcome_of}
 use Rattle.ng_page.specs.PageOf.{state_of, IsPage}

@@ -1,5 +1,5 @@
 -- What holds of a page after a digest, and the end of a step.
-use Rattle.std.proofs.Common.{◌≡◌, ℕ, Bool, true, false, List, [], Some, None, Result, Ok, Err, refl, sym, subst}
+use Rattle.std.proofs.Common.{ℕ, [], Result, Ok, Err}
 use Rattle.ng_digest.specs.Causes.{Unless}
 use Rattle.ng_digest.specs.Early.{plain_of, plain_answer}
 use Rattle.ng_digest.specs.Plain.{PlainDigests}
@@ -8,9 +8,9 @@ use Rattle.ng_digest.specs.declared.rounds.DigestFault.{DigestFault}
 use Rattle.ng_digest.specs.declared.rounds.DigestFault.TheVariants as fault
 use Rattle.ng_link.specs.State as link
 use Rattle.ng_link.specs.declared.works.Works.{Works}
-use Rattle.ng_page.specs.Answered.{DigestsWhere, ShortWhere, PlainlyDigests, ShortlyDigests}
 use Rattle.ng_page.specs.PageMachine.{page_machine, readied}
-use Rattle.ng_page.specs.PlaceOf.{place_of, WorksAre, PageIs}
+use Rattle.ng_commands.specs.BetweenSteps.{WorksAre, PageIs}
+use Rattle.ng_page.specs.PlaceOf.{place_of}
 use Rattle.ng_page.specs.declared.engine.Engine.{Engine}
 use Rattle.ng_page.proofs.DigestsStay.{AreFitting, untroubled_fitting, digest_fitting}
 
@@ -27,16 +27,3 @@ page_after s e (Err (fault.Memory m)) h d works = tt
 
 pub page_fitting : (w : Works) → PageIs w → AreFitting [] (link.state_of w)
 page_fitting w h = record { watched = h.watched; fits = h.fits }
-
--- a digest is made exactly where the root lives
-pub digest_where : (b : Bool) (s t : link.State) (a : Result (ℕ × ℕ) DigestFault) (probed : List (List ℕ)) → b ≡ true → PlainlyDigests s a probed t → DigestsWhere b s (Some a) probed t
-digest_where b s t a probed e h = subst (λ x. DigestsWhere x s (Some a) probed t) (sym e) h
-
-pub none_where : (b : Bool) (s : link.State) → b ≡ false → DigestsWhere b s None [] s
-none_where b s e = subst (λ x. DigestsWhere x s None [] s) (sym e) (refl, refl)
-
-pub short_where : (b : Bool) (s t : link.State) (a : Result Report DigestFault) → b ≡ true → ShortlyDigests s a t → ShortWhere b s (Some a) t
-short_where b s t a e h = subst (λ x. ShortWhere x s (Some a) t) (sym e) h
-
-pub short_none : (b : Bool) (s : link.State) → b ≡ false → ShortWhere b s None s
-short_none b s e = subst (λ x. ShortWhere x s None s) (sym e) refl

@@ -8,27 +8,29 @@ use Rattle.ng_digest.specs.declared.rounds.DigestFault.{DigestFault}
 use Rattle.ng_digest.specs.Plain.{Plain, PlainDigests}
 use Rattle.ng_fire.specs.SiteFires.{site_fired}
 use Rattle.ng_fire.specs.Fires.{fired as fires, fire_of_site, fire_run, fired_by as fired_run, value_at}
-use Rattle.ng_fire.specs.Runs.{ran}
-use Rattle.ng_fire.specs.Settling as settling
-use Rattle.ng_fire.specs.Settling.{unset_all}
+use Rattle.ng_changes.specs.Runs.{ran}
+use Rattle.ng_changes.specs.Settling as settling
+use Rattle.ng_changes.specs.Settling.{unset_all}
 use Rattle.ng_link.specs.Calls.{with_core, keeping_at, is_drawn, unset_at}
-use Rattle.ng_link.specs.Instances.{Instances, is_site}
+use Rattle.ng_instances.specs.Instances.{Instances, is_site}
 use Rattle.ng_link.specs.State as link
 use Rattle.ng_link.specs.Untroubled.{untroubled}
 use Rattle.ng_watch.specs.Table.{with_kept, kept_at}
 use Rattle.ng_page.specs.PageLaws.{by_test, unset_core}
 use Rattle.ng_page.specs.PageMachine.{State, is_told, told_at, handed_on_at, with_faulted, fired_to, fired_by, fired, settled, failed, page_machine, readied}
-use Rattle.ng_page.specs.Settled.{IsWatched, Fits}
+use Rattle.ng_commands.specs.Settled.{IsWatched, Fits}
 use Rattle.ng_act.proofs.Programs.{some_first}
-use Rattle.ng_page.proofs.EventsStay.{part, Less, less_refl, less_trans, less_of, fault_stays}
+use Rattle.ng_commands.proofs.EventsStay.{part, Less, less_refl, less_trans, less_of, fault_stays}
 use Rattle.ng_page.proofs.FiresFit.{fires_fit}
 use Rattle.ng_page.proofs.FiresTold.{FireTold, fires_told}
-use Rattle.ng_page.proofs.Fitting.{fits_stays, fits_fewer, fits_unset_all}
+use Rattle.ng_commands.proofs.FitsStay.{fits_stays}
+use Rattle.ng_page.proofs.Fitting.{fits_fewer, fits_unset_all}
 use Rattle.ng_page.proofs.Keeps.{KeepsEach, digest_keeps, digest_ends}
-use Rattle.ng_page.proofs.ScopesStay.{scopes_refl}
-use Rattle.ng_page.proofs.Sites.{SitesStay, core_sites}
-use Rattle.ng_page.proofs.StepsStay.{run_sites, ran_sites, finished_sites}
-use Rattle.ng_page.proofs.Watched.{watched_stays, watched_core, kept_watched}
+use Rattle.ng_commands.proofs.ScopesStay.{scopes_refl}
+use Rattle.ng_commands.proofs.Sites.{SitesStay, core_sites}
+use Rattle.ng_commands.proofs.StepsStay.{ran_sites, finished_sites}
+use Rattle.ng_page.proofs.FiresStay.{run_sites}
+use Rattle.ng_commands.proofs.Watched.{watched_stays, watched_core, kept_watched}
 
 -- a fire, or none
 fire_cases : (P : State → Type 0) (s : State) (k : Key) (o : Option ViewTree) → P s → ((t : ViewTree) → P (fired_to k (fires k t s.works) s)) → P (fired_by k o s)

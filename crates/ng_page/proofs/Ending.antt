@@ -1,6 +1,5 @@
 -- The end of a command.
-use Rattle.std.proofs.Common.{◌≡◌, true, false, Result, Ok, Err, refl, sym, ◌∙◌}
-use Rattle.ng_base.specs.declared.fault.Memory.{Memory as Wanted}
+use Rattle.std.proofs.Common.{◌≡◌, false, Ok, refl}
 use Rattle.ng_drawing.specs.Drawing.{shown_as}
 use Rattle.ng_link.specs.State as link
 use Rattle.ng_link.specs.State.{shown, rendering}
@@ -8,14 +7,13 @@ use Rattle.ng_page.specs.Answered.{WhenOk}
 use Rattle.ng_page.specs.Commanded.{Ended}
 use Rattle.ng_page.specs.OutcomeOf.{outcome_of}
 use Rattle.ng_page.specs.PageOf.{state_of}
-use Rattle.ng_page.specs.PlaceOf.{PageIs}
-use Rattle.ng_page.specs.Settled.{IsSettled}
+use Rattle.ng_commands.specs.BetweenSteps.{PageIs}
+use Rattle.ng_commands.specs.Settled.{IsSettled}
 use Rattle.ng_page.specs.Steps.{Ends, EndsShort}
 use Rattle.ng_page.specs.declared.outcome.Outcome.{Outcome}
-use Rattle.ng_page.specs.declared.outcome.PageFault.TheVariants.{Memory}
 use Rattle.ng_page.specs.declared.page.Page.{Page}
 use Rattle.ng_page.proofs.Rendering.{settled_renders, when_done}
-use Rattle.ng_page.proofs.Wholes.{works_display}
+use Rattle.ng_commands.proofs.Wholes.{works_display}
 
 -- a page that is settled shows its rendering
 pub page_renders : (s : link.State) (o : Outcome) (p : Page) → s ≡ state_of p → PageIs p.engine.works → WhenOk o.digest (IsSettled (state_of p)) → WhenOk o.digest (rendering (state_of p) ≡ shown_as (shown (state_of p)))
@@ -32,16 +30,4 @@ ended_well s o new spent step report settled h = record {
   settled = settled;
   renders = page_renders (state_of new) o new refl h settled;
   page = λ f. h;
-}
-
-pub ended_wanting : (ran : Result (Unit {0}) Wanted) (s : link.State) (m : Wanted) (new : Page) → new.spent ≡ true → Ended ran s (Err (Memory m)) new
-ended_wanting ran s m new spent = record {
-  left = spent;
-  finished = tt;
-  step = tt;
-  report = tt;
-  displays = tt;
-  settled = tt;
-  renders = tt;
-  page = λ f. absurd (let g : true ≡ false = sym spent ∙ f in cc);
 }

@@ -14,14 +14,17 @@ use Rattle.ng_drawing.specs.Roles.{Role}
 use Rattle.ng_drawing.specs.Nodes.{node_limit}
 use Rattle.ng_drawing.specs.Template.{Fragment}
 use Rattle.ng_drawing.specs.declared.origin.Origin.{Origin}
-use Rattle.ng_fire.specs.Blocks.{Firing, object_limit, faulted_with, discarded, linked_then, linked_by, told_on, body_made, filled, body_linked, body_on}
-use Rattle.ng_fire.specs.LinkingOf.{AreBelow}
-use Rattle.ng_fire.specs.Links.{Linking, begins_linking, steps_linked, rested_on_all, placed, given_up, first_of, ended_link}
-use Rattle.ng_fire.proofs.Registered.{linking_registered}
-use Rattle.ng_fire.proofs.Rooms.{all_within}
-use Rattle.ng_link.specs.Calls.{with_core, Place, in_outlet, placed_on}
-use Rattle.ng_link.specs.Instances.{Linked, linked_at, with_outlets, body_added}
-use Rattle.ng_link.specs.Linking.{LinkStep, steps, steps_within, fault_in}
+use Rattle.ng_changes.specs.ChildRun.{object_limit}
+use Rattle.ng_rows.specs.Chosen.{told_on}
+use Rattle.ng_fire.specs.Blocks.{Firing, faulted_with, discarded, linked_then, linked_by, body_made, filled, body_linked, body_on}
+use Rattle.ng_steps.specs.LinkingOf.{AreBelow}
+use Rattle.ng_steps.specs.Links.{Linking, begins_linking, steps_linked, rested_on_all, placed, given_up, first_of, ended_link}
+use Rattle.ng_steps.proofs.Registered.{linking_registered}
+use Rattle.ng_steps.proofs.Rooms.{all_within}
+use Rattle.ng_instances.specs.Changing.{Place, in_outlet}
+use Rattle.ng_link.specs.Calls.{with_core, placed_on}
+use Rattle.ng_instances.specs.Instances.{Linked, linked_at, with_outlets, body_added}
+use Rattle.ng_build.specs.Linking.{LinkStep, steps, steps_within, fault_in}
 use Rattle.ng_link.specs.Placing.{IsRegistered}
 use Rattle.ng_link.specs.State.{State, live_nodes}
 use Rattle.ng_link.proofs.Counted.{ended_done}
@@ -29,17 +32,17 @@ use Rattle.ng_members.specs.Leaves.{Local}
 use Rattle.ng_compose.specs.Kept.{fragments_in}
 use Rattle.ng_parts.specs.Numbering.{HasOrder}
 use Rattle.ng_watch.specs.Keys.{is_key}
-use Rattle.ng_page.specs.Settled.{IsChild}
-use Rattle.ng_page.proofs.EventsStay.{part, Stays, stays_trans, fault_stays}
+use Rattle.ng_commands.specs.Settled.{IsChild}
+use Rattle.ng_commands.proofs.EventsStay.{part, Stays, stays_trans, fault_stays}
 use Rattle.ng_page.proofs.LinksStay.{with_scope_made, scope_made, steps_sites, all_rested_sites, given_up_sites, discarded_sites}
 use Rattle.ng_page.proofs.Placing.{IsNew, HasRoom, holder_was}
 use Rattle.ng_page.proofs.Plain.{plain_outlets}
 use Rattle.ng_page.proofs.Registered.{fragment_whole, sites_counted, steps_above}
 use Rattle.ng_page.proofs.RepeatsStay.{told_stay}
-use Rattle.ng_page.proofs.ScopesStay.{ScopesStay, scopes_trans, child_there}
-use Rattle.ng_page.proofs.Sites.{SitesStay, sites_trans, core_sites}
+use Rattle.ng_commands.proofs.ScopesStay.{ScopesStay, scopes_trans, child_there}
+use Rattle.ng_commands.proofs.Sites.{SitesStay, sites_trans, core_sites}
 use Rattle.ng_page.proofs.Under.{IsUnder, under_stays, under_placed, IsOfSite, child_path_there, child_free, path_apart, next_free}
-use Rattle.ng_page.proofs.Watched.{all_more}
+use Rattle.ng_commands.proofs.Watched.{all_more}
 
 pub fault_sites : (e : Fault) (g : Firing) → SitesStay g.state (faulted_with e g).state
 fault_sites e g = core_sites g.state (with_fault e g.state.core) (fault_stays e (part g.state.core))

@@ -17,45 +17,45 @@ use Rattle.ng_drawing.specs.Rows.{is_filled}
 use Rattle.ng_drawing.specs.Template.{Fragment, Filling, body_if, on_case, for_each, by_name, Repeated}
 use Rattle.ng_behaviour.specs.Scopes.{Scope, path_at}
 use Rattle.ng_fire.specs.Bindings.{bound_fired}
-use Rattle.ng_fire.specs.Blocks.{Firing, begins_firing, faulted_with, gone, all_gone, filled, goes, outlets_emptied, cases_due, body_of, comes}
+use Rattle.ng_rows.specs.Chosen.{goes, cases_due, body_of, comes}
+use Rattle.ng_fire.specs.Blocks.{Firing, begins_firing, faulted_with, gone, all_gone, filled, outlets_emptied}
 use Rattle.ng_fire.specs.Repeats.{repeat_fired}
 use Rattle.ng_fire.specs.SiteFires.{site_fired_by, including_origin, body_filled, template_filled, named_filled, filled_by, outlet_filled, outlets_filled, outlets_fired, site_fired}
 use Rattle.ng_fire.specs.Fires.{fired as fires, fire_of_site, fire_run, fired_by, value_at}
 use Rattle.ng_language.specs.Texts.{text_of}
-use Rattle.ng_link.specs.Bindings.{Bound, Bounds, bound_in_table}
-use Rattle.ng_link.specs.Calls.{in_outlet, keeping_at}
-use Rattle.ng_link.specs.Due.{Due, all_due, due_at, due_from}
-use Rattle.ng_link.specs.Instances.{Body, OutletState, Linked, linked_at, linked_for, instance_path, key_in, is_site_of, is_site_in, bound_for, is_filled_by, with_outlets, body_added}
+use Rattle.ng_instances.specs.Bindings.{Bound, Bounds, bound_in_table}
+use Rattle.ng_instances.specs.Changing.{in_outlet}
+use Rattle.ng_link.specs.Calls.{keeping_at}
+use Rattle.ng_instances.specs.Due.{Due, all_due, due_at, due_from}
+use Rattle.ng_instances.specs.Instances.{Body, OutletState, Linked, linked_at, linked_for, instance_path, key_in, is_site_of, is_site_in, bound_for, is_filled_by, with_outlets, body_added}
 use Rattle.ng_link.specs.State.{State, roles_in}
-use Rattle.ng_link.proofs.Keys.{key_is, same_key}
+use Rattle.ng_build.proofs.Keys.{key_is, same_key}
 use Rattle.ng_link.proofs.Serials.{number_at, all_at_place}
 use Rattle.ng_compose.specs.Kept.{named_from}
 use Rattle.ng_watch.specs.Keys.{key_cmp, is_key}
 use Rattle.ng_watch.specs.Table.{found, kept_at}
 use Rattle.ng_page.specs.PageLaws.{told_itself}
 use Rattle.ng_page.specs.PageMachine.{with_faulted}
-use Rattle.ng_page.specs.Settled.{site_keys, IsRound, leads_in, NumbersDiffer, cases_under, CallsFor, OutletFits, IsWatched, Fits}
+use Rattle.ng_commands.specs.Settled.{site_keys, IsRound, leads_in, NumbersDiffer, cases_under, CallsFor, OutletFits, IsWatched, Fits}
 use Rattle.ng_page.proofs.Altered.{all_by_place, added_altered}
 use Rattle.ng_page.proofs.Filled.{IsMade, IsHeld, held_stays, made_fault, fault_sites, filled_made}
-use Rattle.ng_page.proofs.Fitting.{IsOut, number_itself, kept_here, fits_stays, led_to, fits_keeping, fits_beside, fits_with}
+use Rattle.ng_commands.proofs.FitsStay.{fits_stays}
+use Rattle.ng_page.proofs.Fitting.{IsOut, number_itself, kept_here, led_to, fits_keeping, fits_beside, fits_with}
 use Rattle.ng_page.proofs.Coming.{has_rows, has_name, not_both, due_cases, IsRising, AreReady, AreOfSite, ready_first, rising_first, of_first, ready_skip, ready_next, ready_named, ready_rows, of_next, ready_last}
 use Rattle.ng_page.proofs.Going.{at_place, going, Goes, goes_first, goes_last, spared_first, due_going, same_going}
 use Rattle.ng_page.proofs.RowsFit.{ended_sites, outlets_in, IsRepeated, repeat_fits}
-use Rattle.ng_page.proofs.StepsStay.{run_sites}
+use Rattle.ng_page.proofs.FiresStay.{run_sites}
 use Rattle.ng_page.proofs.Under.{IsUnder, IsSince, IsLeft, under_all_gone}
-use Rattle.ng_page.proofs.Watched.{all_map, all_both, watched_stays, keeping_watched}
-use Rattle.ng_page.proofs.ScopesStay.{ScopesStay, scopes_refl, scopes_trans}
+use Rattle.ng_commands.proofs.Watched.{all_map, all_both, watched_stays, keeping_watched}
+use Rattle.ng_commands.proofs.ScopesStay.{ScopesStay, scopes_refl, scopes_trans}
 use Rattle.ng_page.proofs.FiresTold.{IsSet, bound_set}
-use Rattle.ng_page.proofs.Sites.{SitesStay}
+use Rattle.ng_commands.proofs.Sites.{SitesStay}
 
 all_gone_append : (holder : List ℕ) (bs cs : List Body) (g : Firing) → all_gone holder cs (all_gone holder bs g) ≡ all_gone holder (bs ++ cs) g
 all_gone_append holder [] cs g = refl
 all_gone_append holder (b ∷ bs) cs g = all_gone_append holder bs cs (gone holder b g)
 
 module _ (k : Key) (v : ViewTree) (holder : List ℕ) (ks : List Key) (left : list_any (is_key k) ks ≡ true) where
-  abbrev Under : State → Type 0
-  Under s = IsUnder k v holder ks left s
-
   -- ---- what is to go goes
 
   emptied_gone : (ds : List Due) (g : Firing) → outlets_emptied holder v ds g ≡ all_gone holder (due_going k.serial.0 v ds) g

@@ -18,19 +18,22 @@ use Rattle.ng_drawing.specs.Cases.{Case}
 use Rattle.ng_drawing.specs.declared.origin.Origin.{Origin}
 use Rattle.ng_language.specs.Trees.{Trees}
 use Rattle.ng_fire.specs.Bindings.{text_kept, unless_fault, fired_with, flow_by, write_run, written_back, flows, bound_fired}
-use Rattle.ng_fire.specs.Blocks.{Firing, begins_firing, went, ended, gone, all_gone, child_run, faulted_with, discarded, linked_then, told_on, body_made, filled, goes, outlet_emptied, outlets_emptied, cases_due, body_linked}
+use Rattle.ng_changes.specs.ChildRun.{child_run}
+use Rattle.ng_rows.specs.Chosen.{told_on, goes, cases_due}
+use Rattle.ng_fire.specs.Blocks.{Firing, begins_firing, went, ended, gone, all_gone, faulted_with, discarded, linked_then, body_made, filled, outlet_emptied, outlets_emptied, body_linked}
 use Rattle.ng_fire.specs.Fires.{fired as fires, fire_run, value_at}
-use Rattle.ng_fire.specs.LinkBindings.{set_on, written_to}
-use Rattle.ng_fire.specs.Links.{Linking, begins_linking, link_at}
-use Rattle.ng_fire.specs.Repeats.{items_made}
-use Rattle.ng_fire.specs.Runs.{destroy_run}
+use Rattle.ng_steps.specs.LinkBindings.{set_on, written_to}
+use Rattle.ng_steps.specs.Links.{Linking, begins_linking, link_at}
+use Rattle.ng_rows.specs.RepeatRows.{items_made}
+use Rattle.ng_changes.specs.Runs.{destroy_run}
 use Rattle.ng_fire.specs.SiteFires.{outlets_filled, outlets_fired, site_fired_by, site_fired}
 use Rattle.ng_fire.proofs.RepeatWalks.{outlets_keep}
-use Rattle.ng_link.specs.Bindings.{Bound, bound_text, bound_in, bound_both}
-use Rattle.ng_link.specs.Calls.{with_core, keeping_at, Place, unlinked_at, arranged_at}
-use Rattle.ng_link.specs.Due.{Due, all_due}
+use Rattle.ng_instances.specs.Bindings.{Bound, bound_text, bound_in, bound_both}
+use Rattle.ng_instances.specs.Changing.{Place}
+use Rattle.ng_link.specs.Calls.{with_core, keeping_at, unlinked_at, arranged_at}
+use Rattle.ng_instances.specs.Due.{Due, all_due}
 use Rattle.ng_link.specs.Events.{scope_in}
-use Rattle.ng_link.specs.Instances.{Body, linked_at, is_site, instance_path, linked_for, bound_for}
+use Rattle.ng_instances.specs.Instances.{Body, linked_at, is_site, instance_path, linked_for, bound_for}
 use Rattle.ng_link.specs.State.{State}
 use Rattle.ng_compose.specs.Kept.{fragments_in}
 use Rattle.ng_members.specs.Leaves.{Local}
@@ -38,11 +41,12 @@ use Rattle.ng_watch.specs.Table.{kept_at}
 use Rattle.ng_watch.specs.Verdicts.{own_value}
 use Rattle.ng_write.specs.Making.{value_in}
 use Rattle.ng_page.proofs.LinksStay.{set_stays, written_stays, link_less, child_run_less, discarded_sites}
-use Rattle.ng_page.proofs.EventsStay.{part, Less, less_refl, less_trans, Stays, less_of, stays_refl, fault_stays}
+use Rattle.ng_commands.proofs.EventsStay.{part, Less, less_refl, less_trans, Stays, less_of, stays_refl, fault_stays}
 use Rattle.ng_page.proofs.RepeatsStay.{told_stay, items_stay}
 use Rattle.ng_act.proofs.Programs.{some_first}
-use Rattle.ng_page.proofs.Sites.{SitesStay, sites_refl, sites_trans, core_sites}
-use Rattle.ng_page.proofs.StepsStay.{followed_sites, destroyed_stays, write_stays, run_sites, fired_some}
+use Rattle.ng_commands.proofs.Sites.{SitesStay, sites_refl, sites_trans, core_sites}
+use Rattle.ng_commands.proofs.StepsStay.{followed_sites, destroyed_stays, write_stays}
+use Rattle.ng_page.proofs.FiresStay.{run_sites, fired_some}
 
 -- ---- how far a fire has come
 

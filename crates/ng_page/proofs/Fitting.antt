@@ -9,33 +9,24 @@ use Rattle.std.specs.Ordering.{nat_cmp}
 use Rattle.ng_base.specs.Views.{ViewTree}
 use Rattle.ng_base.specs.declared.path.Key.{Key}
 use Rattle.ng_drawing.specs.Template.{Outlet}
-use Rattle.ng_fire.specs.Settling.{unset_all}
-use Rattle.ng_link.specs.Bindings.{bound_in_table}
-use Rattle.ng_link.specs.Calls.{keeping_at, fills_any, is_drawn_in, is_drawn, unset_at}
-use Rattle.ng_link.specs.Instances.{OutletState, Page, Linked, linked_at, linked_for, instance_path, key_in, is_filled_by, is_site_of, is_site_in}
+use Rattle.ng_changes.specs.Settling.{unset_all}
+use Rattle.ng_instances.specs.Bindings.{bound_in_table}
+use Rattle.ng_instances.specs.Changing.{fills_any, is_drawn_in}
+use Rattle.ng_link.specs.Calls.{keeping_at, is_drawn, unset_at}
+use Rattle.ng_instances.specs.Instances.{OutletState, Page, Linked, linked_at, linked_for, instance_path, key_in, is_filled_by, is_site_of, is_site_in}
 use Rattle.ng_link.specs.State.{State}
-use Rattle.ng_link.proofs.Keys.{key_is, same_key, other_key}
-use Rattle.ng_link.proofs.Tables.{kept-other}
+use Rattle.ng_build.proofs.Keys.{key_is, same_key, other_key}
+use Rattle.ng_build.proofs.Tables.{kept-other}
 use Rattle.ng_watch.specs.Keys.{key_cmp, is_key}
 use Rattle.ng_watch.specs.Seen.{Watcher}
 use Rattle.ng_watch.specs.Table.{Table, found, keeping, with_kept}
 use Rattle.ng_page.specs.PageLaws.{told_itself, told_still}
-use Rattle.ng_page.specs.Settled.{site_keys, cases_under, CallsFor, OutletFits, leads_in, NumbersDiffer, Fits}
-use Rattle.ng_page.proofs.Sites.{InKeys, SitesStay, same_site}
-use Rattle.ng_page.proofs.Watched.{all_map, all_both}
+use Rattle.ng_commands.specs.Settled.{site_keys, cases_under, CallsFor, OutletFits, leads_in, NumbersDiffer, Fits}
+use Rattle.ng_commands.proofs.Watched.{all_map, all_both}
 
 -- whether a key is none of these
 abbrev pub IsOut : List Key → Key → Type 0
 IsOut ks k = list_any (is_key k) ks ≡ false
-
--- what steps leave that change no site
-pub fits_stays : (s t : State) (ks : List Key) → SitesStay s t → InKeys s.watchers → Fits ks s → Fits ks t
-fits_stays s t ks stay keys h p l at =
-    let here : linked_at p s.instances ≡ Some l = ap (linked_at p) (sym stay.instances) ∙ at in
-    all_map (OutletFits (leads_in s) s.watchers ks (site_keys l.page) l.page.serials l.fragment.outlets) (OutletFits (leads_in t) t.watchers ks (site_keys l.page) l.page.serials l.fragment.outlets) l.page.outlets
-    (λ x fit site on w e out.
-    let was : leads_in s (key_in l.page x.serial) ≡ true = sym (same_site s t stay.instances stay.inner (key_in l.page x.serial)) ∙ on in
-    fit site was w (stay.found keys (key_in l.page x.serial) w was e) out) (h p l here)
 
 -- where fewer may differ
 pub fits_fewer : (s : State) (ks js : List Key) → ((k : Key) → IsOut js k → IsOut ks k) → Fits ks s → Fits js s

@@ -6,13 +6,13 @@ use Rattle.std.specs.List.{AllByRecursion, list_any, filter}
 use Rattle.std.specs.Ordering.{nat_cmp}
 use Rattle.ng_base.specs.Views.{ViewTree}
 use Rattle.ng_drawing.specs.Template.{Filling}
-use Rattle.ng_fire.specs.Blocks.{has_bodies, goes}
-use Rattle.ng_link.specs.Due.{Due, due_at, due_from}
-use Rattle.ng_link.specs.Instances.{Body, OutletState, is_path, is_filled_by, without_body, body_gone}
+use Rattle.ng_rows.specs.Chosen.{has_bodies, goes}
+use Rattle.ng_instances.specs.Due.{Due, due_at, due_from}
+use Rattle.ng_instances.specs.Instances.{Body, OutletState, is_path, is_filled_by, without_body, body_gone}
 use Rattle.ng_link.specs.Standing.{body_count, held_count}
-use Rattle.ng_link.proofs.Paths.{same_path}
+use Rattle.ng_link.proofs.PathsBelow.{same_path}
 use Rattle.ng_page.proofs.Bodies.{all_mapped, gone_within, filter_none}
-use Rattle.ng_page.proofs.Watched.{all_map, all_both}
+use Rattle.ng_commands.proofs.Watched.{all_map, all_both}
 
 -- whether a path is that of one of these bodies
 abbrev pub is_among : List Body → List ℕ → Bool

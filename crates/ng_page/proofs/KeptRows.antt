@@ -16,12 +16,13 @@ use Rattle.ng_blocks.specs.declared.plans.Plan.{Plan}
 use Rattle.ng_blocks.specs.declared.plans.PlanFault.TheVariants.{Dupes}
 use Rattle.ng_dom.specs.Lists.{put_at}
 use Rattle.ng_drawing.specs.Roles.{Entry, Role, a_row, same_name, same_entry, are_rows}
-use Rattle.ng_fire.specs.Repeats.{items_made, Row, path_from, rows_from, role_for, kept_from, kept_rows, body_at, bodies_at, as_fault}
-use Rattle.ng_fire.specs.Tracking.{Item}
+use Rattle.ng_rows.specs.RepeatRows.{items_made, Row, path_from, rows_from, role_for, kept_from, kept_rows, as_fault}
+use Rattle.ng_fire.specs.Repeats.{body_at, bodies_at}
+use Rattle.ng_rows.specs.Tracking.{Item}
 use Rattle.ng_language.specs.Snapshots.{same_view}
-use Rattle.ng_link.specs.Instances.{Body, is_path}
+use Rattle.ng_instances.specs.Instances.{Body, is_path}
 use Rattle.ng_link.specs.Standing.{body_count}
-use Rattle.ng_link.proofs.Paths.{same_path}
+use Rattle.ng_link.proofs.PathsBelow.{same_path}
 use Rattle.ng_value.proofs.Sameness.{same_view_self}
 use Rattle.ng_write.specs.Making.{value_in}
 

@@ -15,27 +15,31 @@ use Rattle.ng_drawing.specs.Origins.{is_too_deep}
 use Rattle.ng_drawing.specs.Template.{Fragment}
 use Rattle.ng_drawing.specs.declared.origin.Origin.{Origin}
 use Rattle.ng_fire.proofs.RepeatWalks.{outlets_keep}
-use Rattle.ng_fire.specs.Blocks.{Firing, begins_firing, ended, gone, all_gone, child_run, linked_then, told_on, body_made, filled, goes, outlet_emptied, outlets_emptied, cases_due, body_linked}
+use Rattle.ng_changes.specs.ChildRun.{child_run}
+use Rattle.ng_rows.specs.Chosen.{told_on, goes, cases_due}
+use Rattle.ng_fire.specs.Blocks.{Firing, begins_firing, ended, gone, all_gone, linked_then, body_made, filled, outlet_emptied, outlets_emptied, body_linked}
 use Rattle.ng_fire.specs.SiteFires.{outlets_filled, outlets_fired, site_fired_by, site_fired}
 use Rattle.ng_fire.specs.Fires.{fired as fires, value_at}
-use Rattle.ng_fire.specs.Links.{Linking, begins_linking, steps_linked, first_of, ended_link, link_at}
-use Rattle.ng_fire.specs.Runs.{followed, destroy_run}
-use Rattle.ng_fire.specs.Settling.{unset_all}
+use Rattle.ng_steps.specs.Links.{Linking, begins_linking, steps_linked, first_of, ended_link, link_at}
+use Rattle.ng_changes.specs.Runs.{followed, destroy_run}
+use Rattle.ng_changes.specs.Settling.{unset_all}
 use Rattle.ng_language.specs.Trees.{Trees}
-use Rattle.ng_link.specs.Calls.{with_core, keeping_at, is_drawn, unset_at, left_at, Place, placed_on}
-use Rattle.ng_link.specs.Due.{Due, all_due}
-use Rattle.ng_link.specs.Controls.{ControlHere}
+use Rattle.ng_instances.specs.Changing.{Place}
+use Rattle.ng_link.specs.Calls.{with_core, keeping_at, is_drawn, unset_at, left_at, placed_on}
+use Rattle.ng_instances.specs.Due.{Due, all_due}
+use Rattle.ng_build.specs.Controls.{ControlHere}
 use Rattle.ng_link.specs.Events.{control_at, handlers_at, scope_of, scope_in}
-use Rattle.ng_link.specs.Instances.{Body, linked_at, linked_for, instance_path, bound_for, is_site}
-use Rattle.ng_link.specs.Linking.{steps, steps_within, fault_in}
-use Rattle.ng_link.specs.Bindings.{Bound}
+use Rattle.ng_instances.specs.Instances.{Body, linked_at, linked_for, instance_path, bound_for, is_site}
+use Rattle.ng_build.specs.Linking.{steps, steps_within, fault_in}
+use Rattle.ng_instances.specs.Bindings.{Bound}
 use Rattle.ng_link.specs.State.{State, live_nodes}
 use Rattle.ng_compose.specs.Kept.{Named, fragments_in}
 use Rattle.ng_members.specs.Leaves.{Local}
 use Rattle.ng_watch.specs.Table.{with_kept, kept_at}
 use Rattle.ng_page.specs.Answered.{DigestsWhere}
-use Rattle.ng_page.specs.Commands.{Asked, begun, asked_run}
-use Rattle.ng_page.specs.Dispatch.{Happening, Event, unmade, awaited, made, refused, Going, Told, way, ready, handling_run, rested, handled, has_turn, touch_run, touched, has_touch, is_stopped, MayTakeTurn, Handles, MayTouch, HandlesAt, Unless, before, Bubbles, Dispatches}
+use Rattle.ng_commands.specs.Commands.{Asked, begun, asked_run}
+use Rattle.ng_commands.specs.Handling.{Happening, Event, unmade, awaited, made, refused, Going, way, ready, handling_run, rested, handled, has_turn, touch_run, touched, has_touch}
+use Rattle.ng_page.specs.Dispatch.{Told, is_stopped, MayTakeTurn, Handles, MayTouch, HandlesAt, Unless, before, Bubbles, Dispatches}
 use Rattle.ng_page.specs.Laws.{OfEachStep, LinkedSitesGetNewNumbers}
 use Rattle.ng_page.specs.PageLaws.{by_test}
 use Rattle.ng_page.specs.PageMachine as machine
@@ -46,9 +50,10 @@ use Rattle.ng_page.proofs.FiresTold.{bound_set}
 use Rattle.ng_page.proofs.LinksStay.{steps_templates, all_rested_sites, given_up_sites, discarded_sites}
 use Rattle.ng_page.proofs.Keeps.{KeepsEach, digest_keeps}
 use Rattle.ng_page.proofs.Registered.{steps_new}
-use Rattle.ng_page.proofs.Sites.{SitesStay, sites_cond, left_sites}
-use Rattle.ng_page.proofs.StepsStay.{asked_sites, destroyed_stays, finished_sites, followed_sites, ran_sites, run_sites}
-use Rattle.ng_page.proofs.Turns.{handling_sites}
+use Rattle.ng_commands.proofs.Sites.{SitesStay, sites_cond, left_sites}
+use Rattle.ng_commands.proofs.StepsStay.{asked_sites, destroyed_stays, finished_sites, followed_sites, ran_sites}
+use Rattle.ng_page.proofs.FiresStay.{run_sites}
+use Rattle.ng_commands.proofs.Handled.{handling_sites}
 
 -- ---- a fire makes bodies of the templates, and changes none
 

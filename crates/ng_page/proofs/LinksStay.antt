@@ -21,26 +21,29 @@ use Rattle.ng_drawing.specs.Template.{Piece, Site, Source, of_text, of_nothing, 
 use Rattle.ng_drawing.specs.declared.origin.Origin.{Origin}
 use Rattle.ng_language.specs.Objects.{new_object, set_name}
 use Rattle.ng_language.specs.Trees.{Trees}
-use Rattle.ng_fire.specs.Attending.{installs, installs_all, declares_all, registers_all, registered_on, functions_in, installed_on, first_attended, attended_by}
-use Rattle.ng_fire.specs.Blocks.{child_run, discarded}
-use Rattle.ng_fire.specs.Changes.{changed}
-use Rattle.ng_fire.specs.LinkBindings.{set_on, written_to, value_set, set_to_value, seen_over, text_set, set_to_text, shown_over, joined_with, set_to_call, bound_pieces}
-use Rattle.ng_fire.specs.LinkingOf.{AreBelow}
-use Rattle.ng_fire.specs.Links.{Linking, begins_linking, started, registered, registered_many, object_limit, scope_run, opening_run, opened_by, handed_to, with_bounds, value_kept, texts_kept, value_bound_by, value_bound, text_bound_by, text_bound, source_bound, scope_of, outlet_scope, step_linked, unless_faulted, steps_linked, rested_on, rested_on_all, all_buried, given_up, first_of, ended_link, link_at}
-use Rattle.ng_fire.specs.Runs.{followed, program_run}
-use Rattle.ng_fire.proofs.Placed.{ground_below}
-use Rattle.ng_fire.proofs.Underway.{IsUnderway, steps_underway, begun_underway}
-use Rattle.ng_link.specs.Bindings.{Bound, bound_text, bound_in, bound_both}
-use Rattle.ng_link.specs.Calls.{with_core, left_at, Place, placed_on}
-use Rattle.ng_link.specs.Linking.{Opening, a_child, an_isolate, a_slot, LinkStep, makes, stops, opens, binds, installs as installs_step, starts, starts_at, registers, leaves, piece_steps, steps, steps_within, fault_in}
-use Rattle.ng_link.specs.Registering.{Ground, scope_in_ground, outside_in_ground}
+use Rattle.ng_steps.specs.Attending.{installs, installs_all, declares_all, registers_all, registered_on, functions_in, installed_on, first_attended, attended_by}
+use Rattle.ng_changes.specs.ChildRun.{child_run}
+use Rattle.ng_fire.specs.Blocks.{discarded}
+use Rattle.ng_changes.specs.Changes.{changed}
+use Rattle.ng_steps.specs.LinkBindings.{set_on, written_to, value_set, set_to_value, seen_over, text_set, set_to_text, shown_over, joined_with, set_to_call, bound_pieces}
+use Rattle.ng_steps.specs.LinkingOf.{AreBelow}
+use Rattle.ng_changes.specs.ScopeRuns.{object_limit, scope_run}
+use Rattle.ng_steps.specs.Links.{Linking, begins_linking, started, registered, registered_many, opening_run, opened_by, handed_to, with_bounds, value_kept, texts_kept, value_bound_by, value_bound, text_bound_by, text_bound, source_bound, scope_of, outlet_scope, step_linked, unless_faulted, steps_linked, rested_on, rested_on_all, all_buried, given_up, first_of, ended_link, link_at}
+use Rattle.ng_changes.specs.Runs.{followed, program_run}
+use Rattle.ng_steps.proofs.Placed.{ground_below}
+use Rattle.ng_steps.proofs.Underway.{IsUnderway, steps_underway, begun_underway}
+use Rattle.ng_instances.specs.Bindings.{Bound, bound_text, bound_in, bound_both}
+use Rattle.ng_instances.specs.Changing.{Place}
+use Rattle.ng_link.specs.Calls.{with_core, left_at, placed_on}
+use Rattle.ng_build.specs.Linking.{Opening, a_child, an_isolate, a_slot, LinkStep, makes, stops, opens, binds, installs as installs_step, starts, starts_at, registers, leaves, piece_steps, steps, steps_within, fault_in}
+use Rattle.ng_instances.specs.Registering.{Ground, scope_in_ground, outside_in_ground}
 use Rattle.ng_link.specs.State.{State, live_nodes}
 use Rattle.ng_parts.specs.Directing.{Function, Watching, Hearing, Programs}
 use Rattle.ng_write.specs.Making.{value_in}
-use Rattle.ng_page.proofs.EventsStay.{part, Less, less_refl, less_trans, Stays, less_of, stays_refl, stays_trans, fault_stays, number_stays, objects_stay, child_less, child_stays, buried_stay}
-use Rattle.ng_page.proofs.ProgramsStay.{bind_stay, stores_stay}
-use Rattle.ng_page.proofs.Sites.{SitesStay, sites_refl, sites_trans, sites_cond, core_sites, left_sites}
-use Rattle.ng_page.proofs.StepsStay.{changed_sites, followed_sites, program_stays}
+use Rattle.ng_commands.proofs.EventsStay.{part, Less, less_refl, less_trans, Stays, less_of, stays_refl, stays_trans, fault_stays, number_stays, objects_stay, child_less, child_stays, buried_stay}
+use Rattle.ng_commands.proofs.ProgramsStay.{bind_stay, stores_stay}
+use Rattle.ng_commands.proofs.Sites.{SitesStay, sites_refl, sites_trans, sites_cond, core_sites, left_sites}
+use Rattle.ng_commands.proofs.StepsStay.{changed_sites, followed_sites, program_stays}
 
 -- ---- what is set on a scope
 

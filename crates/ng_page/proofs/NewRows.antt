@@ -11,26 +11,26 @@ use Rattle.ng_base.specs.declared.path.Key.{Key}
 use Rattle.ng_behaviour.specs.Scopes.{Scope, path_at}
 use Rattle.ng_drawing.specs.Template.{Site, Outside, Outlet, OutletScope, Fragment}
 use Rattle.ng_drawing.specs.declared.origin.Origin.{Origin}
-use Rattle.ng_link.specs.Calls.{round_by, outlet_on, outlets_from}
-use Rattle.ng_link.specs.Instances.{OutletState}
-use Rattle.ng_link.specs.Linking.{is_bound_site, steps}
-use Rattle.ng_link.specs.Registering.{Ground, scope_in_ground, outside_in_ground, Round}
-use Rattle.ng_link.specs.Rows.{Row, watching_site, with_first, with_row, with_sites}
-use Rattle.ng_link.specs.Shape.{anchors}
+use Rattle.ng_instances.specs.Changing.{round_by, outlet_on, outlets_from}
+use Rattle.ng_instances.specs.Instances.{OutletState}
+use Rattle.ng_build.specs.Linking.{is_bound_site, steps}
+use Rattle.ng_instances.specs.Registering.{Ground, scope_in_ground, outside_in_ground, Round}
+use Rattle.ng_instances.specs.Rows.{Row, watching_site, with_first, with_row, with_sites}
+use Rattle.ng_build.specs.Shape.{anchors}
 use Rattle.ng_link.specs.Standing.{held_count}
 use Rattle.ng_link.proofs.AtBlocks.{counted_anchors}
 use Rattle.ng_link.proofs.Numbers.{both_true, whole_outlets}
-use Rattle.ng_link.proofs.Rows.{fresh_watcher, row_numbers, sites_other}
+use Rattle.ng_instances.proofs.Rows.{fresh_watcher, row_numbers, sites_other}
 use Rattle.ng_link.proofs.Serials.{first_apart}
 use Rattle.ng_link.proofs.Sorted.{insert_sorted}
-use Rattle.ng_link.proofs.Tables.{put-same}
+use Rattle.ng_build.proofs.Tables.{put-same}
 use Rattle.ng_parts.specs.Numbering.{is_outlet, is_body, is_whole}
 use Rattle.ng_watch.specs.Keys.{key_cmp, key_cmp_total}
 use Rattle.ng_watch.specs.Seen.{Watching, Watcher}
 use Rattle.ng_watch.specs.Table.{Table, found, with_watch}
-use Rattle.ng_page.specs.Settled.{WatchesAt, AreWatched, AreOutlets, IsInner}
-use Rattle.ng_page.proofs.Sites.{InKeys}
-use Rattle.ng_page.proofs.Watched.{kept_found, kept_keys}
+use Rattle.ng_commands.specs.Settled.{WatchesAt, AreWatched, AreOutlets, IsInner}
+use Rattle.ng_commands.proofs.Sites.{InKeys}
+use Rattle.ng_commands.proofs.Watched.{kept_found, kept_keys}
 
 -- ---- outlets that nothing fills yet
 

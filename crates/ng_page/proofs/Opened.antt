@@ -11,12 +11,13 @@ use Rattle.ng_behaviour.specs.Scopes.{IsScopeTree}
 use Rattle.ng_drawing.specs.Nodes.{node_limit}
 use Rattle.ng_drawing.specs.Template.{Fragment, no_fragment}
 use Rattle.ng_drawing.specs.declared.origin.Origin.{Origin}
-use Rattle.ng_fire.specs.Links.{Linking, begins_linking, steps_linked, rested_on_all, placed, given_up, first_of, ended_link, link_at}
-use Rattle.ng_fire.proofs.Registered.{linking_registered}
-use Rattle.ng_fire.proofs.Rooms.{all_within}
-use Rattle.ng_link.specs.Calls.{with_core, at_top, placed_on}
-use Rattle.ng_link.specs.Instances.{Linked, Instances, linked_at}
-use Rattle.ng_link.specs.Linking.{LinkStep, steps, steps_within, fault_in}
+use Rattle.ng_steps.specs.Links.{Linking, begins_linking, steps_linked, rested_on_all, placed, given_up, first_of, ended_link, link_at}
+use Rattle.ng_steps.proofs.Registered.{linking_registered}
+use Rattle.ng_steps.proofs.Rooms.{all_within}
+use Rattle.ng_instances.specs.Changing.{at_top}
+use Rattle.ng_link.specs.Calls.{with_core, placed_on}
+use Rattle.ng_instances.specs.Instances.{Linked, Instances, linked_at}
+use Rattle.ng_build.specs.Linking.{LinkStep, steps, steps_within, fault_in}
 use Rattle.ng_link.specs.Placing.{IsRegistered}
 use Rattle.ng_link.specs.State.{State, live_nodes}
 use Rattle.ng_link.proofs.Counted.{ended_done}
@@ -26,13 +27,13 @@ use Rattle.ng_parts.specs.Numbering.{HasOrder, is_regular}
 use Rattle.ng_compose.specs.TplNames.{next_name}
 use Rattle.ng_page.specs.Opening.{linked_by, linked_from, linked_on, page_origin}
 use Rattle.ng_page.proofs.DigestsStay.{AreFitting, fitting_stays}
-use Rattle.ng_page.proofs.EventsStay.{part, fault_stays}
+use Rattle.ng_commands.proofs.EventsStay.{part, fault_stays}
 use Rattle.ng_page.proofs.Filled.{both_none}
 use Rattle.ng_page.proofs.LinksStay.{steps_sites, all_rested_sites, given_up_sites}
 use Rattle.ng_page.proofs.Placing.{IsNew, placed_watched, placed_fits}
 use Rattle.ng_page.proofs.Plain.{plain_outlets}
 use Rattle.ng_page.proofs.Registered.{fragment_whole, sites_counted, steps_above}
-use Rattle.ng_page.proofs.Sites.{InKeys, SitesStay, sites_trans, core_sites}
+use Rattle.ng_commands.proofs.Sites.{InKeys, SitesStay, sites_trans, core_sites}
 
 nothing_there : (P : Type 0) (is : Instances) (p : List ℕ) (l : Linked) → is ≡ [] → linked_at p is ≡ Some l → P
 nothing_there P is p l none at = let e : ◌≡◌ {A = Option Linked} None (Some l) = ap (linked_at p) (sym none) ∙ at in absurd (cc)

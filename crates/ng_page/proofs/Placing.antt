@@ -11,34 +11,37 @@ use Rattle.ng_behaviour.specs.Scopes.{path_at, object_at}
 use Rattle.ng_drawing.specs.Roles.{Role}
 use Rattle.ng_drawing.specs.Template.{Site, SiteScopes, Outside, inside, handed, OutletScope, Outlet, Fragment}
 use Rattle.ng_drawing.specs.declared.origin.Origin.{Origin}
-use Rattle.ng_link.specs.Bindings.{bound_in_table}
-use Rattle.ng_link.specs.Calls.{round_by, outlet_on, linked_on, Place, at_top, in_outlet, placed_on}
-use Rattle.ng_link.specs.Instances.{OutletState, Linked, Instances, Inners, is_path, linked_at, scope_number, scope_path, key_in, is_site_of, is_site_in, instance_path, with_inner, with_outlets, body_added, with_instance}
-use Rattle.ng_link.specs.Linking.{is_bound_site, steps}
+use Rattle.ng_instances.specs.Bindings.{bound_in_table}
+use Rattle.ng_instances.specs.Changing.{round_by, outlet_on, Place, at_top, in_outlet}
+use Rattle.ng_link.specs.Calls.{linked_on, placed_on}
+use Rattle.ng_instances.specs.Instances.{OutletState, Linked, Instances, Inners, is_path, linked_at, scope_number, scope_path, key_in, is_site_of, is_site_in, instance_path, with_inner, with_outlets, body_added, with_instance}
+use Rattle.ng_build.specs.Linking.{is_bound_site, steps}
 use Rattle.ng_link.specs.Placing.{IsRegistered}
-use Rattle.ng_link.specs.Registering.{scope_in_ground, outside_in_ground, Round, Registered, mark_at, way_of, kept_of, row_at, site_rows}
-use Rattle.ng_link.specs.Rows.{Row, watching_site, with_sites}
-use Rattle.ng_link.specs.Shape.{key_on, anchors}
+use Rattle.ng_instances.specs.Registering.{scope_in_ground, outside_in_ground, Round, Registered, mark_at, way_of, kept_of, row_at, site_rows}
+use Rattle.ng_instances.specs.Rows.{Row, watching_site, with_sites}
+use Rattle.ng_build.specs.Shape.{key_on, anchors}
 use Rattle.ng_link.specs.Standing.{held_count}
 use Rattle.ng_link.specs.State.{State}
 use Rattle.ng_link.proofs.Inner.{is_among, inner_here, inner_other}
 use Rattle.ng_link.proofs.Lookups.{changed_keys, changed_here, changed_other, inserted_here, inserted_other}
 use Rattle.ng_link.proofs.Marks.{marks_found, ground_scope, ground_path, site_row, site_numbers, ground_all}
 use Rattle.ng_link.proofs.Numbers.{whole_numbers}
-use Rattle.ng_link.proofs.Paths.{path_is, other_path}
-use Rattle.ng_link.proofs.Rows.{fresh_watcher, row_numbers, sites_other, sites_found}
+use Rattle.ng_instances.proofs.PathIs.{path_is}
+use Rattle.ng_link.proofs.PathsBelow.{other_path}
+use Rattle.ng_instances.proofs.Rows.{fresh_watcher, row_numbers, sites_other}
+use Rattle.ng_link.proofs.FoundSites.{sites_found}
 use Rattle.ng_link.proofs.Serials.{number_at, all_at_place}
 use Rattle.ng_link.proofs.Sorted.{insert_sorted}
 use Rattle.ng_parts.specs.Numbering.{HasOrder}
 use Rattle.ng_watch.specs.Keys.{is_key}
 use Rattle.ng_watch.specs.Seen.{Watcher}
 use Rattle.ng_watch.specs.Table.{Table, found}
-use Rattle.ng_page.specs.Settled.{site_keys, watching_at, WatchesAt, IsChild, IsRound, IsLinked, leads_in, NumbersDiffer, cases_under, CallsFor, OutletFits, IsWatched, Fits}
+use Rattle.ng_commands.specs.Settled.{site_keys, watching_at, WatchesAt, IsChild, IsRound, IsLinked, leads_in, NumbersDiffer, cases_under, CallsFor, OutletFits, IsWatched, Fits}
 use Rattle.ng_page.proofs.NewRows.{IsWithin, round_within, index_below, outlets_are, as_many_anchors, sites_of, none_held, outlets_each, all_rest, all_inner, numbered_at, watched_there, rows_in_keys, all_watched, site_at, index_there}
 use Rattle.ng_page.proofs.Bodies.{added_count, added_outlets, added_all, put_all}
-use Rattle.ng_page.proofs.ScopesStay.{scopes_refl}
+use Rattle.ng_commands.proofs.ScopesStay.{scopes_refl}
 use Rattle.ng_page.proofs.Unlinking.{some_changed, changed_some}
-use Rattle.ng_page.proofs.Watched.{all_map, number_there, linked_stays}
+use Rattle.ng_commands.proofs.Watched.{all_map, number_there, linked_stays}
 
 -- what is found where an instance has come
 came_some : (p q : List ℕ) (l m : Linked) (is : Instances) → linked_at q (with_instance p l is) ≡ Some m → ((q ≡ p) × (m ≡ l)) ⊎ (linked_at q is ≡ Some m)

@@ -11,13 +11,13 @@ use Rattle.ng_base.specs.declared.name.TplId.{TplId}
 use Rattle.ng_drawing.specs.Origins.{first_home, plain_origin, inner_home}
 use Rattle.ng_drawing.specs.Template.{Piece, Source, of_text, of_nothing, one_way, two_way, of_call, Site, Fragment, no_fragment}
 use Rattle.ng_drawing.specs.declared.origin.Origin.{Origin}
-use Rattle.ng_fire.specs.LinkBindings.{set_to_value, set_to_text, bound_pieces}
-use Rattle.ng_fire.specs.Links.{Linking, begins_linking, scope_of, opening_run, opened_by, registered, registered_many, value_kept, texts_kept, with_bounds, value_bound_by, value_bound, text_bound_by, source_bound, step_linked, unless_faulted, steps_linked}
-use Rattle.ng_fire.proofs.Underway.{rising_push}
-use Rattle.ng_link.specs.Bindings.{Bound, bound_text, bound_in, bound_both}
+use Rattle.ng_steps.specs.LinkBindings.{set_to_value, set_to_text, bound_pieces}
+use Rattle.ng_steps.specs.Links.{Linking, begins_linking, scope_of, opening_run, opened_by, registered, registered_many, value_kept, texts_kept, with_bounds, value_bound_by, value_bound, text_bound_by, source_bound, step_linked, unless_faulted, steps_linked}
+use Rattle.ng_steps.proofs.Underway.{rising_push}
+use Rattle.ng_instances.specs.Bindings.{Bound, bound_text, bound_in, bound_both}
 use Rattle.ng_link.specs.Calls.{with_core}
-use Rattle.ng_link.specs.Linking.{LinkStep, makes, stops, opens, binds, installs, starts, starts_at, registers, leaves, piece_steps, site_count, steps}
-use Rattle.ng_link.specs.Shape.{holes}
+use Rattle.ng_build.specs.Linking.{LinkStep, makes, stops, opens, binds, installs, starts, starts_at, registers, leaves, piece_steps, site_count, steps}
+use Rattle.ng_build.specs.Shape.{holes}
 use Rattle.ng_link.specs.State.{State}
 use Rattle.ng_link.proofs.Counted.{is_done, parts_count}
 use Rattle.ng_link.proofs.Numbers.{counted, whole_count}

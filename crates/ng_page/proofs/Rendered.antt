@@ -1,9 +1,6 @@
 -- The rendering of a page is that of its instance, over scopes and objects that are there.
 use Rattle.std.proofs.Common.{◌≡◌, ◌<◌, ℕ, zero, suc, Bool, true, false, List, [], ◌∷◌, map, length, cond, Option, Some, None, refl, ap, sym, subst, slice_get}
-use Rattle.std.specs.Prelude.{option_map, option_and_then, unwrap_or}
-use Rattle.std.specs.BTreeMap.{is_at}
-use Rattle.std.specs.Map.{lookup}
-use Rattle.std.specs.Ordering.{nat_cmp}
+use Rattle.std.specs.Prelude.{option_map}
 use Rattle.std.specs.List.{AllByRecursion}
 use Rattle.ng_base.specs.Objects.{Object}
 use Rattle.ng_behaviour.specs.ScopeObjects.{AreAmong}
@@ -11,17 +8,16 @@ use Rattle.ng_behaviour.specs.Scopes.{Scope, object_at}
 use Rattle.ng_drawing.specs.Drawing.{shown_as}
 use Rattle.ng_drawing.specs.Instance as instances
 use Rattle.ng_drawing.specs.Instance.{Instance, SiteState, instances_from, outlets_from}
-use Rattle.ng_link.specs.Controls.{Controls}
-use Rattle.ng_link.specs.Events.{element_scope, scope_of}
-use Rattle.ng_link.specs.Instances.{Body, OutletState, Page, Linked, Instances, is_path, linked_at, key_in, scope_number, read_bodies, read, owner_of}
-use Rattle.ng_link.specs.Registering.{mark_in}
+use Rattle.ng_build.specs.Controls.{Controls}
+use Rattle.ng_instances.specs.Instances.{Body, OutletState, Page, Linked, Instances, is_path, linked_at, key_in, scope_number, read_bodies, read}
+use Rattle.ng_instances.specs.Registering.{mark_in}
 use Rattle.ng_link.specs.State.{Resting, State, site_state, site_states, groups_in, instance_join, nothing_linked, instance_at, instance, rendering}
 use Rattle.ng_markup.specs.Forest.{no_nodes}
 use Rattle.ng_render.specs.OverOf.{NamesStand, InstanceStands, InstancesStand, OutletsStand}
 use Rattle.ng_watch.specs.Table.{Table}
-use Rattle.ng_page.specs.Settled.{IsInner, IsWatched}
+use Rattle.ng_commands.specs.Settled.{IsInner, IsWatched}
 use Rattle.ng_page.proofs.Rendering.{all_entries}
-use Rattle.ng_page.proofs.Watched.{scope_within}
+use Rattle.ng_commands.proofs.Watched.{scope_within}
 
 -- what is found of a list's answers is one of them
 mapped_at : (f : ℕ → SiteState) (ns : List ℕ) (i : ℕ) (s : SiteState) → slice_get (map f ns) i ≡ Some s → (n : ℕ) × (f n ≡ s)
@@ -98,15 +94,3 @@ none_there s (Some l) e = absurd (cc)
 
 pub none_rendered : (s : State) → None ≡ instance s → rendering s ≡ shown_as no_nodes
 none_rendered s e = ap (instances.rendering s.core.objects s.core.scopes) (none_read s.watchers s.resting s.controls s.instances [] (none_there s (linked_at [] s.instances) e))
-
--- the scope of a node is one of the scopes
-pub node_scope : (s : State) (n : ℕ) → IsWatched s → 0 < length s.core.scopes → scope_of s n < length s.core.scopes
-node_scope s n h root = by_owner (owner_of n s.owners)
-  where
-    by_linked : (p : List ℕ) (o : Option Linked) → linked_at p s.instances ≡ o → element_scope n o < length s.core.scopes
-    by_linked p None e = root
-    by_linked p (Some l) e = let is = h.linked p l e in scope_within s.core.scopes l.page (unwrap_or (lookup (is_at (nat_cmp n)) l.page.elements) 0) is.there is.inner
-
-    by_owner : (o : Option (List ℕ)) → element_scope n (option_and_then (λ (p : List ℕ). linked_at p s.instances) o) < length s.core.scopes
-    by_owner None = root
-    by_owner (Some p) = by_linked p (linked_at p s.instances) refl

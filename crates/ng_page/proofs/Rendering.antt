@@ -28,15 +28,15 @@ use Rattle.ng_drawing.specs.Template.{Site, Outlet, Filling}
 use Rattle.ng_drawing.specs.declared.kind.SiteKind.{SiteKind}
 use Rattle.ng_drawing.specs.declared.kind.SiteKind.TheVariants as sites
 use Rattle.ng_drawing.proofs.FreshInstances.{fresh_instance}
-use Rattle.ng_link.specs.Bindings.{Bound, bound_in_table}
-use Rattle.ng_link.specs.Controls.{Controls, state_under}
-use Rattle.ng_link.specs.Instances.{Body, OutletState, Page, Linked, Instances, is_path, linked_at, key_in, scope_number, is_site_of, is_site_in, read_bodies, read}
-use Rattle.ng_link.specs.Registering.{mark_in, way_of}
-use Rattle.ng_link.specs.Rows.{watch_kind, kind_against, kind_with, watching_site}
+use Rattle.ng_instances.specs.Bindings.{Bound, bound_in_table}
+use Rattle.ng_build.specs.Controls.{Controls, state_under}
+use Rattle.ng_instances.specs.Instances.{Body, OutletState, Page, Linked, Instances, is_path, linked_at, key_in, scope_number, is_site_of, is_site_in, read_bodies, read}
+use Rattle.ng_instances.specs.Registering.{mark_in, way_of}
+use Rattle.ng_instances.specs.Rows.{watch_kind, kind_against, kind_with, watching_site}
 use Rattle.ng_link.specs.State.{State, Resting, kept_or, site_state, site_states, roles_in, groups_in, instance_join, nothing_linked, instance_at, shown, rendering}
 use Rattle.ng_link.specs.Standing.{AreInner}
 use Rattle.ng_link.proofs.Inner.{key_leads}
-use Rattle.ng_link.proofs.Paths.{other_path, same_path, less_other}
+use Rattle.ng_link.proofs.PathsBelow.{other_path, same_path, less_other}
 use Rattle.ng_link.proofs.Serials.{not_at}
 use Rattle.ng_link.proofs.Undrawn.{rising_differ}
 use Rattle.ng_watch.specs.Keys.{is_key}
@@ -47,9 +47,9 @@ use Rattle.ng_watch.specs.Table.{Table, found}
 use Rattle.ng_watch.specs.Verdicts.{clean, verdict}
 use Rattle.ng_watch.proofs.Judging.{clean_has_kept}
 use Rattle.ng_page.specs.Answered.{WhenOk}
-use Rattle.ng_page.specs.Settled.{IsSettled, WatchesAt, site_keys, watching_at, AreWatched, IsOutlet, AreOutlets, IsRound, IsLinked, leads_in, cases_under, OutletFits, CallsFor, IsWatched, Fits}
+use Rattle.ng_commands.specs.Settled.{IsSettled, WatchesAt, site_keys, watching_at, AreWatched, IsOutlet, AreOutlets, IsRound, IsLinked, leads_in, cases_under, OutletFits, CallsFor, IsWatched, Fits}
 use Rattle.ng_page.proofs.Fitting.{number_itself}
-use Rattle.ng_page.proofs.Watched.{number_there}
+use Rattle.ng_commands.proofs.Watched.{number_there}
 
 -- a site keeps what its watcher keeps
 same_kind : (kind : SiteKind) → snapshot_of (watch_kind kind) ≡ snapshot_as kind

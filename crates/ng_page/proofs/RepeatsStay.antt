@@ -6,15 +6,15 @@ use Rattle.ng_core.proofs.Grows.{named-grows}
 use Rattle.ng_base.specs.Objects.{Object}
 use Rattle.ng_behaviour.specs.Scopes.{object_at}
 use Rattle.ng_drawing.specs.Roles.{Entry}
-use Rattle.ng_fire.specs.Blocks.{told_on}
-use Rattle.ng_fire.specs.Repeats.{item_made, items_made}
-use Rattle.ng_fire.specs.Tracking.{Item}
+use Rattle.ng_rows.specs.Chosen.{told_on}
+use Rattle.ng_rows.specs.RepeatRows.{item_made, items_made}
+use Rattle.ng_rows.specs.Tracking.{Item}
 use Rattle.ng_language.specs.Objects.{set_name}
 use Rattle.ng_members.specs.Leaves.{Local}
 use Rattle.ng_write.specs.Making.{value_in}
 use Rattle.ng_write.specs.Storing.{with_names}
-use Rattle.ng_page.proofs.EventsStay.{part, Stays, stays_refl, objects_stay}
-use Rattle.ng_page.proofs.ProgramsStay.{bind_stay, stores_stay}
+use Rattle.ng_commands.proofs.EventsStay.{part, Stays, stays_refl, objects_stay}
+use Rattle.ng_commands.proofs.ProgramsStay.{bind_stay, stores_stay}
 
 names_grow : (names : List Local) (objects : List Object) (o : ℕ) → length objects ≤ length (with_names objects o names)
 names_grow [] objects o = omega arith

@@ -18,20 +18,23 @@ use Rattle.ng_dom.specs.Lists.{put_at}
 use Rattle.ng_drawing.specs.Roles.{Entry, Role, entries_in, are_rows}
 use Rattle.ng_drawing.specs.Template.{Fragment, Repeated}
 use Rattle.ng_drawing.specs.declared.origin.Origin.{Origin}
-use Rattle.ng_fire.specs.Blocks.{Firing, ended, faulted_with, told_on, filled}
-use Rattle.ng_fire.specs.Repeats.{items_made, keys_of, Row, rows_from, role_for, kept_from, kept_rows, bodies_at, all_ended, rows_taken, with_state, rows_gone, rows_arranged, row_names, Filled, filled_to, row_kept, row_made, row_fired, rows_fired, rows_changed, as_fault, by_plan, by_keys, bodies_or, rows_at, by_items, repeat_fired}
-use Rattle.ng_fire.specs.Runs.{destroy_run}
-use Rattle.ng_fire.specs.Tracking.{Item, track_keys}
-use Rattle.ng_link.specs.Bindings.{Bounds}
-use Rattle.ng_link.specs.Calls.{with_core, in_outlet, arranged_at, unlinked_at}
+use Rattle.ng_rows.specs.Chosen.{told_on}
+use Rattle.ng_fire.specs.Blocks.{Firing, ended, faulted_with, filled}
+use Rattle.ng_rows.specs.RepeatRows.{items_made, keys_of, Row, rows_from, role_for, kept_from, kept_rows, row_names, as_fault}
+use Rattle.ng_fire.specs.Repeats.{bodies_at, all_ended, rows_taken, with_state, rows_gone, rows_arranged, Filled, filled_to, row_kept, row_made, row_fired, rows_fired, rows_changed, by_plan, by_keys, bodies_or, rows_at, by_items, repeat_fired}
+use Rattle.ng_changes.specs.Runs.{destroy_run}
+use Rattle.ng_rows.specs.Tracking.{Item, track_keys}
+use Rattle.ng_instances.specs.Bindings.{Bounds}
+use Rattle.ng_instances.specs.Changing.{in_outlet}
+use Rattle.ng_link.specs.Calls.{with_core, arranged_at, unlinked_at}
 use Rattle.ng_link.specs.Events.{scope_in}
-use Rattle.ng_link.specs.Instances.{Body, OutletState, Linked, linked_at, key_in, is_filled_by, with_outlets, with_body, body_added, with_bodies, bodies_arranged, body_gone}
-use Rattle.ng_link.specs.PlaceOf.{outlet_of_linked}
+use Rattle.ng_instances.specs.Instances.{Body, OutletState, Linked, linked_at, key_in, is_filled_by, with_outlets, with_body, body_added, with_bodies, bodies_arranged, body_gone}
+use Rattle.ng_instances.specs.PlaceOf.{outlet_of_linked}
 use Rattle.ng_link.specs.Standing.{body_count, held_count}
 use Rattle.ng_link.specs.State.{State, roles_in}
 use Rattle.ng_members.specs.Leaves.{Local}
 use Rattle.ng_watch.specs.Keys.{is_key}
-use Rattle.ng_page.specs.Settled.{IsChild, IsRound}
+use Rattle.ng_commands.specs.Settled.{IsChild, IsRound}
 use Rattle.ng_page.proofs.Altered.{all_by_place, by_same_place, alone_there, count_within, Altered, altered_first, altered_on, added_place, added_altered, arranged_place, arranged_altered, gone_altered, arranged_once, ChangedAt}
 use Rattle.ng_page.proofs.Arranging.{MayStand, arranged_here, under_arranged}
 use Rattle.ng_page.proofs.Filled.{IsMade, IsHeld, held_stays, filled_made, fault_sites}
@@ -39,13 +42,13 @@ use Rattle.ng_page.proofs.Fitting.{IsOut}
 use Rattle.ng_page.proofs.Going.{at_place}
 use Rattle.ng_page.proofs.KeptRows.{all_kept, kept_stood, kept_once, AreApart, gone_stood, rows_apart, plan_is, items_entries, rows_entries, own_rows, put_here}
 use Rattle.ng_page.proofs.RepeatsStay.{told_stay, items_stay}
-use Rattle.ng_page.proofs.ScopesStay.{ScopesStay, scopes_refl, scopes_trans}
-use Rattle.ng_page.proofs.Sites.{SitesStay, sites_refl, sites_trans, core_sites}
-use Rattle.ng_page.proofs.StepsStay.{followed_sites, destroyed_stays}
+use Rattle.ng_commands.proofs.ScopesStay.{ScopesStay, scopes_refl, scopes_trans}
+use Rattle.ng_commands.proofs.Sites.{SitesStay, sites_refl, sites_trans, core_sites}
+use Rattle.ng_commands.proofs.StepsStay.{followed_sites, destroyed_stays}
 use Rattle.ng_page.proofs.TrackedKeys.{keys_many}
 use Rattle.ng_page.proofs.Under.{IsUnder, IsOfSite, not_asked, under_stays, under_unlinked}
 use Rattle.ng_page.proofs.Unlinking.{unlinked_here}
-use Rattle.ng_page.proofs.Watched.{all_map, child_stays}
+use Rattle.ng_commands.proofs.Watched.{all_map, child_stays}
 
 not_both : (b : Bool) → b ≡ true → b ≡ false → ⊥
 not_both true e f = cc
@@ -152,10 +155,6 @@ module _ (k : Key) (v : ViewTree) (holder : List ℕ) (ks : List Key) (left : li
 
     rows_go : (bs : List Body) (g : Firing) → AreAlone bs → IsFrom g.state → IsFrom (rows_gone holder bs g).state
     rows_go bs g alone h = all_taken bs (all_ended bs g).state alone (from_stays g.state (all_ended bs g).state (all_ended_sites bs g) h)
-
-    all_ended_faulted : (bs : List Body) (g : Firing) → (all_ended bs g).faulted ≡ g.faulted
-    all_ended_faulted [] g = refl
-    all_ended_faulted (b ∷ bs) g = all_ended_faulted bs (ended b.path g)
 
     taken_core : (bs : List Body) (s : State) → (rows_taken holder bs s).core ≡ s.core
     taken_core [] s = refl

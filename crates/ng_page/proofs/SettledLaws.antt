@@ -28,7 +28,7 @@ use Rattle.ng_digest.specs.Short.{Skips, none_above, at_remembered, at_dirty, pa
 use Rattle.ng_digest.proofs.Carried.{tested_is}
 use Rattle.ng_digest.proofs.Fresh.{rounds_known}
 use Rattle.ng_digest.proofs.Stop.{forgotten}
-use Rattle.ng_fire.specs.Settling as settling
+use Rattle.ng_changes.specs.Settling as settling
 use Rattle.ng_link.specs.State as link
 use Rattle.ng_watch.specs.Ended.{is_over}
 use Rattle.ng_watch.specs.Keys.{key_cmp, is_key, key_cmp_total}
@@ -38,7 +38,7 @@ use Rattle.ng_watch.specs.Verdicts.{Judged, clean, dirty, verdict}
 use Rattle.ng_page.specs.Answered.{ready_place}
 use Rattle.ng_page.specs.PageLaws.{key_is, quiet, quiet_of, same_quiet, unset_core, page_laws}
 use Rattle.ng_page.specs.PageMachine.{State, found_as, verdict_of, is_told, counted, handed_over, settled, page_machine, readied}
-use Rattle.ng_page.specs.Settled.{IsSettled}
+use Rattle.ng_commands.specs.Settled.{IsSettled}
 use Rattle.ng_page.proofs.DigestsStay.{has_any, AreTold, told_stays}
 
 -- ---- where a round ends without a fire, the keys are in order
@@ -79,10 +79,6 @@ rounds_order (last_is_clean d) = quiet_order d
 rounds_order (one_more d h rest) = rounds_order rest
 
 -- ---- nothing was handed over, so nothing faulted
-
-not_both : (b : Bool) → b ≡ true → b ≡ false → ⊥
-not_both true e f = cc
-not_both false e f = cc
 
 none_some : (n : ℕ) (o : Option Fault) → counted n o ≡ None → is_some o ≡ true → ⊥
 none_some n None e h = cc

@@ -1,8 +1,7 @@
 -- Between a test and its fire.
-use Rattle.std.proofs.Common.{◌≡◌, Bool, true, false, [], ◌∷◌, None, Some, Option, Result, Ok, Err, refl, ap, sym, subst, ◌∙◌, cond, find}
+use Rattle.std.proofs.Common.{◌≡◌, Bool, true, false, [], ◌∷◌, None, Some, refl, ap, sym, subst, ◌∙◌, cond, find}
 use Rattle.std.specs.Prelude.{option_map}
 use Rattle.std.specs.Map.{keys_of}
-use Rattle.std.specs.Option.{ForSome}
 use Rattle.ng_base.specs.declared.path.Key.{Key}
 use Rattle.ng_digest.specs.Machine.{Verdict, found_clean, found_dirty, found_faulted, above, verdict_at}
 use Rattle.ng_digest.specs.Place.{Answers, OnTested, stage_tested, state_tested}
@@ -12,14 +11,13 @@ use Rattle.ng_digest.specs.declared.world.Tested.TheVariants.{Clean, Dirty, Faul
 use Rattle.ng_digest.specs.declared.world.Stage.TheVariants.{AtKey, Pending}
 use Rattle.ng_watch.specs.Keys.{is_above}
 use Rattle.ng_watch.specs.Seen.{Watcher}
-use Rattle.ng_watch.specs.Table.{Table, found, first_key, key_after}
+use Rattle.ng_watch.specs.Table.{Table, first_key, key_after}
 use Rattle.ng_base.specs.Views.{ViewTree}
 use Rattle.ng_value.specs.Snaps.{snap_of}
-use Rattle.ng_base.specs.declared.fault.Fault.{Fault}
-use Rattle.ng_fire.specs.Fires.{fired as fires, fire_adds}
-use Rattle.ng_watch.specs.Verdicts.{Judged, clean, dirty, verdict}
-use Rattle.ng_page.specs.PageMachine.{State, page_machine, handed_on, handed_on_of, handed_on_at, fired_to, fired_by, fired, adds_by, adds}
-use Rattle.ng_page.specs.PlaceOf.{IsAtStage, IsAtWatcher, WorksAre, Holds, OnDirty, handed_on_from, state_of}
+use Rattle.ng_fire.specs.Fires.{fired as fires}
+use Rattle.ng_page.specs.PageMachine.{State, page_machine, handed_on_at, fired_to, fired_by, fired}
+use Rattle.ng_commands.specs.BetweenSteps.{WorksAre}
+use Rattle.ng_page.specs.PlaceOf.{IsAtStage, IsAtWatcher, Holds, OnDirty, handed_on_from, state_of}
 use Rattle.ng_page.specs.declared.engine.Engine.{Engine}
 
 -- only a dirty test asks for a fire
@@ -47,30 +45,9 @@ first_next (e ∷ t) = refl
 pub after_next : (k : Key) (t : Table) → find (above page_machine (Some k)) (keys_of t) ≡ key_after k t
 after_next k t = found_key (is_above k) t
 
--- a dirty test hands its snapshot on
-handed_dirty : (r : Result Judged Fault) (t : ViewTree) → handed_on r ≡ Some t → r ≡ Ok (dirty t)
-handed_dirty (Ok clean) t e = cc
-handed_dirty (Ok (dirty u)) t e = cc
-handed_dirty (Err f) t e = cc
-
-dirty_found : (s : State) (o : Option Watcher) (t : ViewTree) → handed_on_of s o ≡ Some t → ForSome o (λ w. verdict s.works.core.objects w ≡ Ok (dirty t))
-dirty_found s o t e w f = handed_dirty (verdict s.works.core.objects w) t (sym (ap (handed_on_of s) f) ∙ e)
-
-pub fired_dirty : (s : State) (k : Key) (t : ViewTree) → Some t ≡ handed_on_at s k → ForSome (found k s.works.watchers) (λ w. verdict s.works.core.objects w ≡ Ok (dirty t))
-fired_dirty s k t e = dirty_found s (found k s.works.watchers) t (sym e)
-
 -- the fire of what was handed on
 pub fired_on : (s u : State) (k : Key) (t : ViewTree) → Some t ≡ handed_on_at s k → u ≡ fired_to k (fires k t s.works) s → u ≡ fired s k
 fired_on s u k t e h = h ∙ ap (λ o. fired_by k o s) e
-
-pub added_on : (s : State) (a : Bool) (k : Key) (t : ViewTree) → Some t ≡ handed_on_at s k → a ≡ fire_adds k t s.works → a ≡ adds s k
-added_on s a k t e h = h ∙ ap (λ o. adds_by k o s) e
-
-pub fired_none : (s : State) (k : Key) → None ≡ handed_on_at s k → s ≡ fired s k
-fired_none s k e = ap (λ o. fired_by k o s) e
-
-pub added_none : (s : State) (k : Key) → None ≡ handed_on_at s k → false ≡ adds s k
-added_none s k e = ap (λ o. adds_by k o s) e
 
 holds_at : (e : Engine) (q : Standing Key) (same : Bool) (v : Verdict) → WorksAre e.works → q ≡ test_done same v e.progress → (v ≡ found_dirty → IsAtStage Pending (record e { progress = q })) → Holds (record e { progress = q })
 holds_at e q same v works step asks = record {

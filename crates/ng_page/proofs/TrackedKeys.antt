@@ -5,7 +5,7 @@ use Rattle.ng_base.specs.Objects.{Object}
 use Rattle.ng_base.specs.declared.fault.Fault.{Fault}
 use Rattle.ng_blocks.specs.declared.keys.TrackKey.{TrackKey}
 use Rattle.ng_drawing.specs.Template.{Repeated}
-use Rattle.ng_fire.specs.Tracking.{Item, track_key, track_keys}
+use Rattle.ng_rows.specs.Tracking.{Item, track_key, track_keys}
 
 pub keys_many : (objects : List Object) (o : ℕ) (w : Repeated) (i : ℕ) (done : List TrackKey) (xs : List Item) (ks : List TrackKey) → track_keys objects o w i done xs ≡ Ok ks → length ks ≡ length done + length xs
 keys_many objects o w i done [] ks h = let same : done ≡ ks = cc in let e : length ks ≡ length done = ap (λ (ls : List TrackKey). length ls) (sym same) in omega (arith, e)

@@ -1,5 +1,5 @@
 -- A fire under way: what is linked is watched, and each other block has the bodies that it calls for.
-use Rattle.std.proofs.Common.{◌≡◌, ◌⊎◌, inl, inr, ◌<◌, ◌+◌, ℕ, Bool, true, false, List, [], ◌∷◌, ◌++◌, length, cond, Option, Some, None, refl, ap, sym, subst, ◌∙◌, arith, slice_get, slice_index_or}
+use Rattle.std.proofs.Common.{◌≡◌, ◌⊎◌, inl, inr, ◌<◌, ℕ, Bool, true, false, List, [], ◌∷◌, ◌++◌, length, cond, Option, Some, None, refl, ap, sym, subst, ◌∙◌, arith, slice_get, slice_index_or}
 use Rattle.std.specs.List.{AllByRecursion, list_any}
 use Rattle.ng_base.specs.Views.{ViewTree}
 use Rattle.ng_base.specs.declared.path.Key.{Key}
@@ -8,31 +8,34 @@ use Rattle.ng_behaviour.proofs.Grown.{fresh-none}
 use Rattle.ng_drawing.specs.Roles.{Role}
 use Rattle.ng_drawing.specs.Template.{Fragment}
 use Rattle.ng_drawing.specs.declared.origin.Origin.{Origin}
-use Rattle.ng_fire.specs.Blocks.{Firing, went, goes, gone, all_gone}
-use Rattle.ng_fire.specs.Runs.{destroy_run}
-use Rattle.ng_link.specs.Bindings.{Bounds}
-use Rattle.ng_link.specs.Calls.{left_at, in_outlet, placed_on, unlinked_at}
+use Rattle.ng_rows.specs.Chosen.{goes}
+use Rattle.ng_fire.specs.Blocks.{Firing, went, gone, all_gone}
+use Rattle.ng_changes.specs.Runs.{destroy_run}
+use Rattle.ng_instances.specs.Bindings.{Bounds}
+use Rattle.ng_instances.specs.Changing.{in_outlet}
+use Rattle.ng_link.specs.Calls.{left_at, placed_on, unlinked_at}
 use Rattle.ng_link.specs.Events.{scope_in}
-use Rattle.ng_link.specs.Instances.{Body, OutletState, Linked, Inners, is_path, linked_at, instance_path, key_in, is_site_of, is_filled_by, with_outlets, body_added, body_gone}
-use Rattle.ng_link.specs.Registering.{Registered}
+use Rattle.ng_instances.specs.Instances.{Body, OutletState, Linked, Inners, is_path, linked_at, instance_path, key_in, is_site_of, is_filled_by, with_outlets, body_added, body_gone}
+use Rattle.ng_instances.specs.Registering.{Registered}
 use Rattle.ng_link.specs.Standing.{body_count, held_count}
 use Rattle.ng_link.specs.State.{State}
-use Rattle.ng_link.proofs.Keys.{equal_numbers}
+use Rattle.ng_build.proofs.Keys.{equal_numbers}
 use Rattle.ng_link.proofs.Numbers.{both_true}
-use Rattle.ng_link.proofs.Paths.{other_path}
+use Rattle.ng_link.proofs.PathsBelow.{other_path}
 use Rattle.ng_watch.specs.Keys.{is_key}
 use Rattle.ng_watch.specs.Seen.{Watcher}
 use Rattle.ng_watch.specs.Table.{found}
-use Rattle.ng_page.specs.Settled.{IsChild, IsRound, leads_in, IsWatched, Fits}
-use Rattle.ng_page.proofs.Fitting.{IsOut, fits_stays}
+use Rattle.ng_commands.specs.Settled.{IsChild, IsRound, leads_in, IsWatched, Fits}
+use Rattle.ng_commands.proofs.FitsStay.{fits_stays}
+use Rattle.ng_page.proofs.Fitting.{IsOut}
 use Rattle.ng_page.proofs.Going.{leaves, Goes, goes_on, AreSpared, spared_on}
 use Rattle.ng_page.proofs.NewRows.{index_there}
 use Rattle.ng_page.proofs.Placing.{IsNew, HasRoom, came_leads, came_path, low_of, others_found, holder_was, placed_watched, placed_fits}
-use Rattle.ng_page.proofs.ScopesStay.{ScopesStay, scopes_trans, scopes_grow, child_there, child_on, child_counted}
-use Rattle.ng_page.proofs.Sites.{SitesStay, same_site, left_sites}
-use Rattle.ng_page.proofs.StepsStay.{followed_sites, destroyed_stays}
+use Rattle.ng_commands.proofs.ScopesStay.{ScopesStay, scopes_trans, scopes_grow, child_there, child_on, child_counted}
+use Rattle.ng_commands.proofs.Sites.{SitesStay, same_site, left_sites}
+use Rattle.ng_commands.proofs.StepsStay.{followed_sites, destroyed_stays}
 use Rattle.ng_page.proofs.Unlinking.{unlinked_some, unlinked_here, cut_leads, cut_path, unlinked_watched, unlinked_fits}
-use Rattle.ng_page.proofs.Watched.{all_map, watched_stays}
+use Rattle.ng_commands.proofs.Watched.{all_map, watched_stays}
 
 -- ---- a scope that was made for a body
 

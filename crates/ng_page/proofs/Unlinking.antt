@@ -10,20 +10,22 @@ use Rattle.ng_base.specs.Order.{path_cmp, path_cmp_total}
 use Rattle.ng_base.specs.declared.path.Key.{Key}
 use Rattle.ng_drawing.specs.Template.{Outlet}
 use Rattle.ng_link.specs.Calls.{left_at, unlinked_at}
-use Rattle.ng_link.specs.Instances.{OutletState, Linked, Instances, Inners, is_path, linked_at, key_in, is_site_of, is_site_in, is_site, instance_path, inner_without, with_outlets, outlets_changed, without_body, body_gone, unlinked}
+use Rattle.ng_instances.specs.Instances.{OutletState, Linked, Instances, Inners, is_path, linked_at, key_in, is_site_of, is_site_in, is_site, instance_path, inner_without, with_outlets, outlets_changed, without_body, body_gone, unlinked}
 use Rattle.ng_link.specs.Standing.{body_count}
 use Rattle.ng_link.specs.State.{State}
 use Rattle.ng_link.proofs.Lookups.{changed_keys, changed_here, changed_other, kept_found}
-use Rattle.ng_link.proofs.Paths.{path_is, other_path}
+use Rattle.ng_instances.proofs.PathIs.{path_is}
+use Rattle.ng_link.proofs.PathsBelow.{other_path}
 use Rattle.ng_link.proofs.Sorted.{filter_sorted}
 use Rattle.ng_watch.specs.Keys.{begins}
 use Rattle.ng_watch.specs.Table.{Table}
-use Rattle.ng_page.specs.Settled.{site_keys, IsChild, IsRound, IsLinked, cases_under, OutletFits, leads_in, NumbersDiffer, IsWatched, Fits}
+use Rattle.ng_commands.specs.Settled.{site_keys, IsChild, IsRound, IsLinked, cases_under, OutletFits, leads_in, NumbersDiffer, IsWatched, Fits}
 use Rattle.ng_page.proofs.Bodies.{calls_same, all_mapped, filter_all, filter_none, gone_outlets, gone_count}
-use Rattle.ng_page.proofs.Fitting.{IsOut, fits_stays}
-use Rattle.ng_page.proofs.ScopesStay.{scopes_refl}
-use Rattle.ng_page.proofs.Sites.{left_sites}
-use Rattle.ng_page.proofs.Watched.{all_map, all_both, linked_stays, watched_stays}
+use Rattle.ng_commands.proofs.FitsStay.{fits_stays}
+use Rattle.ng_page.proofs.Fitting.{IsOut}
+use Rattle.ng_commands.proofs.ScopesStay.{scopes_refl}
+use Rattle.ng_commands.proofs.Sites.{left_sites}
+use Rattle.ng_commands.proofs.Watched.{all_map, all_both, linked_stays, watched_stays}
 
 -- what is found among the instances that pass a test was found
 kept_none : (test : List ℕ → Bool) (is : Instances) (q : List ℕ) → test q ≡ false → linked_at q (filter (λ (e : List ℕ × Linked). test e.0) is) ≡ None

@@ -5,10 +5,10 @@ use Rattle.ng_base.specs.declared.fault.Memory.{Memory as Wanted}
 use Rattle.ng_link.specs.State as link
 use Rattle.ng_link.specs.State.{shown, rendering}
 use Rattle.ng_page.specs.Answered.{WhenOk}
-use Rattle.ng_page.specs.Commands.{Asked, is_idle}
+use Rattle.ng_commands.specs.Commands.{Asked, is_idle}
 use Rattle.ng_page.specs.OutcomeOf.{outcome_of}
 use Rattle.ng_page.specs.PageOf.{state_of, IsPage, Displays}
-use Rattle.ng_page.specs.Settled.{IsSettled}
+use Rattle.ng_commands.specs.Settled.{IsSettled}
 use Rattle.ng_page.specs.Steps.{Ends, EndsShort, Steps, StepsShort}
 use Rattle.ng_page.specs.declared.outcome.Outcome.{Outcome}
 use Rattle.ng_page.specs.declared.outcome.PageFault.{PageFault}

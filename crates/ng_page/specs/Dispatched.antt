@@ -5,9 +5,10 @@ use Rattle.ng_digest.specs.declared.rounds.DigestFault.{DigestFault}
 use Rattle.ng_drawing.specs.Drawing.{shown_as}
 use Rattle.ng_link.specs.State.{shown, rendering}
 use Rattle.ng_page.specs.Answered.{WhenOk}
-use Rattle.ng_page.specs.Dispatch.{Happening, Told, Dispatches, last_digest}
+use Rattle.ng_commands.specs.Handling.{Happening}
+use Rattle.ng_page.specs.Dispatch.{Told, Dispatches, last_digest}
 use Rattle.ng_page.specs.PageOf.{state_of, IsPage, Displays}
-use Rattle.ng_page.specs.Settled.{IsSettled}
+use Rattle.ng_commands.specs.Settled.{IsSettled}
 use Rattle.ng_page.specs.declared.outcome.Outcome.{Outcome}
 use Rattle.ng_page.specs.declared.outcome.PageFault.{PageFault}
 use Rattle.ng_page.specs.declared.outcome.PageFault.TheVariants.{Idle, Spent, Memory}

@@ -13,10 +13,10 @@ use Rattle.ng_base.specs.declared.name.Oid.{Oid}
 use Rattle.ng_base.specs.declared.path.Key.{Key}
 use Rattle.ng_drawing.specs.Drawing.{shown_as}
 use Rattle.ng_drawing.specs.Template.{Fragment}
-use Rattle.ng_fire.specs.Links.{Linking, begins_linking, steps_linked}
+use Rattle.ng_steps.specs.Links.{Linking, begins_linking, steps_linked}
 use Rattle.ng_language.specs.Trees.{Trees}
 use Rattle.ng_language.specs.declared.snapshots.SnapKind.{SnapKind}
-use Rattle.ng_link.specs.Linking.{LinkStep}
+use Rattle.ng_build.specs.Linking.{LinkStep}
 use Rattle.ng_link.specs.Standing.{AreInner}
 use Rattle.ng_link.specs.State.{State, shown, rendering}
 use Rattle.ng_value.specs.Taken.{taken}
@@ -25,9 +25,10 @@ use Rattle.ng_watch.specs.Seen.{Watcher}
 use Rattle.ng_watch.specs.Table.{found}
 use Rattle.ng_watch.specs.Verdicts.{own_value}
 use Rattle.ng_watch.specs.declared.watch.WatchKind.TheVariants as kinds
-use Rattle.ng_page.specs.Commands.{Asked}
-use Rattle.ng_page.specs.Dispatch.{Happening, Told, Dispatches}
-use Rattle.ng_page.specs.Settled.{IsSettled, IsWatched, Fits}
+use Rattle.ng_commands.specs.Commands.{Asked}
+use Rattle.ng_commands.specs.Handling.{Happening}
+use Rattle.ng_page.specs.Dispatch.{Told, Dispatches}
+use Rattle.ng_commands.specs.Settled.{IsSettled, IsWatched, Fits}
 use Rattle.ng_page.specs.Steps.{Outcome, Steps}
 
 -- Where no watcher of a page is dirty, and each block has the bodies that it calls for, the page shows its rendering. The scopes of what is linked are noted

@@ -1,13 +1,10 @@
 pub mod PageMachine
 pub mod PageLaws
-pub mod Settled
-pub mod Commands
 pub mod Opening
 pub mod Answered
 pub mod Steps
 pub mod PlaceOf
 pub mod Targets
-pub mod EventObject
 pub mod Dispatch
 pub mod PageOf
 pub mod OutcomeOf

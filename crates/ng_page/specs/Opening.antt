@@ -10,9 +10,10 @@ use Rattle.ng_base.specs.declared.fault.Fault.{Fault}
 use Rattle.ng_drawing.specs.Origins.{plain_origin, first_home}
 use Rattle.ng_drawing.specs.Template.{Template}
 use Rattle.ng_drawing.specs.declared.origin.Origin.{Origin}
-use Rattle.ng_fire.specs.Links.{Linking, link_at}
-use Rattle.ng_fire.specs.Runs.{followed, program_run}
-use Rattle.ng_link.specs.Calls.{blank, with_core, at_top}
+use Rattle.ng_steps.specs.Links.{Linking, link_at}
+use Rattle.ng_changes.specs.Runs.{followed, program_run}
+use Rattle.ng_instances.specs.Changing.{at_top}
+use Rattle.ng_link.specs.Calls.{blank, with_core}
 use Rattle.ng_link.specs.State as link
 use Rattle.ng_compose.specs.Kept.{Named, fragments_in}
 

@@ -16,8 +16,8 @@ use Rattle.ng_watch.specs.Keys.{key_cmp, key_cmp_total, is_key}
 use Rattle.ng_watch.specs.Seen.{Watcher}
 use Rattle.ng_watch.specs.Table.{found, with_kept}
 use Rattle.ng_watch.specs.Verdicts.{Judged, verdict}
-use Rattle.ng_fire.specs.Runs.{any_waits}
-use Rattle.ng_fire.specs.Settling.{unset_all}
+use Rattle.ng_changes.specs.Runs.{any_waits}
+use Rattle.ng_changes.specs.Settling.{unset_all}
 use Rattle.ng_link.specs.Calls.{is_drawn, unset_at}
 use Rattle.ng_link.specs.State as link
 use Rattle.ng_page.specs.PageMachine.{State, is_told, told_at, tell, tested_of, tested, verdict_of, verdict_at, page_machine}

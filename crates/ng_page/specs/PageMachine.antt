@@ -10,8 +10,8 @@ use Rattle.ng_base.specs.declared.fault.Fault.{Fault}
 use Rattle.ng_base.specs.declared.path.Key.{Key}
 use Rattle.ng_digest.specs.Machine.{Machine, Verdict, found_clean, found_dirty, found_faulted}
 use Rattle.ng_fire.specs.Fires.{fired as fires, fire_adds}
-use Rattle.ng_fire.specs.Runs.{any_waits, ran}
-use Rattle.ng_fire.specs.Settling as settling
+use Rattle.ng_changes.specs.Runs.{any_waits, ran}
+use Rattle.ng_changes.specs.Settling as settling
 use Rattle.ng_link.specs.Calls.{with_core}
 use Rattle.ng_link.specs.State as link
 use Rattle.ng_link.specs.Untroubled.{untroubled}

@@ -1,5 +1,5 @@
 -- The engine of a page as a world.
-use Rattle.std.specs.Prelude.{ℕ, ◌≡◌, ◌<◌, List, [], length, Option, Some, None, Result, Ok, Err, IsSome, option_map}
+use Rattle.std.specs.Prelude.{ℕ, ◌≡◌, List, Option, Some, None, Result, Ok, Err, IsSome, option_map}
 use Rattle.ng_base.specs.Views.{ViewTree}
 use Rattle.ng_base.specs.declared.fault.Fault.{Fault}
 use Rattle.ng_base.specs.declared.path.Key.{Key}
@@ -9,7 +9,6 @@ use Rattle.ng_digest.specs.declared.world.Tested.{Tested}
 use Rattle.ng_digest.specs.declared.world.Tested.TheVariants.{Dirty}
 use Rattle.ng_digest.specs.declared.world.Stage.{Stage}
 use Rattle.ng_digest.specs.declared.world.Stage.TheVariants.{AtKey, Pending}
-use Rattle.ng_fire.specs.Whole.{IsWhole}
 use Rattle.ng_link.specs.State as link
 use Rattle.ng_link.specs.declared.works.Works.{Works}
 use Rattle.ng_value.specs.Snaps.{snap_of}
@@ -18,8 +17,8 @@ use Rattle.ng_watch.specs.Verdicts.{Judged, judged_of, verdict}
 use Rattle.ng_watch.specs.Walks.{Arrival, behind_all, at_watcher}
 use Rattle.ng_watch.specs.declared.watch.Verdict.{Verdict}
 use Rattle.ng_page.specs.PageMachine.{State, handed_on_at, page_machine}
-use Rattle.ng_page.specs.Settled.{IsWatched, Fits}
 use Rattle.ng_page.specs.declared.engine.Engine.{Engine}
+use Rattle.ng_commands.specs.BetweenSteps.{WorksAre}
 
 -- what works stand for in a digest, with what it remembers of tests, fires and probes
 abbrev pub seen_of : Works → List Key → List Key → List (List ℕ) → State
@@ -77,17 +76,6 @@ IsAtStage stage e = Unit {0}
 abbrev pub OnDirty : Tested → Type 0 → Type 0
 OnDirty Dirty p = p
 OnDirty tested p = Unit {0}
-
--- the works are whole, and the page's template is there
-pub record WorksAre (w : Works) : Type 0 where
-  pub whole : IsWhole w
-  pub templates : 0 < length (link.templates_of w)
-
--- All that is linked is watched, and each block has the bodies that it calls for.
-pub record PageIs (w : Works) : Type 0 where
-  pub works : WorksAre w
-  pub watched : IsWatched (link.state_of w)
-  pub fits : Fits [] (link.state_of w)
 
 -- what holds of the engine between the calls of a digest
 pub record Holds (e : Engine) : Type 0 where

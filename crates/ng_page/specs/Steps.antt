@@ -8,7 +8,7 @@ use Rattle.ng_digest.specs.declared.rounds.DigestFault.{DigestFault}
 use Rattle.ng_drawing.specs.Template.{Template}
 use Rattle.ng_link.specs.State as link
 use Rattle.ng_page.specs.Answered.{DigestsWhere, ShortWhere}
-use Rattle.ng_page.specs.Commands.{Asked, begun, asked_run}
+use Rattle.ng_commands.specs.Commands.{Asked, begun, asked_run}
 use Rattle.ng_page.specs.Opening.{opening}
 
 -- What a step did: how many faults its program handed over, and the first; the answer of its digest, which is none where no

@@ -8,8 +8,9 @@ ghost use Rattle.ng_link.specs.State as link;
 ghost use Rattle.ng_page.specs.Answered.{ready_place, PlainlyDigests, ShortlyDigests, WhenOk};
 ghost use Rattle.ng_page.specs.OutcomeOf.{outcome_of};
 ghost use Rattle.ng_page.specs.PageMachine.{page_machine, readied};
-ghost use Rattle.ng_page.specs.PlaceOf.{state_of, place_of, WorksAre, PageIs};
-ghost use Rattle.ng_page.specs.Settled.{IsSettled};
+ghost use Rattle.ng_commands.specs.BetweenSteps.{WorksAre, PageIs};
+ghost use Rattle.ng_page.specs.PlaceOf.{state_of, place_of};
+ghost use Rattle.ng_commands.specs.Settled.{IsSettled};
 ghost use Rattle.ng_page.specs.Steps.{Ends, EndsShort};
 
 use crate::engine::Engine;

@@ -7,28 +7,24 @@
 //! with a digest of its own. `Page::print` appends the document on one line, `Page::rendered` computes it afresh, and `Page::find`
 //! finds the element that a command is aimed at.
 //!
-//! The contract that the run above uses is `Commanded` (specs/Commanded): after a command the page's state is the one that the
-//! plain digest leaves, from what the program left; the document shows what the sites have kept, and after the answer Ok that
-//! is the rendering. `Commands` says what programs leave, `Opening` what opening makes of a page, `PageMachine` what a digest does
-//! to it, and `Steps` puts them together. For an event that contract is `Dispatched`; `EventObject` says what `$event` is, and
-//! `Dispatch` which handlers run and what they leave. `Settled` says when no watcher is dirty; `laws` has what is proved of these
+//! The contract that the run above uses is `Commanded` (specs/Commanded): after a command the page's state is the one that the plain
+//! digest leaves, from what the program left; the document shows what the sites have kept, and after the answer Ok that is the rendering.
+//! ng_commands says what programs leave, `Opening` what opening makes of a page, `PageMachine` what a digest does to it, and `Steps` puts
+//! them together. For an event that contract is `Dispatched`; `Dispatch` says which handlers run; `laws` has what is proved of these
 //! definitions alone.
 //!
-//! In reading order: `outcome`; `engine`, `testing` and `world`, which is the engine as the world of ng_digest; `digesting`;
-//! `running` and `opening`, which run programs before a digest; `counting`, `event_object` and `dispatching`; `page`.
+//! In reading order: `outcome`; `engine`, `testing` and `world`, which is the engine as the world of ng_digest; `digesting`; `opening`;
+//! `dispatching` runs the handlers of an event, `page` has the calls; `laws`. What commands and handlers do before their digest is ng_commands'.
 //!
 //! Nothing here knows of files, words or output.
 #![tactic(auto)]
 
-mod counting;
 mod digesting;
 mod dispatching;
 mod engine;
-mod event_object;
 pub mod laws;
 mod opening;
 pub mod outcome;
 pub mod page;
-mod running;
 mod testing;
 mod world;

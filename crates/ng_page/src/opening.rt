@@ -11,20 +11,20 @@ ghost use Rattle.ng_parts.specs.Numbering.{is_regular};
 ghost use Rattle.ng_compose.specs.DirectivesOf.{directives_of};
 ghost use Rattle.ng_parts.specs.TemplateOf.{template_of};
 ghost use Rattle.ng_page.specs.Opening.{prepared, linked_by, linked_on, opening};
-ghost use Rattle.ng_page.specs.PlaceOf.{WorksAre, PageIs};
-ghost use Rattle.ng_page.specs.Settled.{IsWatched, Fits};
+ghost use Rattle.ng_commands.specs.BetweenSteps.{WorksAre, PageIs};
+ghost use Rattle.ng_commands.specs.Settled.{IsWatched, Fits};
 
 use ng_app::App;
 use ng_base::fault::{Fault, Memory};
 use ng_base::name::{ScopeId, TplId};
+use ng_changes::following::follow;
+use ng_changes::programs::run_program;
 use ng_compose::Templates;
 use ng_drawing::origin::{Home, Origin};
-use ng_fire::following::follow;
-use ng_fire::linking::link_at;
-use ng_fire::programs::run_program;
-use ng_link::linking::Place;
+use ng_instances::linking::Place;
 use ng_link::works::Works;
 use ng_parts::Tpl;
+use ng_steps::linking::link_at;
 use std::alloc::Global;
 
 /// What the application installs and registers on the root, and its first program.

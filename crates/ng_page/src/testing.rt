@@ -9,7 +9,8 @@ ghost use Rattle.ng_value.specs.Snaps.{snap_of};
 ghost use Rattle.ng_watch.specs.Table.{found};
 ghost use Rattle.ng_watch.specs.Walks.{reached_of};
 ghost use Rattle.ng_page.specs.PageMachine.{found_as, tell, fired_to, handed_on};
-ghost use Rattle.ng_page.specs.PlaceOf.{seen_of, seen_found, key_at, last_at, found_there, WorksAre, OnDirty};
+ghost use Rattle.ng_commands.specs.BetweenSteps.{WorksAre};
+ghost use Rattle.ng_page.specs.PlaceOf.{seen_of, seen_found, key_at, last_at, found_there, OnDirty};
 
 use ng_base::fault::{Fault, Memory};
 use ng_base::path::Key;

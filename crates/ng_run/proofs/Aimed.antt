@@ -12,7 +12,7 @@ use Rattle.ng_dom.specs.Nodes.{NamedNode, NamedForest, named_text, named_comment
 use Rattle.ng_dom.specs.Paths.{StandsIn}
 use Rattle.ng_dom.specs.Printed.{at_place}
 use Rattle.ng_dom.proofs.Stands.{places_stand, found_stand}
-use Rattle.ng_link.specs.Controls.{IsOfKind, kind_in}
+use Rattle.ng_build.specs.Controls.{IsOfKind, kind_in}
 use Rattle.ng_link.specs.Events.{named, scope_of}
 use Rattle.ng_link.proofs.Displayed.{page_names}
 use Rattle.ng_page.specs.PageOf.{state_of, Names}
@@ -20,7 +20,7 @@ use Rattle.ng_page.specs.Targets.{element_name, target_in}
 use Rattle.ng_page.specs.declared.page.Page.{Page}
 use Rattle.ng_script.specs.declared.commands.ScopeOf.TheVariants as scope
 use Rattle.ng_run.specs.Aims.{takes_text, is_checkbox, is_of_kind, if_control, control_in, scope_in}
-use Rattle.ng_run.specs.ReplyOf.{IsReady}
+use Rattle.ng_printing.specs.StepSeen.{IsReady}
 
 element_is : (o : Option NamedNode) (n : ℕ) → element_name o ≡ Some n → option_map name_of o ≡ Some n
 element_is None n e = cc
@@ -73,9 +73,6 @@ module _ (p : Page) (ready : IsReady p) (t : Target) where
   -- the document of a page has the names that its state says
   has_names : Names p document
   has_names = let standing = (ready.page ready.unspent).works.whole.standing in page_names p.engine.works standing.0 standing.1
-
-  pub fired_nowhere : IsFound None → target_in t document ≡ None
-  fired_nowhere h = sym (h document has_names)
 
   pub fired_found : (n : NodeId) → IsFound (Some n) → target_in t document ≡ Some n.made.0
   fired_found n h = sym (h document has_names)

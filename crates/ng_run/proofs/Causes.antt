@@ -9,7 +9,8 @@ use Rattle.ng_inputs.specs.declared.refusal.Refusal.TheVariants.{Document, Appli
 use Rattle.ng_inputs.proofs.Fetching.{tells_brought, unread_failed, IsUnread, failed_unread, overlong_long, IsOverlong, long_overlong}
 use Rattle.ng_run.specs.Run.{is_traced, TellsAll, StepsEnd, SessionCauses, Causes}
 use Rattle.ng_run.specs.Session.{Reply, all_well, Extent, whole, Runs, SessionOf, SessionWithin, Session, FetchedReply, Replies}
-use Rattle.ng_run.specs.Steps.{Left, Step, RunsSteps}
+use Rattle.ng_printing.specs.Left.{Left, Step}
+use Rattle.ng_run.specs.Steps.{RunsSteps}
 use Rattle.ng_run.proofs.Sessions.{steps_one}
 
 abbrev status_of : Reply → ℕ

@@ -4,7 +4,8 @@ use Rattle.std.specs.Prelude.{◌&&◌, true, false}
 use Rattle.ng_script.specs.Acts.{Entry}
 use Rattle.ng_run.specs.Doing.{steps_bytes}
 use Rattle.ng_run.specs.Session.{Extent, whole, first, within, all_well}
-use Rattle.ng_run.specs.Steps.{Left, Step, Does, Continues}
+use Rattle.ng_printing.specs.Left.{Left, Step}
+use Rattle.ng_run.specs.Steps.{Does, Continues}
 use Rattle.ng_run.proofs.OneStep.{does_one}
 
 -- they are done in one way

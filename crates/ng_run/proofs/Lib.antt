@@ -12,4 +12,3 @@ pub mod Listing
 pub mod Causes
 pub mod Writing
 pub mod Answering
-pub mod Printing

@@ -1,16 +1,15 @@
 -- The commands of a script, one after another.
-use Rattle.std.proofs.Common.{◌≡◌, ◌+◌, ◌<◌, ◌≤◌, ℕ, zero, suc, Bool, List, [], ◌∷◌, ◌++◌, map, length, take, get_or, ap, sym, ◌∙◌, subst, arith}
+use Rattle.std.proofs.Common.{◌≡◌, ◌+◌, ◌<◌, ℕ, zero, suc, Bool, List, [], ◌∷◌, ◌++◌, map, length, take, get_or, ap, sym, ◌∙◌, subst, arith}
 use Rattle.std.specs.Prelude.{◌&&◌, Option, Ok, Err}
-use Rattle.std.proofs.lemmas.List.{take_more, get_or-map, take_all, length-take-le, length-map}
+use Rattle.std.proofs.lemmas.List.{take_more, get_or-map, length-take-le, length-map}
 use Rattle.ng_inputs.specs.Acts.{IsSound, AreSound}
 use Rattle.ng_page.specs.declared.page.Page.{Page}
 use Rattle.ng_script.specs.Acts.{act_of, entry_of}
 use Rattle.ng_script.specs.declared.commands.Command.{Command}
-use Rattle.ng_run.specs.Doing.{FaultsBy, DidOne, HasDone, HasStopped, DidAll}
-use Rattle.ng_run.specs.Steps.{Left}
+use Rattle.ng_run.specs.Doing.{DidOne, HasDone, HasStopped, DidAll}
+use Rattle.ng_printing.specs.Left.{Left}
 use Rattle.ng_run.specs.declared.doing.Halt.{Halt}
 use Rattle.ng_run.specs.declared.doing.Halt.TheVariants as halt
-use Rattle.ng_base.specs.Outside.{Rose}
 use Rattle.ng_run.proofs.Putting.{did_more, did_stop, did_want}
 
 sound_all : (cs : List Command) (k : ℕ) (d : Command) → k < length cs → AreSound (map entry_of cs) → IsSound (act_of (get_or cs k d).what)
@@ -40,14 +39,3 @@ module _ (cs : List Command) (k : ℕ) (x : Command) (l : k < length cs) (is : x
     pub halted : faults mid ≡ faults old → (e : Halt) → DidOne taken faults mid new trace n (entry_of x) page after (Err e) → DidAll taken faults old new trace (map entry_of cs) left after (Err e)
     halted same halt.Put d = (k + 1, subst (λ es. HasStopped taken faults old new trace es left) (sym one_more) (did_stop taken faults trace old mid new (take k (map entry_of cs)) (entry_of x) left page after well n at h same d))
     halted same halt.Memory d = (k, did_want taken faults trace old mid new (take k (map entry_of cs)) (entry_of x) left page after well n at h d)
-
-pub halt_faults : (before mid now : ℕ) (e : Halt) → mid ≡ before → FaultsBy mid now (Err e) → FaultsBy before now (Err e)
-halt_faults before mid now halt.Put same h = subst (λ b. Rose b now) same h
-halt_faults before mid now halt.Memory same h = h ∙ same
-
--- all were done
-pub all_done : {K : Type 0} (taken : K → Option (List ℕ)) (old new : K) (trace : Bool) (cs : List Command) (k : ℕ) (left : Left) (page : Page) (well : Bool) → length cs ≤ k → HasDone taken old new trace (take k (map entry_of cs)) left page well
-    → HasDone taken old new trace (map entry_of cs) left page well
-all_done taken old new trace cs k left page well l h =
-    let n = length-map cs entry_of in
-    subst (λ es. HasDone taken old new trace es left page well) (take_all k (map entry_of cs) (omega arith)) h

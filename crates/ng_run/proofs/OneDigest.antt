@@ -11,7 +11,7 @@ use Rattle.ng_link.specs.State.{State}
 use Rattle.ng_page.specs.Answered.{PlainlyDigests, DigestsWhere, ShortWhere}
 use Rattle.ng_page.specs.PageMachine.{page_machine}
 use Rattle.ng_page.specs.Steps.{Outcome, Ends}
-use Rattle.ng_run.specs.Lines.{Digest}
+use Rattle.ng_printing.specs.Lines.{Digest}
 use Rattle.ng_run.proofs.ShortOne.{report_one}
 
 -- ---- a digest of a page

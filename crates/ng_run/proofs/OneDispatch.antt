@@ -8,7 +8,8 @@ use Rattle.ng_digest.specs.declared.rounds.DigestFault.{DigestFault}
 use Rattle.ng_language.specs.Trees.{Trees}
 use Rattle.ng_link.specs.Events.{handlers_at}
 use Rattle.ng_link.specs.State.{State}
-use Rattle.ng_page.specs.Dispatch.{Happening, Event, Going, Told, outcome_told, way, has_turn, handled, has_touch, touched, TakesTurn, MayTakeTurn, Handles, Touches, MayTouch, HandlesAt, is_stopped, Unless, Bubbles, before, Dispatches}
+use Rattle.ng_commands.specs.Handling.{Happening, Event, Going, way, has_turn, handled, has_touch, touched}
+use Rattle.ng_page.specs.Dispatch.{Told, outcome_told, TakesTurn, MayTakeTurn, Handles, Touches, MayTouch, HandlesAt, is_stopped, Unless, Bubbles, before, Dispatches}
 use Rattle.ng_page.specs.Steps.{Outcome}
 use Rattle.ng_run.proofs.OneDigest.{answer_one, ends_one}
 

@@ -5,8 +5,9 @@ use Rattle.ng_behaviour.specs.Scopes.{live_at}
 use Rattle.ng_digest.specs.declared.log.Report.{Report}
 use Rattle.ng_link.specs.Events.{named}
 use Rattle.ng_link.specs.State.{State, rendering}
-use Rattle.ng_page.specs.Commands.{Asked, begun, asked_run, is_idle}
-use Rattle.ng_page.specs.Dispatch.{Happening, Told}
+use Rattle.ng_commands.specs.Commands.{Asked, begun, asked_run, is_idle}
+use Rattle.ng_commands.specs.Handling.{Happening}
+use Rattle.ng_page.specs.Dispatch.{Told}
 use Rattle.ng_page.specs.Opening.{opening}
 use Rattle.ng_page.specs.Steps.{Outcome, Ends, EndsShort}
 use Rattle.ng_page.specs.Targets.{target_in}
@@ -14,8 +15,10 @@ use Rattle.ng_script.specs.Acts.{Act, Entry}
 use Rattle.ng_inputs.specs.Refusals.{Accepted}
 use Rattle.ng_run.specs.Aims.{asked_of}
 use Rattle.ng_run.specs.Happenings.{Fired, fired_by, HasTold, DoesEvent}
-use Rattle.ng_run.specs.Lines.{Digest, header, trace_line}
-use Rattle.ng_run.specs.Steps.{Left, Step, step_of, left_by, IsTrace, Performs, DoesUnlessIdle, DoesAsked, DoesAct, Does, OpensPage}
+use Rattle.ng_printing.specs.Lines.{Digest, header, trace_line}
+use Rattle.ng_printing.specs.Left.{Left, Step}
+use Rattle.ng_printing.specs.StepLines.{step_of}
+use Rattle.ng_run.specs.Steps.{left_by, IsTrace, Performs, DoesUnlessIdle, DoesAsked, DoesAct, Does, OpensPage}
 use Rattle.ng_run.proofs.OneDigest.{short_one, ends_one}
 use Rattle.ng_run.proofs.OneDispatch.{dispatch_one}
 

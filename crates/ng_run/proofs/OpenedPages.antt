@@ -5,16 +5,20 @@ use Rattle.ng_link.specs.State.{rendering}
 use Rattle.ng_page.specs.Answered.{WhenOk}
 use Rattle.ng_page.specs.OutcomeOf.{outcome_of}
 use Rattle.ng_page.specs.PageOf.{state_of}
-use Rattle.ng_page.specs.Settled.{IsSettled}
+use Rattle.ng_commands.specs.Settled.{IsSettled}
 use Rattle.ng_page.specs.Steps.{Opens, OpensShort}
 use Rattle.ng_page.specs.declared.outcome.Outcome.{Outcome}
 use Rattle.ng_script.specs.Acts.{entries_of}
 use Rattle.ng_inputs.specs.Acts.{AreSound}
 use Rattle.ng_inputs.specs.Refusals.{Accepted}
-use Rattle.ng_run.specs.ReplyOf.{IsReady, Renders, step_seen, told_lines, IsPageTo}
+use Rattle.ng_printing.specs.Lines.{told_lines}
+use Rattle.ng_printing.specs.StepSeen.{IsReady, Renders, step_seen}
+use Rattle.ng_run.specs.ReplyOf.{IsPageTo}
 use Rattle.ng_run.specs.Session.{within, Runs}
-use Rattle.ng_run.specs.Steps.{Left, step_of, left_by, Continues}
-use Rattle.ng_run.specs.declared.reply.Opened.{Opened}
+use Rattle.ng_printing.specs.Left.{Left}
+use Rattle.ng_printing.specs.StepLines.{step_of}
+use Rattle.ng_run.specs.Steps.{left_by, Continues}
+use Rattle.ng_printing.specs.declared.reply.Opened.{Opened}
 use Rattle.ng_run.proofs.Performing.{when_ok, told_is}
 
 pub opened_page : (trace : Bool) (a : Accepted) (x : Opened) (o : Outcome) → x.flags.trace ≡ trace → entries_of x.commands ≡ a.commands → AreSound a.commands

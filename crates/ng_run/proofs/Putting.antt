@@ -1,5 +1,5 @@
 -- Steps that are put one after another.
-use Rattle.std.proofs.Common.{◌≡◌, ◌+◌, ℕ, Bool, List, [], ◌∷◌, ◌++◌, length, take, refl, ap, sym, ◌∙◌, subst, arith, append-nil, length-append}
+use Rattle.std.proofs.Common.{◌≡◌, ◌+◌, ℕ, Bool, List, [], ◌∷◌, ◌++◌, length, take, ap, sym, ◌∙◌, subst, arith, append-nil, length-append}
 use Rattle.std.specs.Prelude.{◌&&◌, Option, Ok, Err}
 use Rattle.std.specs.Io.KnownBytes.{Appends}
 use Rattle.std.proofs.KnownBytes.{Appends-trans}
@@ -10,10 +10,11 @@ use Rattle.ng_page.specs.declared.page.Page.{Page}
 use Rattle.ng_script.specs.Acts.{Entry}
 use Rattle.ng_run.specs.Doing.{steps_bytes, DidOne, HasDone, HasStopped, HasWanted}
 use Rattle.ng_run.specs.Performed.{IsStepOf}
-use Rattle.ng_run.specs.ReplyOf.{step_seen}
-use Rattle.ng_run.specs.Steps.{Left, Does}
+use Rattle.ng_printing.specs.StepSeen.{step_seen}
+use Rattle.ng_printing.specs.Left.{Left}
+use Rattle.ng_run.specs.Steps.{Does}
 use Rattle.ng_run.specs.declared.doing.Halt.TheVariants as halt
-use Rattle.ng_run.specs.declared.reply.Lines.{Lines}
+use Rattle.ng_printing.specs.declared.reply.Lines.{Lines}
 use Rattle.ng_run.proofs.Continuing.{continues_more, bytes_more, well_more}
 
 -- a whole was taken, and then a first part
@@ -34,9 +35,6 @@ module _ {K : Type 0} (taken : K → Option (List ℕ)) (faults : K → ℕ) whe
 
   -- one command
   module _ (old new : K) (trace : Bool) (k : ℕ) (e : Entry) (before after : Page) (l : Lines) (did : IsStepOf trace k e before l after) where
-    pub one_put : Appends (taken old) (taken new) l.piece.items → DidOne taken faults old new trace k e before after (Ok l.well)
-    one_put put = (step_seen l, did.0, did.1, put, refl, did.2)
-
     pub one_stopped : TookAll (taken old) (taken new) l.piece.items → StopsAtFailure taken faults old new l.piece.items → DidOne taken faults old new trace k e before after (Err halt.Put)
     one_stopped part stops = (step_seen l, did.0, did.1, part, stops)
 

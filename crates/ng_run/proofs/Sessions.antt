@@ -10,7 +10,8 @@ use Rattle.ng_inputs.specs.declared.refusal.Refusal.{Refusal}
 use Rattle.ng_run.specs.Doing.{steps_bytes}
 use Rattle.ng_run.specs.Laws.{SessionIsOne}
 use Rattle.ng_run.specs.Session.{Reply, reply_bytes, done, Extent, whole, within, Runs, SessionOf, SessionWithin, Session}
-use Rattle.ng_run.specs.Steps.{Left, Step, Continues, RunsSteps}
+use Rattle.ng_printing.specs.Left.{Left, Step}
+use Rattle.ng_run.specs.Steps.{Continues, RunsSteps}
 use Rattle.ng_run.proofs.Continuing.{continues_one, within_first, bytes_after}
 use Rattle.ng_run.proofs.OneStep.{opened_one}
 

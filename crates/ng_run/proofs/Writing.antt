@@ -2,20 +2,21 @@
 use Rattle.std.proofs.Common.{◌≡◌, ◌≢◌, ℕ, Bool, true, false, List, [], ◌∷◌, ◌++◌, refl, ap, sym, ◌∙◌, subst, Option, Some, None, Err, arith, append-nil}
 use Rattle.std.specs.Prelude.{◌&&◌, if◌then◌else◌}
 use Rattle.std.specs.Io.KnownBytes.{Appends}
-use Rattle.std.proofs.KnownBytes.{Appends-trans, Appends-nil}
+use Rattle.std.proofs.KnownBytes.{Appends-trans}
 use Rattle.ng_base.specs.Outside.{TookAll, StopsAtFailure}
 use Rattle.ng_page.specs.declared.page.Page.{Page}
 use Rattle.ng_script.specs.Acts.{entries_of}
 use Rattle.ng_inputs.specs.Files.{Telling}
 use Rattle.ng_words.specs.Words.{Words}
 use Rattle.ng_run.specs.Doing.{steps_bytes, HasDone, HasStopped, HasWanted, DidAll, WritesPage}
-use Rattle.ng_run.specs.ReplyOf.{step_seen, IsPageTo}
+use Rattle.ng_printing.specs.StepSeen.{step_seen}
+use Rattle.ng_run.specs.ReplyOf.{IsPageTo}
 use Rattle.ng_run.specs.Run.{Puts, Writes, RunsSession, is_traced, Causes, HasPage}
 use Rattle.ng_run.specs.Session.{Reply, reply_bytes, done, Extent, whole, first, within, SessionWithin, Replies}
-use Rattle.ng_run.specs.Steps.{Left}
+use Rattle.ng_printing.specs.Left.{Left}
 use Rattle.ng_run.specs.declared.doing.Halt.{Halt}
 use Rattle.ng_run.specs.declared.doing.Halt.TheVariants as halt
-use Rattle.ng_run.specs.declared.reply.Opened.{Opened}
+use Rattle.ng_printing.specs.declared.reply.Opened.{Opened}
 use Rattle.ng_run.proofs.Causes.{reply_session, reply_causes, reply_left}
 use Rattle.ng_run.proofs.Putting.{took_after, took_whole, stops_after}
 use Rattle.ng_run.proofs.Sessions.{session_took}
@@ -24,20 +25,6 @@ abbrev pub line_reply : ℕ → List ℕ → Reply
 line_reply status piece = record { status = status; pieces = piece ∷ []; page = None }
 
 module _ {K : Type 0} (taken : K → Option (List ℕ)) (faults : K → ℕ) where
-  -- ---- a reply of one line
-
-  pub line_put : (old new : K) (status : ℕ) (piece : List ℕ) → status ≢ 7 → Appends (taken old) (taken new) piece → Puts taken faults old new status None whole (line_reply status piece)
-  line_put old new status piece n h =
-      let all : Appends (taken old) (taken new) (piece ++ []) = subst (λ b. Appends (taken old) (taken new) b) (sym (append-nil piece)) h in
-      record {
-        part = took_whole (taken old) (taken new) (piece ++ []) all;
-        bytes = λ _. all;
-        stopped = λ e. absurd (n e);
-        extent = λ _ _. refl;
-        answer = λ _ _. refl;
-        left = λ _ _. tt;
-      }
-
   -- a put failed, and nothing is said but of what was put
   pub stopped_put : (old new : K) (x : Extent) (r : Reply) → TookAll (taken old) (taken new) (reply_bytes r) → StopsAtFailure taken faults old new (reply_bytes r) → Puts taken faults old new 7 None x r
   stopped_put old new x r part stops = record {
@@ -48,10 +35,6 @@ module _ {K : Type 0} (taken : K → Option (List ℕ)) (faults : K → ℕ) whe
     answer = λ n _. absurd (n refl);
     left = λ n _. absurd (n refl);
   }
-
-  pub line_stopped : (old new : K) (status : ℕ) (piece : List ℕ) → TookAll (taken old) (taken new) piece → StopsAtFailure taken faults old new piece → Puts taken faults old new 7 None whole (line_reply status piece)
-  line_stopped old new status piece part stops =
-      stopped_put old new whole (line_reply status piece) (subst (λ b. TookAll (taken old) (taken new) b) (sym (append-nil piece)) part) (subst (λ b. StopsAtFailure taken faults old new b) (sym (append-nil piece)) stops)
 
   -- ---- the steps of a page
 
@@ -155,10 +138,3 @@ module _ {K : Type 0} (taken : K → Option (List ℕ)) (faults : K → ℕ) whe
           (λ e. left.0 (sym (puts.answer (λ k. omega (arith, e, k)) (λ k. omega (arith, e, k))) ∙ e)),
           (λ e. left.1 (sym (puts.answer (λ k. omega (arith, e, k)) (λ k. omega (arith, e, k))) ∙ e)),
         )
-
-    -- memory was refused before anything was written
-    pub none_session : status ≡ 8 → taken new ≡ taken old → RunsSession taken old new status page words told before now
-    none_session eight same i tells kept = record {
-      part = λ q h. (0, omega arith, subst (λ t. Appends (taken old) t []) (sym same) (Appends-nil (taken old)));
-      whole = λ n m. absurd (m eight);
-    }

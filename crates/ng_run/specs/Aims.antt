@@ -5,7 +5,7 @@ use Rattle.ng_control.specs.declared.kind.ControlKind.{ControlKind}
 use Rattle.ng_control.specs.declared.kind.ControlKind.TheVariants.{Text, Number, Checkbox}
 use Rattle.ng_link.specs.Events.{named, scope_of, kind_at}
 use Rattle.ng_link.specs.State.{State}
-use Rattle.ng_page.specs.Commands.{Asked, applies, queues, probes, digests, destroys_scope, emits, broadcasts, types, checks}
+use Rattle.ng_commands.specs.Commands.{Asked, applies, queues, probes, digests, destroys_scope, emits, broadcasts, types, checks}
 use Rattle.ng_page.specs.Targets.{target_in}
 use Rattle.ng_script.specs.Acts.{Act, click_on, fire_at, type_into, check_at, eval_root, eval_at, emit_from, broadcast_from, queue_task, probe_root, destroy_scope, make_digest}
 use Rattle.ng_script.specs.declared.commands.ScopeOf.{ScopeOf}

@@ -6,13 +6,15 @@ use Rattle.ng_base.specs.Outside.{TookAll, StopsAtFailure, Rose}
 use Rattle.ng_page.specs.PageOf.{state_of}
 use Rattle.ng_page.specs.declared.page.Page.{Page}
 use Rattle.ng_script.specs.Acts.{Entry, entries_of}
-use Rattle.ng_run.specs.ReplyOf.{LeavesPage, step_seen}
+use Rattle.ng_printing.specs.StepSeen.{step_seen}
+use Rattle.ng_run.specs.ReplyOf.{LeavesPage}
 use Rattle.ng_run.specs.Run.{Puts}
 use Rattle.ng_run.specs.Session.{Extent, within, step_pieces, all_well, done}
-use Rattle.ng_run.specs.Steps.{Left, Step, Does, Continues}
+use Rattle.ng_printing.specs.Left.{Left, Step}
+use Rattle.ng_run.specs.Steps.{Does, Continues}
 use Rattle.ng_run.specs.declared.doing.Halt.{Halt}
 use Rattle.ng_run.specs.declared.doing.Halt.TheVariants as halt
-use Rattle.ng_run.specs.declared.reply.Opened.{Opened}
+use Rattle.ng_printing.specs.declared.reply.Opened.{Opened}
 
 -- the sink's count of faults rose where a put failed, and only there
 abbrev pub FaultsBy : ℕ → ℕ → Result Bool Halt → Type 0

@@ -1,6 +1,4 @@
-pub mod Lines
 pub mod Aims
-pub mod Left
 pub mod Happenings
 pub mod Steps
 pub mod Session

@@ -3,12 +3,13 @@ use Rattle.std.specs.Prelude.{◌≡◌, ◌<◌, ℕ, Bool, true, false, List, 
 use Rattle.ng_base.specs.declared.fault.Memory.{Memory}
 use Rattle.ng_link.specs.Events.{named}
 use Rattle.ng_page.specs.Answered.{WhenOk}
-use Rattle.ng_page.specs.Commands.{Asked, is_idle}
-use Rattle.ng_page.specs.Dispatch.{Happening, Dispatches, last_digest}
+use Rattle.ng_commands.specs.Commands.{Asked, is_idle}
+use Rattle.ng_commands.specs.Handling.{Happening}
+use Rattle.ng_page.specs.Dispatch.{Dispatches, last_digest}
 use Rattle.ng_page.specs.Dispatched.{told_all}
 use Rattle.ng_page.specs.OutcomeOf.{outcome_of}
 use Rattle.ng_page.specs.PageOf.{state_of}
-use Rattle.ng_page.specs.Settled.{IsSettled}
+use Rattle.ng_commands.specs.Settled.{IsSettled}
 use Rattle.ng_page.specs.Steps.{Steps, StepsShort}
 use Rattle.ng_page.specs.Targets.{target_in}
 use Rattle.ng_page.specs.declared.outcome.Outcome.{Outcome}
@@ -18,11 +19,13 @@ use Rattle.ng_page.specs.declared.page.Page.{Page}
 use Rattle.ng_script.specs.Acts.{Act, Entry}
 use Rattle.ng_run.specs.Aims.{asked_of}
 use Rattle.ng_run.specs.Happenings.{Fired}
-use Rattle.ng_run.specs.ReplyOf.{IsReady, Renders, LeavesPage, step_seen}
-use Rattle.ng_run.specs.Steps.{Left, Does}
+use Rattle.ng_printing.specs.StepSeen.{IsReady, Renders, step_seen}
+use Rattle.ng_run.specs.ReplyOf.{LeavesPage}
+use Rattle.ng_printing.specs.Left.{Left}
+use Rattle.ng_run.specs.Steps.{Does}
 use Rattle.ng_run.specs.declared.commands.Done.{Done}
 use Rattle.ng_run.specs.declared.commands.Done.TheVariants as done
-use Rattle.ng_run.specs.declared.reply.Lines.{Lines}
+use Rattle.ng_printing.specs.declared.reply.Lines.{Lines}
 
 -- what a call of a page that is not spent comes to
 abbrev pub Answers : Result Outcome PageFault → Result Done Memory → Type 0

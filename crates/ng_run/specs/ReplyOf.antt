@@ -1,35 +1,20 @@
 -- What the values of the code stand for.
-pub use Rattle.ng_run.specs.Lines.{told_lines}
-use Rattle.std.specs.Prelude.{◌≡◌, ℕ, IsTrue, Bool, true, false, List, [], ◌∷◌, Option, None, Some, Result, Ok, Err}
-use Rattle.ng_digest.specs.declared.log.Report.{Report}
-use Rattle.ng_digest.specs.declared.rounds.DigestFault.{DigestFault}
+use Rattle.std.specs.Prelude.{◌≡◌, IsTrue, List, [], ◌∷◌, Option, None, Some}
 use Rattle.ng_drawing.specs.Drawing.{shown_as}
 use Rattle.ng_link.specs.State.{shown, rendering}
-use Rattle.ng_page.specs.PageOf.{state_of, IsPage, Displays}
-use Rattle.ng_page.specs.Settled.{IsSettled}
+use Rattle.ng_page.specs.PageOf.{state_of}
+use Rattle.ng_commands.specs.Settled.{IsSettled}
 use Rattle.ng_page.specs.declared.page.Page.{Page}
 use Rattle.ng_script.specs.Acts.{entries_of}
 use Rattle.ng_inputs.specs.Acts.{AreSound}
 use Rattle.ng_run.specs.Session.{Extent, within, done}
 use Rattle.ng_run.specs.Session as session
-use Rattle.ng_run.specs.Steps.{Left, Step, Continues}
-use Rattle.ng_run.specs.declared.reply.Lines.{Lines}
-use Rattle.ng_run.specs.declared.reply.Opened.{Opened}
-use Rattle.ng_run.specs.declared.reply.Reply.{Reply}
-use Rattle.ng_run.specs.declared.reply.Reply.TheVariants as reply
-
-abbrev pub step_seen : Lines → Step
-step_seen l = record { lines = l.piece.items; well = l.well }
-
--- a page shows what its watchers have kept, and further commands can be done on it
-pub record IsReady (p : Page) : Type 0 where
-  pub page : IsPage p
-  pub unspent : p.spent ≡ false
-  pub shown : Displays p (shown (state_of p))
-
--- and that is its rendering
-abbrev pub Renders : Page → Type 0
-Renders p = rendering (state_of p) ≡ shown_as (shown (state_of p))
+use Rattle.ng_printing.specs.Left.{Left, Step}
+use Rattle.ng_run.specs.Steps.{Continues}
+use Rattle.ng_printing.specs.declared.reply.Opened.{Opened}
+use Rattle.ng_printing.specs.declared.reply.Reply.{Reply}
+use Rattle.ng_printing.specs.declared.reply.Reply.TheVariants as reply
+use Rattle.ng_printing.specs.StepSeen.{IsReady, step_seen}
 
 -- a page as a step left it: where the last digest of that step answered Ok it is settled, and shows its rendering
 pub record LeavesPage (p : Page) (l : Left) : Type 0 where

@@ -7,7 +7,8 @@ use Rattle.ng_inputs.specs.Files.{Inputs, Telling, run_files, files_of, no_input
 use Rattle.ng_inputs.specs.Refusals.{Accepted, accepted, refusal_status}
 use Rattle.ng_run.specs.ReplyOf.{Leaves}
 use Rattle.ng_run.specs.Session.{Reply, reply_bytes, Extent, whole, Session, all_well}
-use Rattle.ng_run.specs.Steps.{Left, Step, RunsSteps}
+use Rattle.ng_printing.specs.Left.{Left, Step}
+use Rattle.ng_run.specs.Steps.{RunsSteps}
 use Rattle.ng_words.specs.Words.{Words}
 use Rattle.ng_inputs.specs.declared.refusal.Refusal.{Refusal}
 

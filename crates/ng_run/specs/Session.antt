@@ -5,7 +5,8 @@ use Rattle.std.specs.Fmt.{decimal}
 use Rattle.ng_script.specs.Acts.{Entry}
 use Rattle.ng_inputs.specs.Files.{File, Inputs, Telling, Fetched, brought, unread, overlong, Fetches, files_of, no_inputs, role_name, first_role}
 use Rattle.ng_inputs.specs.Refusals.{Accepted, accepted, refusal_status, refusal_text}
-use Rattle.ng_run.specs.Steps.{Left, Step, RunsSteps}
+use Rattle.ng_printing.specs.Left.{Left, Step}
+use Rattle.ng_run.specs.Steps.{RunsSteps}
 use Rattle.ng_words.specs.Words.{Words}
 use Rattle.ng_inputs.specs.declared.files.Role.{Role}
 use Rattle.ng_inputs.specs.declared.refusal.Refusal.{Refusal}

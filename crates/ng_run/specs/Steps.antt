@@ -1,27 +1,18 @@
 -- The steps of a session: what each prints, and how it leaves the page.
-pub use Rattle.ng_run.specs.Left.{Left, Step, is_digested, has_no_failure, is_well, idle_step, aimless_step, same_page}
-use Rattle.std.specs.Prelude.{ℕ, ◌≡◌, ◌+◌, Bool, true, false, List, [], ◌∷◌, ◌++◌, codes, Option, None, Some, Ok, Err}
-use Rattle.ng_base.specs.declared.fault.Fault.{Fault}
+pub use Rattle.ng_printing.specs.Left.{Left, Step, is_digested, idle_step, aimless_step, same_page}
+use Rattle.std.specs.Prelude.{ℕ, ◌≡◌, ◌+◌, Bool, true, false, List, [], ◌∷◌, codes, Option, None, Some, Ok, Err}
 use Rattle.ng_digest.specs.declared.log.Report.{Report}
-use Rattle.ng_drawing.specs.Drawing.{Rendered}
-use Rattle.ng_markup.specs.Forest.{Forest}
 use Rattle.ng_link.specs.Events.{named}
 use Rattle.ng_link.specs.State.{State, rendering}
-use Rattle.ng_page.specs.Commands.{Asked, is_idle}
+use Rattle.ng_commands.specs.Commands.{Asked, is_idle}
 use Rattle.ng_page.specs.Steps.{Outcome, Steps, StepsShort, Opens, OpensShort}
 use Rattle.ng_page.specs.Targets.{target_in}
 use Rattle.ng_script.specs.Acts.{Act, Entry}
 use Rattle.ng_run.specs.Aims.{asked_of}
 use Rattle.ng_run.specs.Happenings.{Fired, fired_by, DoesEvent}
-use Rattle.ng_run.specs.Lines.{Digest, header, action_line, trace_line, digest_line, probe_lines, last_line}
+use Rattle.ng_printing.specs.Lines.{Digest, header, trace_line}
 use Rattle.ng_inputs.specs.Refusals.{Accepted}
-
--- the lines of a step in their order, after its header: the faults of its programs, the trace, a digest that failed, the probes, the document
-abbrev pub step_lines : List ℕ → Outcome → Rendered Forest → List ℕ
-step_lines trace o document = action_line o.count o.first ++ trace ++ digest_line o.digest ++ probe_lines o.probed ++ last_line o.digest document
-
-abbrev pub step_of : List ℕ → List ℕ → Outcome → Rendered Forest → Step
-step_of head trace o document = record { lines = head ++ step_lines trace o document; well = is_well o.first o.digest }
+use Rattle.ng_printing.specs.StepLines.{step_of}
 
 abbrev pub left_by : Outcome → State → Left
 left_by o s = record { state = s; digested = is_digested o.digest }

@@ -7,13 +7,13 @@ ghost use Rattle.ng_run.specs.ReplyOf.{IsLine, IsReplyTo};
 ghost use Rattle.ng_run.specs.Session.{SessionWithin, FilesReply, Replies, line as line_of, refused as refused_of, read_line as read_line_of, long_line as long_line_of, usage as usage_of};
 
 use crate::opening::open;
-use crate::reply::Reply;
 use ng_base::fault::Memory;
 use ng_base::outside::Shelf;
 use ng_base::txt::Txt;
 use ng_inputs::files::{Fetched, File, Inputs, Role, fetch_all, files_in, first_role};
 use ng_inputs::names::{push_number, refusal_words};
 use ng_inputs::refusal::{Refusal, accept};
+use ng_printing::reply::Reply;
 use ng_words::words::{Flags, read_words};
 use std::alloc::{AllocError, Global};
 

@@ -5,9 +5,9 @@ ghost use Rattle.serde_json.specs.Data.{object, no_members};
 ghost use Rattle.serde_json.specs.Find.{as_array};
 ghost use Rattle.serde_json.specs.View.{view};
 ghost use Rattle.ng_control.specs.Typed.{TakesText, IsCheckbox};
-ghost use Rattle.ng_link.specs.Controls.{IsOfKind};
+ghost use Rattle.ng_build.specs.Controls.{IsOfKind};
 ghost use Rattle.ng_link.specs.Events.{state_by, control_at};
-ghost use Rattle.ng_page.specs.Commands.{applies, destroys_scope, emits, broadcasts, types, checks};
+ghost use Rattle.ng_commands.specs.Commands.{applies, destroys_scope, emits, broadcasts, types, checks};
 ghost use Rattle.ng_page.specs.PageOf.{state_of};
 ghost use Rattle.ng_parse.specs.ProgramOf.{program as program_of};
 ghost use Rattle.ng_script.specs.Acts.{act_of, entry_of};
@@ -15,12 +15,8 @@ ghost use Rattle.ng_inputs.specs.Acts.{IsSound};
 ghost use Rattle.ng_run.specs.Aims.{scope_in, takes_text as takes_text_of, is_checkbox as is_checkbox_of, if_control, control_in};
 ghost use Rattle.ng_run.specs.Happenings.{fired_by};
 ghost use Rattle.ng_run.specs.Performed.{Answers, AnswersFired, Performed, FiredBy, PerformedAct, IsStepOf};
-ghost use Rattle.ng_run.specs.ReplyOf.{IsReady};
+ghost use Rattle.ng_printing.specs.StepSeen.{IsReady};
 
-use crate::events::event_step;
-use crate::lines::header;
-use crate::reply::Lines;
-use crate::step::{aimless, idle, step};
 use ng_base::fault::Memory;
 use ng_base::name::{NodeId, ScopeId};
 use ng_base::path::Target;
@@ -29,13 +25,17 @@ use ng_control::ControlKind;
 use ng_page::outcome::{Outcome, Outcomes, PageFault};
 use ng_page::page::Page;
 use ng_parse::Program;
+use ng_printing::events::event_step;
+use ng_printing::lines::header;
+use ng_printing::reply::Lines;
+use ng_printing::step::{aimless, idle, step};
 use ng_script::{Command, ScopeOf, What};
 use ng_words::words::Flags;
 use serde_json::{Map, Value as Json};
 use std::alloc::Global;
 
-/// What became of a command: no element, or no control of its kind, stands at its target; nothing was to be done; it was done; or the handlers of its event have
-/// run.
+/// What became of a command: no element, or no control of its kind, stands at its target; nothing was to be done; it was done; or the
+/// handlers of its event have run.
 #[derive(Drop)]
 pub(crate) enum Done {
     Aimless,

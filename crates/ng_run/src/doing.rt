@@ -3,8 +3,9 @@ ghost use Rattle.std.specs.Prelude.{◌≡◌, ◌&&◌};
 ghost use Rattle.ng_inputs.specs.Acts.{AreSound, IsSound};
 ghost use Rattle.ng_script.specs.Acts.{act_of, entry_of, entries_of};
 ghost use Rattle.ng_run.specs.Doing.{DidOne, DidAll, FaultsBy};
-ghost use Rattle.ng_run.specs.ReplyOf.{IsReady, LeavesPage};
-ghost use Rattle.ng_run.specs.Steps.{Left};
+ghost use Rattle.ng_printing.specs.StepSeen.{IsReady};
+ghost use Rattle.ng_run.specs.ReplyOf.{LeavesPage};
+ghost use Rattle.ng_printing.specs.Left.{Left};
 
 use crate::commands::do_command;
 use ng_base::outside::{Sink, put_all};

@@ -5,11 +5,11 @@ ghost use Rattle.ng_inputs.specs.InputsOf.{accepted_of};
 ghost use Rattle.ng_run.specs.ReplyOf.{IsPageTo};
 ghost use Rattle.ng_run.specs.Session.{Runs};
 
-use crate::reply::Opened;
-use crate::step::step;
 use ng_base::fault::Memory;
 use ng_inputs::refusal::Accepted;
 use ng_page::page::Page;
+use ng_printing::reply::Opened;
+use ng_printing::step::step;
 use ng_words::words::Flags;
 use std::alloc::Global;
 

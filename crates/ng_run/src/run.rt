@@ -5,17 +5,18 @@ ghost use Rattle.ng_inputs.specs.Acts.{AreSound};
 ghost use Rattle.ng_words.specs.Words.{words_of};
 ghost use Rattle.ng_script.specs.Acts.{entries_of};
 ghost use Rattle.ng_run.specs.Doing.{WritesPage};
-ghost use Rattle.ng_run.specs.ReplyOf.{IsReady, LeavesPage};
+ghost use Rattle.ng_printing.specs.StepSeen.{IsReady};
+ghost use Rattle.ng_run.specs.ReplyOf.{LeavesPage};
 ghost use Rattle.ng_run.specs.Run.{Puts, Writes, WritesSteps, RunsSession, Causes, HasPage};
 ghost use Rattle.ng_run.specs.Session.{Replies, whole};
-ghost use Rattle.ng_run.specs.Steps.{Left};
+ghost use Rattle.ng_printing.specs.Left.{Left};
 
 use crate::answer::answer;
 use crate::doing::{Halt, do_all};
-use crate::reply::{Opened, Reply};
 use ng_base::outside::{Shelf, Sink, put_all};
 use ng_base::txt::Txt;
 use ng_page::page::Page;
+use ng_printing::reply::{Opened, Reply};
 use std::alloc::Global;
 
 /// What a run hands back: the exit status, and the page as the last step left it.

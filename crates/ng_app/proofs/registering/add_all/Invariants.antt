@@ -1,6 +1,7 @@
 use Rattle.std.proofs.Common.{◌≡◌, ◌++◌, map}
 use Rattle.ng_app.specs.Directives.{rest_in, definitions_in}
-use Rattle.ng_app.specs.EntryOf.{entry_of, rest_of}
+use Rattle.ng_entries.specs.EntryOf.{entry_of}
+use Rattle.ng_app.specs.RestOf.{rest_of}
 use Rattle.ng_app.proofs.registering.add_all.Given as goal
 
 abbrev pub invariant-loop-entry : goal.invariant-loop-entry

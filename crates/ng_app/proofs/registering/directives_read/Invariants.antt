@@ -1,7 +1,7 @@
 use Rattle.std.proofs.Common.{◌≡◌, [], map, option_map}
 use Rattle.ng_parts.specs.TemplateOf.{template_of}
 use Rattle.ng_app.specs.Directives.{directives_from}
-use Rattle.ng_app.specs.EntryOf.{rest_of}
+use Rattle.ng_app.specs.RestOf.{rest_of}
 use Rattle.ng_app.specs.ProgramsOf.{directive_of}
 use Rattle.ng_app.proofs.registering.directives_read.Given as goal
 

@@ -1,6 +1,6 @@
 use Rattle.std.proofs.Common.{◌≡◌, map, drop}
 use Rattle.ng_app.specs.Directives.{first_failing}
-use Rattle.ng_app.specs.EntryOf.{entry_of}
+use Rattle.ng_entries.specs.EntryOf.{entry_of}
 use Rattle.ng_app.proofs.registering.judge_by.Given as goal
 
 abbrev pub invariant-loop-entry : goal.invariant-loop-entry

@@ -1,8 +1,8 @@
 use Rattle.std.proofs.Common.{◌∙◌}
 use Rattle.ng_core.specs.Burying.{buried}
 use Rattle.ng_core.specs.Frames as cores
-use Rattle.ng_fire.proofs.Rising.{buried-rises}
-use Rattle.ng_fire.proofs.Wholes.{whole_left}
+use Rattle.ng_changes.proofs.Rising.{buried-rises}
+use Rattle.ng_changes.proofs.Wholes.{whole_left}
 use Rattle.ng_fire.proofs.blocks.discard.Goals as goal
 
 pub apply_changes-requires : goal.apply_changes-requires

@@ -1,11 +1,11 @@
 use Rattle.std.proofs.Common.{◌≡◌, ◌∙◌, ◌+◌, List, ◌∷◌, ℕ, ap, drop, map, refl, subst, sym, arith}
 use Rattle.std.specs.List.{AllByRecursion}
-use Rattle.ng_fire.proofs.Answered.{dropped}
+use Rattle.ng_changes.proofs.Answered.{dropped}
 use Rattle.ng_fire.proofs.Served.{due_held, due_rest, there_still}
 use Rattle.ng_fire.specs.Blocks.{outlets_emptied}
-use Rattle.ng_fire.specs.FiringOf.{firing}
+use Rattle.ng_fire.specs.FireOf.{firing}
 use Rattle.ng_fire.specs.Serving.{IsThere, AreDue}
-use Rattle.ng_link.specs.Due.{Due, due_of}
+use Rattle.ng_instances.specs.Due.{Due, due_of}
 use Rattle.ng_link.specs.State.{state_of, templates_of}
 use Rattle.ng_compose.specs.Kept.{Named}
 use Rattle.ng_value.specs.Snaps.{snap_of}

@@ -1,10 +1,10 @@
 use Rattle.std.proofs.Common.{◌≡◌, ◌≤◌, drop, length, map}
 use Rattle.std.specs.List.{AllByRecursion}
 use Rattle.ng_fire.specs.Blocks.{outlets_emptied}
-use Rattle.ng_fire.specs.FiringOf.{firing}
+use Rattle.ng_fire.specs.FireOf.{firing}
 use Rattle.ng_fire.specs.Serving.{IsThere, AreDue}
-use Rattle.ng_fire.specs.Whole.{IsWhole}
-use Rattle.ng_link.specs.Due.{due_of}
+use Rattle.ng_changes.specs.Whole.{IsWhole}
+use Rattle.ng_instances.specs.Due.{due_of}
 use Rattle.ng_link.specs.State.{state_of, templates_of}
 use Rattle.ng_value.specs.Snaps.{snap_of}
 use Rattle.ng_fire.proofs.blocks.empty_outlets.Given as goal

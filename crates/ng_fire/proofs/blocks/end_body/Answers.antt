@@ -2,15 +2,15 @@ use Rattle.std.proofs.Common.{◌≡◌, ◌<◌, ◌∙◌, ℕ, Bool, ap, leng
 use Rattle.std.specs.Prelude.{◌||◌}
 use Rattle.ng_core.specs.Frames as cores
 use Rattle.ng_core.specs.State as act
-use Rattle.ng_fire.proofs.Bodies.{scope_stands}
-use Rattle.ng_fire.proofs.Runs.{destroyed_rises}
-use Rattle.ng_fire.proofs.Wholes.{whole_left}
+use Rattle.ng_changes.proofs.Bodies.{scope_stands}
+use Rattle.ng_changes.proofs.Runs.{destroyed_rises}
+use Rattle.ng_changes.proofs.Wholes.{whole_left}
 use Rattle.ng_fire.specs.Blocks.{Firing}
-use Rattle.ng_fire.specs.Changes.{changed, has_additions}
-use Rattle.ng_fire.specs.Runs.{destroyed}
+use Rattle.ng_changes.specs.Changes.{changed, has_additions}
+use Rattle.ng_changes.specs.Runs.{destroyed}
 use Rattle.ng_link.specs.Calls.{with_core}
 use Rattle.ng_link.specs.Events.{scope_in}
-use Rattle.ng_link.specs.Instances.{linked_at}
+use Rattle.ng_instances.specs.Instances.{linked_at}
 use Rattle.ng_link.specs.State.{State, state_of}
 use Rattle.ng_fire.proofs.blocks.end_body.Goals.{then-told, else-told}
 use Rattle.ng_fire.proofs.blocks.end_body.Goals as goal

@@ -4,13 +4,13 @@ use Rattle.ng_base.specs.declared.name.ScopeId.{ScopeId}
 use Rattle.ng_drawing.specs.Origins.{plain_origin}
 use Rattle.ng_drawing.specs.declared.origin.Home.{Home}
 use Rattle.ng_drawing.specs.declared.origin.Origin.{Origin}
-use Rattle.ng_link.specs.Due.{Due, due_of}
+use Rattle.ng_instances.specs.Due.{Due, due_of}
 use Rattle.ng_fire.specs.Serving.{IsAt}
 use Rattle.ng_link.specs.State.{state_of, templates_of}
 use Rattle.ng_parts.specs.FragmentOf.{filling_of}
 use Rattle.ng_compose.specs.Kept.{fragment_in, fragment_for}
 use Rattle.ng_fire.proofs.Named.{body_there, plain_there}
-use Rattle.ng_fire.specs.Blocks.{body_of}
+use Rattle.ng_rows.specs.Chosen.{body_of}
 use Rattle.ng_fire.proofs.blocks.fill_outlet.Goals as goal
 
 pub fire_repeat-requires-clause-spot : goal.fire_repeat-requires-clause-spot

@@ -1,13 +1,13 @@
 use Rattle.std.proofs.Common.{◌≡◌, ◌∙◌, ◌+◌, List, ◌∷◌, ℕ, ap, drop, length, map, refl, subst, sym}
 use Rattle.std.specs.List.{AllByRecursion}
 use Rattle.ng_drawing.specs.Cases.{Case}
-use Rattle.ng_fire.proofs.Answered.{dropped}
+use Rattle.ng_changes.proofs.Answered.{dropped}
 use Rattle.ng_fire.proofs.Served.{there_still}
-use Rattle.ng_fire.specs.Blocks.{cases_due}
+use Rattle.ng_rows.specs.Chosen.{cases_due}
 use Rattle.ng_fire.specs.SiteFires.{outlets_filled}
-use Rattle.ng_fire.specs.FiringOf.{firing}
+use Rattle.ng_fire.specs.FireOf.{firing}
 use Rattle.ng_fire.specs.Serving.{IsThere}
-use Rattle.ng_link.specs.Due.{Due, due_of}
+use Rattle.ng_instances.specs.Due.{Due, due_of}
 use Rattle.ng_link.specs.State.{state_of, templates_of}
 use Rattle.ng_compose.specs.Kept.{Named}
 use Rattle.ng_value.specs.Snaps.{snap_of}

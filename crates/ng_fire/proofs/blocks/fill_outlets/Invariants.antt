@@ -1,12 +1,12 @@
 use Rattle.std.proofs.Common.{◌≡◌, drop, length, map}
 use Rattle.std.specs.List.{AllByRecursion}
-use Rattle.ng_fire.specs.Blocks.{cases_due}
+use Rattle.ng_rows.specs.Chosen.{cases_due}
 use Rattle.ng_fire.specs.SiteFires.{outlets_filled}
-use Rattle.ng_fire.specs.FiringOf.{firing}
+use Rattle.ng_fire.specs.FireOf.{firing}
 use Rattle.ng_fire.specs.Serving.{IsThere}
-use Rattle.ng_fire.specs.Whole.{IsWhole}
+use Rattle.ng_changes.specs.Whole.{IsWhole}
 use Rattle.ng_language.specs.Views.{ViewStands}
-use Rattle.ng_link.specs.Due.{due_of}
+use Rattle.ng_instances.specs.Due.{due_of}
 use Rattle.ng_link.specs.State.{state_of, templates_of}
 use Rattle.ng_value.specs.Snaps.{snap_of}
 use Rattle.ng_fire.proofs.blocks.fill_outlets.Given as goal

@@ -2,11 +2,11 @@ use Rattle.std.proofs.Common.{◌≡◌, ◌∙◌, ◌<◌, ℕ, List, Option, 
 use Rattle.std.specs.Prelude.{IsSome}
 use Rattle.ng_base.specs.declared.name.TplId.{TplId}
 use Rattle.ng_drawing.specs.declared.origin.Home.{Home}
-use Rattle.ng_fire.proofs.Answered.{ok_then, some_is}
+use Rattle.ng_changes.proofs.Answered.{ok_then, some_is}
 use Rattle.ng_fire.proofs.Named.{named_there}
-use Rattle.ng_fire.specs.FiringOf.{firing}
+use Rattle.ng_fire.specs.FireOf.{firing}
 use Rattle.ng_fire.specs.SiteFires.{including_origin, template_filled}
-use Rattle.ng_link.specs.Due.{Due, due_of}
+use Rattle.ng_instances.specs.Due.{Due, due_of}
 use Rattle.ng_link.specs.State.{templates_of}
 use Rattle.ng_compose.specs.Kept as kept
 use Rattle.ng_compose.specs.Kept.{Named, named_from}

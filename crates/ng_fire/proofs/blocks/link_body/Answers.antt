@@ -3,11 +3,11 @@ use Rattle.ng_base.specs.declared.fault.Fault.TheVariants.{Depth}
 use Rattle.ng_base.specs.declared.name.ScopeId.{ScopeId}
 use Rattle.ng_drawing.specs.Origins.{is_too_deep}
 use Rattle.ng_fire.specs.Blocks.{faulted_with}
-use Rattle.ng_fire.specs.FiringOf.{firing}
-use Rattle.ng_link.specs.PlaceOf.{place_of}
+use Rattle.ng_fire.specs.FireOf.{firing}
+use Rattle.ng_instances.specs.PlaceOf.{place_of}
 use Rattle.ng_link.specs.State.{State, state_of}
-use Rattle.ng_fire.proofs.Answered.{ok_then}
-use Rattle.ng_fire.proofs.Bodies.{too_deep, not_deep}
+use Rattle.ng_changes.proofs.Answered.{ok_then}
+use Rattle.ng_fire.proofs.BlockBodies.{too_deep, not_deep}
 use Rattle.ng_fire.proofs.blocks.link_body.Goals as goal
 
 pub returns-then-is_too_deep-clause-fired : goal.returns-then-is_too_deep-clause-fired

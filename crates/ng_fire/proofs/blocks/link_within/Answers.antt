@@ -1,10 +1,10 @@
 use Rattle.std.proofs.Common.{ℕ, List, length, map, subst, sym, arith}
 use Rattle.ng_base.specs.declared.name.ScopeId.{ScopeId}
-use Rattle.ng_fire.proofs.Answered.{there}
-use Rattle.ng_fire.proofs.Bodies.{link_more}
-use Rattle.ng_fire.proofs.ScopePaths.{AreMore, more_count}
-use Rattle.ng_fire.specs.LinkingOf.{AreBelow}
-use Rattle.ng_link.specs.PlaceOf.{place_of}
+use Rattle.ng_changes.proofs.Answered.{there}
+use Rattle.ng_fire.proofs.BlockBodies.{link_more}
+use Rattle.ng_changes.proofs.ScopePaths.{AreMore, more_count}
+use Rattle.ng_steps.specs.LinkingOf.{AreBelow}
+use Rattle.ng_instances.specs.PlaceOf.{place_of}
 use Rattle.ng_link.specs.State.{State, state_of, templates_of}
 use Rattle.ng_compose.specs.Kept.{fragment_for}
 use Rattle.ng_fire.proofs.blocks.link_within.Goals as goal

@@ -4,18 +4,21 @@ use Rattle.ng_base.specs.declared.name.ScopeId.{ScopeId}
 use Rattle.ng_behaviour.specs.Scopes.{path_at}
 use Rattle.ng_drawing.specs.RolesOf.{role_of}
 use Rattle.ng_drawing.specs.declared.origin.Origin.{Origin}
-use Rattle.ng_fire.proofs.Answered.{ok_then, some_is, there}
-use Rattle.ng_fire.proofs.Bodies.{at_stands, body_serves, new_free, outlet_there}
+use Rattle.ng_changes.proofs.Answered.{ok_then, some_is, there}
+use Rattle.ng_changes.proofs.Bodies.{new_free}
+use Rattle.ng_fire.proofs.BlockBodies.{at_stands, body_serves, outlet_there}
 use Rattle.ng_fire.proofs.NewRows.{body_same, filled_on}
-use Rattle.ng_fire.proofs.Placed.{below_more}
+use Rattle.ng_steps.proofs.Placed.{below_more}
 use Rattle.ng_fire.proofs.Served.{at_linked, at_still}
-use Rattle.ng_fire.specs.Blocks.{Firing, body_on, child_run}
-use Rattle.ng_fire.specs.FiringOf.{child_made, firing}
-use Rattle.ng_fire.specs.LinkingOf.{AreBelow}
+use Rattle.ng_changes.specs.ChildRun.{child_run}
+use Rattle.ng_fire.specs.Blocks.{Firing, body_on}
+use Rattle.ng_changes.specs.FiringOf.{child_made}
+use Rattle.ng_fire.specs.FireOf.{firing}
+use Rattle.ng_steps.specs.LinkingOf.{AreBelow}
 use Rattle.ng_fire.specs.Serving.{IsAt, Serves, bare_outlets}
-use Rattle.ng_link.specs.Calls.{Place, in_outlet}
-use Rattle.ng_link.specs.Instances.{Instances, instance_path, linked_at}
-use Rattle.ng_link.specs.PlaceOf.{IsNewBelow}
+use Rattle.ng_instances.specs.Changing.{Place, in_outlet}
+use Rattle.ng_instances.specs.Instances.{Instances, instance_path, linked_at}
+use Rattle.ng_link.specs.FreePlace.{IsNewBelow}
 use Rattle.ng_link.specs.State.{State, state_of, templates_of}
 use Rattle.ng_compose.specs.Kept.{Named, fragment_for}
 use Rattle.ng_fire.proofs.blocks.make_body.Goals as goal

@@ -1,11 +1,12 @@
 use Rattle.std.proofs.Common.{◌≡◌, ◌∙◌, ◌+◌, ℕ, List, ◌∷◌, ap, drop, map, subst, sym, arith}
-use Rattle.ng_fire.proofs.Answered.{dropped}
+use Rattle.ng_changes.proofs.Answered.{dropped}
 use Rattle.ng_fire.proofs.Served.{held_first, held_rest, serves_first}
 use Rattle.ng_fire.specs.Blocks.{all_gone}
-use Rattle.ng_fire.specs.FiringOf.{firing}
+use Rattle.ng_fire.specs.FireOf.{firing}
 use Rattle.ng_fire.specs.Serving.{AreHeldBy, Serves}
-use Rattle.ng_link.specs.Instances.{Body}
-use Rattle.ng_link.specs.State.{body_of, state_of}
+use Rattle.ng_instances.specs.Instances.{Body}
+use Rattle.ng_instances.specs.InstanceOf.{body_of}
+use Rattle.ng_link.specs.State.{state_of}
 use Rattle.ng_fire.proofs.blocks.take_bodies.Goals as goal
 
 pub take_body-requires-clause-held : goal.take_body-requires-clause-held

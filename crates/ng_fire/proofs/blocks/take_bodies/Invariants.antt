@@ -1,10 +1,11 @@
 use Rattle.std.proofs.Common.{◌≡◌, ◌≤◌, drop, length, map}
 use Rattle.ng_fire.specs.Blocks.{all_gone}
-use Rattle.ng_fire.specs.FiringOf.{firing}
+use Rattle.ng_fire.specs.FireOf.{firing}
 use Rattle.ng_fire.specs.Serving.{AreHeldBy, Serves}
-use Rattle.ng_fire.specs.Whole.{IsWhole}
-use Rattle.ng_link.specs.Instances.{Instances}
-use Rattle.ng_link.specs.State.{body_of, state_of, templates_of}
+use Rattle.ng_changes.specs.Whole.{IsWhole}
+use Rattle.ng_instances.specs.Instances.{Instances}
+use Rattle.ng_instances.specs.InstanceOf.{body_of}
+use Rattle.ng_link.specs.State.{state_of, templates_of}
 use Rattle.ng_fire.proofs.blocks.take_bodies.Given as goal
 
 abbrev pub invariant-loop-body : goal.invariant-loop-body

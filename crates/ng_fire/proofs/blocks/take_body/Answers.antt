@@ -1,16 +1,17 @@
 use Rattle.std.proofs.Common.{◌≡◌, ◌∙◌, [], ◌∷◌, ap, length, subst, sym}
 use Rattle.ng_core.proofs.MoreScopes.{ok_and}
-use Rattle.ng_fire.proofs.Answered.{ok_then}
-use Rattle.ng_fire.proofs.Bodies.{ended_linked}
-use Rattle.ng_fire.proofs.Placed.{unlinked_stays}
+use Rattle.ng_changes.proofs.Answered.{ok_then}
+use Rattle.ng_fire.proofs.BlockBodies.{ended_linked}
+use Rattle.ng_steps.proofs.Placed.{unlinked_stays}
 use Rattle.ng_fire.proofs.Served.{unlinked_serves}
-use Rattle.ng_fire.proofs.Wholes.{Stays, stays_of, whole_by}
+use Rattle.ng_changes.proofs.Wholes.{Stays, stays_of, whole_by}
 use Rattle.ng_fire.specs.Blocks.{Firing}
-use Rattle.ng_fire.specs.FiringOf.{firing}
+use Rattle.ng_fire.specs.FireOf.{firing}
 use Rattle.ng_fire.specs.Serving.{Serves}
-use Rattle.ng_link.specs.Instances.{Body, Instances, unlinked}
+use Rattle.ng_instances.specs.Instances.{Body, Instances, unlinked}
 use Rattle.ng_link.specs.Standing.{IsHeldIn}
-use Rattle.ng_link.specs.State.{State, body_of, state_of}
+use Rattle.ng_instances.specs.InstanceOf.{body_of}
+use Rattle.ng_link.specs.State.{State, state_of}
 use Rattle.ng_fire.proofs.blocks.take_body.Goals as goal
 
 pub unlink-requires-clause-held : goal.unlink-requires-clause-held

@@ -2,10 +2,10 @@ use Rattle.std.proofs.Common.{◌∙◌, ap, sym}
 use Rattle.std.specs.Prelude.{Ok, option_map}
 use Rattle.ng_base.specs.ViewOf.{view_of}
 use Rattle.ng_bind.specs.declared.flow.Flow.TheVariants.{Still, ToDest, ToParent}
-use Rattle.ng_fire.proofs.Answered.{ok_then}
+use Rattle.ng_changes.proofs.Answered.{ok_then}
 use Rattle.ng_fire.proofs.BoundFires.{both_is, flowed}
 use Rattle.ng_fire.specs.Blocks.{Firing}
-use Rattle.ng_fire.specs.FiringOf.{firing}
+use Rattle.ng_fire.specs.FireOf.{firing}
 use Rattle.ng_parse.specs.ProgramOf.{program}
 use Rattle.ng_value.specs.Snaps.{snap_of}
 use Rattle.ng_watch.specs.Verdicts.{own_value}

@@ -8,8 +8,8 @@ use Rattle.ng_fire.specs.Blocks.{begins_firing}
 use Rattle.ng_fire.specs.Fires.{value_at}
 use Rattle.ng_fire.specs.SiteFires.{bound_site_fired, site_fired_by}
 use Rattle.ng_language.specs.Views.{ViewStands}
-use Rattle.ng_link.specs.Bindings.{Bound, BoundStands}
-use Rattle.ng_link.specs.BoundOf.{bound_of}
+use Rattle.ng_instances.specs.Bindings.{Bound, BoundStands}
+use Rattle.ng_instances.specs.BoundOf.{bound_of}
 use Rattle.ng_link.specs.Calls.{keeping_at}
 use Rattle.ng_link.specs.State.{State, state_of}
 use Rattle.ng_value.specs.Snaps.{snap_of}

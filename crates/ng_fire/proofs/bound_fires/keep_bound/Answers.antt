@@ -1,7 +1,7 @@
 use Rattle.std.proofs.Common.{Bool, Some, length, subst, sym}
 use Rattle.ng_core.proofs.MoreScopes.{ok_and}
-use Rattle.ng_fire.proofs.Wholes.{Stays, keeping_stays, stays_of, whole_with}
-use Rattle.ng_fire.specs.Whole.{RowStands}
+use Rattle.ng_changes.proofs.Wholes.{Stays, keeping_stays, stays_of, whole_with}
+use Rattle.ng_changes.specs.Whole.{RowStands}
 use Rattle.ng_link.specs.State.{State, state_of}
 use Rattle.ng_value.specs.Snaps.{snap_of}
 use Rattle.ng_fire.proofs.bound_fires.keep_bound.Goals as goal

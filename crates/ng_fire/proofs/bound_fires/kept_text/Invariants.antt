@@ -1,6 +1,6 @@
 use Rattle.std.proofs.Common.{◌≡◌, ◌++◌, drop, map}
 use Rattle.ng_fire.specs.Bindings.{text_kept}
-use Rattle.ng_link.specs.BoundOf.{piece_of}
+use Rattle.ng_instances.specs.BoundOf.{piece_of}
 use Rattle.ng_link.specs.State.{state_of}
 use Rattle.ng_fire.proofs.bound_fires.kept_text.Given as goal
 

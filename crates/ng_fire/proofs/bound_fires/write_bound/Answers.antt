@@ -3,17 +3,17 @@ use Rattle.std.specs.Prelude.{map, option_map}
 use Rattle.ng_base.specs.ViewOf.{view_of}
 use Rattle.ng_base.specs.Views.{ViewTree}
 use Rattle.ng_base.specs.declared.value.Value.TheVariants as value
-use Rattle.ng_fire.proofs.Answered.{ok_then}
+use Rattle.ng_changes.proofs.Answered.{ok_then}
 use Rattle.ng_fire.specs.Bindings.{bound_fired, text_kept}
 use Rattle.ng_fire.specs.Blocks.{Firing}
-use Rattle.ng_fire.specs.FiringOf.{firing}
-use Rattle.ng_fire.specs.LinkBindings.{set_on}
-use Rattle.ng_link.specs.Bindings.{BoundStands}
-use Rattle.ng_link.specs.BoundOf.{bound_of, piece_of}
+use Rattle.ng_fire.specs.FireOf.{firing}
+use Rattle.ng_steps.specs.LinkBindings.{set_on}
+use Rattle.ng_instances.specs.Bindings.{BoundStands}
+use Rattle.ng_instances.specs.BoundOf.{bound_of, piece_of}
 use Rattle.ng_link.specs.Calls.{with_core}
 use Rattle.ng_link.specs.State.{State}
-use Rattle.ng_link.specs.declared.works.Bound as code
-use Rattle.ng_link.specs.declared.works.BoundPiece.{BoundPiece}
+use Rattle.ng_instances.specs.declared.instances.Bound as code
+use Rattle.ng_instances.specs.declared.instances.BoundPiece.{BoundPiece}
 use Rattle.ng_value.specs.Snaps.{snap_of}
 use Rattle.ng_fire.proofs.bound_fires.write_bound.Goals as goal
 

@@ -3,7 +3,7 @@ use Rattle.ng_act.specs.Running.{same}
 use Rattle.ng_base.specs.ViewOf.{view_of}
 use Rattle.ng_core.specs.Frames as cores
 use Rattle.ng_fire.proofs.BoundFires.{over_rises}
-use Rattle.ng_fire.proofs.Wholes.{whole_acts}
+use Rattle.ng_changes.proofs.Wholes.{whole_acts}
 use Rattle.ng_fire.specs.Bindings.{write_run}
 use Rattle.ng_parse.specs.ProgramOf.{program}
 use Rattle.ng_fire.proofs.bound_fires.write_over.Goals as goal

@@ -7,9 +7,9 @@ use Rattle.ng_base.specs.declared.fault.Fault.TheVariants.{NotAssignable}
 use Rattle.ng_base.specs.declared.fault.Memory.{Memory}
 use Rattle.ng_fire.specs.Bindings.{fired_with, to_parent}
 use Rattle.ng_fire.specs.Blocks.{Firing, faulted_with}
-use Rattle.ng_fire.specs.FiringOf.{firing}
-use Rattle.ng_fire.specs.LinkBindings.{written_to}
-use Rattle.ng_fire.specs.declared.following.Followed.{Followed}
+use Rattle.ng_fire.specs.FireOf.{firing}
+use Rattle.ng_steps.specs.LinkBindings.{written_to}
+use Rattle.ng_changes.specs.declared.following.Followed.{Followed}
 use Rattle.ng_fire.proofs.BoundFires.{parent_is}
 use Rattle.ng_link.specs.State.{State, state_of}
 use Rattle.ng_link.specs.declared.works.Works.{Works}

@@ -4,12 +4,12 @@ use Rattle.ng_base.specs.ViewOf.{view_of}
 use Rattle.ng_base.specs.declared.value.Value.{Value}
 use Rattle.ng_core.specs.Frames as cores
 use Rattle.ng_core.specs.State.{Run}
-use Rattle.ng_fire.proofs.Answered.{ok_then}
+use Rattle.ng_changes.proofs.Answered.{ok_then}
 use Rattle.ng_fire.proofs.BoundFires.{written_is, written_not}
 use Rattle.ng_fire.specs.Bindings.{fired_with}
 use Rattle.ng_fire.specs.Blocks.{Firing, faulted_with}
-use Rattle.ng_fire.specs.FiringOf.{firing}
-use Rattle.ng_fire.specs.LinkBindings.{set_on}
+use Rattle.ng_fire.specs.FireOf.{firing}
+use Rattle.ng_steps.specs.LinkBindings.{set_on}
 use Rattle.ng_link.specs.Calls.{with_core}
 use Rattle.ng_link.specs.State.{State, state_of}
 use Rattle.ng_write.specs.Making.{value_in}

@@ -1,8 +1,8 @@
 use Rattle.std.proofs.Common.{◌≡◌, ◌∙◌, sym, true}
-use Rattle.ng_fire.proofs.Entries.{if_ok}
+use Rattle.ng_changes.proofs.Entries.{if_ok}
 use Rattle.ng_fire.proofs.Fired.{adds_site, fired_site}
-use Rattle.ng_fire.specs.FiringOf.{firing}
-use Rattle.ng_link.specs.Instances.{is_site}
+use Rattle.ng_fire.specs.FireOf.{firing}
+use Rattle.ng_instances.specs.Instances.{is_site}
 use Rattle.ng_link.specs.State.{state_of}
 use Rattle.ng_value.specs.Snaps.{snap_of}
 use Rattle.ng_fire.proofs.firing.fire.Goals as goal

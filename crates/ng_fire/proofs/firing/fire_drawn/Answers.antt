@@ -1,6 +1,6 @@
 use Rattle.std.proofs.Common.{◌∙◌, ap, sym}
 use Rattle.std.specs.Prelude.{option_map}
-use Rattle.ng_link.specs.BoundOf.{bound_of}
+use Rattle.ng_instances.specs.BoundOf.{bound_of}
 use Rattle.ng_fire.proofs.firing.fire_drawn.Goals as goal
 
 pub fire_unbound-requires-clause-unbound : goal.fire_unbound-requires-clause-unbound

@@ -2,17 +2,17 @@ use Rattle.std.proofs.Common.{◌≡◌, ◌∙◌, ℕ, List, ap, length, map, 
 use Rattle.std.specs.Prelude.{Option}
 use Rattle.ng_core.specs.declared.core_state.Core.{Core}
 use Rattle.ng_base.specs.Views.{ViewTree}
-use Rattle.ng_fire.proofs.Entries.{if_ok}
+use Rattle.ng_changes.proofs.Entries.{if_ok}
 use Rattle.ng_fire.proofs.Served.{all_are_due}
 use Rattle.ng_fire.specs.Blocks.{begins_firing}
 use Rattle.ng_fire.specs.Fires.{value_at}
 use Rattle.ng_fire.specs.Serving.{AreDue}
 use Rattle.ng_fire.specs.SiteFires.{outlets_fired, site_fired_by}
 use Rattle.ng_language.specs.Views.{ViewStands}
-use Rattle.ng_link.specs.Bindings.{Bound}
+use Rattle.ng_instances.specs.Bindings.{Bound}
 use Rattle.ng_link.specs.Calls.{keeping_at}
-use Rattle.ng_link.specs.Due.{Due, all_due, due_of}
-use Rattle.ng_link.specs.Instances.{instance_path, linked_at, linked_for}
+use Rattle.ng_instances.specs.Due.{Due, all_due, due_of}
+use Rattle.ng_instances.specs.Instances.{instance_path, linked_at, linked_for}
 use Rattle.ng_link.specs.State.{State, state_of, templates_of}
 use Rattle.ng_value.specs.Snaps.{snap_of}
 use Rattle.ng_watch.specs.Table.{kept_at}

@@ -2,10 +2,10 @@ use Rattle.std.proofs.Common.{◌∙◌, Bool, false, List, Option, ap, sym}
 use Rattle.ng_fire.specs.Blocks.{Firing, begins_firing}
 use Rattle.ng_fire.specs.Fires.{value_at}
 use Rattle.ng_fire.specs.SiteFires.{outlets_fired, site_fired_by}
-use Rattle.ng_link.specs.Bindings.{Bound}
+use Rattle.ng_instances.specs.Bindings.{Bound}
 use Rattle.ng_link.specs.Calls.{keeping_at}
-use Rattle.ng_link.specs.Due.{Due}
-use Rattle.ng_link.specs.Instances.{instance_path}
+use Rattle.ng_instances.specs.Due.{Due}
+use Rattle.ng_instances.specs.Instances.{instance_path}
 use Rattle.ng_link.specs.State.{State, state_of}
 use Rattle.ng_value.specs.Snaps.{snap_of}
 use Rattle.ng_watch.specs.Table.{kept_at}

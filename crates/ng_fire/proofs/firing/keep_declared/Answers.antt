@@ -1,10 +1,10 @@
 use Rattle.std.proofs.Common.{length, subst, sym, Bool, Option, Some}
 use Rattle.ng_core.proofs.MoreScopes.{ok_and}
 use Rattle.ng_base.specs.Views.{ViewTree}
-use Rattle.ng_fire.proofs.Entries.{if_ok, rows_found}
-use Rattle.ng_fire.proofs.Wholes.{Stays, keeping_stays, stays_of, whole_with}
-use Rattle.ng_fire.specs.Whole.{KeptStands, RowStands}
-use Rattle.ng_link.specs.Instances.{is_site}
+use Rattle.ng_changes.proofs.Entries.{if_ok, rows_found}
+use Rattle.ng_changes.proofs.Wholes.{Stays, keeping_stays, stays_of, whole_with}
+use Rattle.ng_changes.specs.Whole.{KeptStands, RowStands}
+use Rattle.ng_instances.specs.Instances.{is_site}
 use Rattle.ng_link.specs.State.{State, state_of}
 use Rattle.ng_value.specs.Snaps.{snap_of}
 use Rattle.ng_fire.proofs.firing.keep_declared.Goals as goal

@@ -1,6 +1,6 @@
 use Rattle.std.proofs.Common.{length, subst, sym, Bool, Some}
-use Rattle.ng_fire.proofs.Wholes.{Stays, keeping_stays, stays_of, whole_with}
-use Rattle.ng_fire.specs.Whole.{RowStands}
+use Rattle.ng_changes.proofs.Wholes.{Stays, keeping_stays, stays_of, whole_with}
+use Rattle.ng_changes.specs.Whole.{RowStands}
 use Rattle.ng_link.specs.State.{State, state_of}
 use Rattle.ng_value.specs.Snaps.{snap_of}
 use Rattle.ng_fire.proofs.firing.keep_site.Goals as goal

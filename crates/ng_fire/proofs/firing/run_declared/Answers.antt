@@ -5,11 +5,11 @@ use Rattle.ng_act.specs.Running.{as_value_run}
 use Rattle.ng_core.specs.State as act
 use Rattle.ng_base.specs.ViewOf.{view_of}
 use Rattle.ng_fire.proofs.Fired.{listener_rises}
-use Rattle.ng_fire.proofs.Entries.{if_ok}
-use Rattle.ng_fire.proofs.Runs.{value_run_state}
-use Rattle.ng_fire.proofs.Wholes.{whole_run}
-use Rattle.ng_fire.specs.Changes.{has_additions}
-use Rattle.ng_fire.specs.Fires.{listener_run}
+use Rattle.ng_changes.proofs.Entries.{if_ok}
+use Rattle.ng_changes.proofs.Runs.{value_run_state}
+use Rattle.ng_changes.proofs.Wholes.{whole_run}
+use Rattle.ng_changes.specs.Changes.{has_additions}
+use Rattle.ng_changes.specs.ListenerRuns.{listener_run}
 use Rattle.ng_link.specs.State.{listening_of}
 use Rattle.ng_value.specs.Snaps.{snap_of}
 use Rattle.ng_fire.proofs.firing.run_declared.Goals as goal

@@ -4,20 +4,23 @@ use Rattle.ng_base.specs.declared.name.ScopeId.{ScopeId}
 use Rattle.ng_core.specs.declared.core_state.Core.{Core}
 use Rattle.ng_drawing.specs.declared.origin.Origin.{Origin}
 use Rattle.ng_drawing.specs.Template.{Repeated}
-use Rattle.ng_fire.proofs.Answered.{ok_then}
+use Rattle.ng_changes.proofs.Answered.{ok_then}
 use Rattle.ng_fire.proofs.KeptRows.{rows_wider}
 use Rattle.ng_fire.proofs.RowsStay.{inside_other, none_round, row_inside}
 use Rattle.ng_fire.proofs.RowsTaken.{arranged_keeps, arranged_whole, keeps_same, keeps_then, rows_among, rows_rearranged, spot_stays}
 use Rattle.ng_fire.specs.Blocks.{Firing}
-use Rattle.ng_fire.specs.FiringOf.{firing}
-use Rattle.ng_fire.specs.Repeats.{Row, all_ended, bodies_at, filled_to, kept_rows, rows_arranged, rows_at, rows_fired, rows_gone, rows_taken, with_state}
-use Rattle.ng_fire.specs.RepeatsOf.{AreRowsAt, HaveGone, RowsOfStand, rows_of}
+use Rattle.ng_fire.specs.FireOf.{firing}
+use Rattle.ng_rows.specs.RepeatRows.{Row, kept_rows}
+use Rattle.ng_fire.specs.Repeats.{all_ended, bodies_at, filled_to, rows_arranged, rows_at, rows_fired, rows_gone, rows_taken, with_state}
+use Rattle.ng_rows.specs.RepeatsOf.{RowsOfStand, rows_of}
+use Rattle.ng_fire.specs.RowsKnown.{AreRowsAt, HaveGone}
 use Rattle.ng_fire.specs.Serving.{Keeps, RestStays}
 use Rattle.ng_link.proofs.Lookups.{changed_other}
 use Rattle.ng_link.specs.Calls.{arranged_at}
-use Rattle.ng_link.specs.Instances.{Body, Instances, bodies_arranged, linked_at}
+use Rattle.ng_instances.specs.Instances.{Body, Instances, bodies_arranged, linked_at}
 use Rattle.ng_link.specs.Standing.{body_count}
-use Rattle.ng_link.specs.State.{State, body_of, state_of, templates_of}
+use Rattle.ng_instances.specs.InstanceOf.{body_of}
+use Rattle.ng_link.specs.State.{State, state_of, templates_of}
 use Rattle.ng_parts.specs.RepeatedOf.{repeated_of}
 use Rattle.ng_fire.proofs.repeats.change_rows.Goals as goal
 

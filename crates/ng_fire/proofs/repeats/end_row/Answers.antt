@@ -1,13 +1,13 @@
 use Rattle.std.proofs.Common.{◌≡◌, ◌∙◌, Some, ap, map, slice_get, sym}
 use Rattle.std.specs.Prelude.{Option}
-use Rattle.ng_fire.proofs.Answered.{ok_then}
-use Rattle.ng_fire.proofs.Bodies.{ended_linked}
-use Rattle.ng_fire.proofs.RowsTaken.{row_at}
+use Rattle.ng_changes.proofs.Answered.{ok_then}
+use Rattle.ng_fire.proofs.BlockBodies.{ended_linked}
+use Rattle.ng_rows.proofs.RowAt.{row_at}
 use Rattle.ng_fire.specs.Blocks.{Firing}
-use Rattle.ng_fire.specs.FiringOf.{firing}
+use Rattle.ng_fire.specs.FireOf.{firing}
 use Rattle.ng_fire.specs.Repeats.{all_ended, body_at}
-use Rattle.ng_link.specs.Instances.{Body}
-use Rattle.ng_link.specs.State.{body_of}
+use Rattle.ng_instances.specs.Instances.{Body}
+use Rattle.ng_instances.specs.InstanceOf.{body_of}
 use Rattle.ng_fire.proofs.repeats.end_row.Goals as goal
 
 pub returns-in-Some-clause-fired : goal.returns-in-Some-clause-fired

@@ -1,10 +1,10 @@
 use Rattle.std.proofs.Common.{◌≡◌, ◌∙◌, ◌+◌, ℕ, List, ◌++◌, ap, drop, get_or, map, slice_get, sym, arith}
 use Rattle.std.proofs.lemmas.List.{drop_more}
 use Rattle.ng_fire.proofs.RowsTaken.{ended_more}
-use Rattle.ng_fire.specs.FiringOf.{firing}
+use Rattle.ng_fire.specs.FireOf.{firing}
 use Rattle.ng_fire.specs.Repeats.{all_ended, bodies_at, body_at}
-use Rattle.ng_link.specs.Instances.{Body}
-use Rattle.ng_link.specs.State.{body_of}
+use Rattle.ng_instances.specs.Instances.{Body}
+use Rattle.ng_instances.specs.InstanceOf.{body_of}
 use Rattle.ng_fire.proofs.repeats.end_rows.Goals as goal
 
 pub loop-i-preserved : goal.loop-i-preserved

@@ -1,8 +1,9 @@
 use Rattle.std.proofs.Common.{◌≡◌, ◌≤◌, drop, length, map}
-use Rattle.ng_fire.specs.FiringOf.{firing}
+use Rattle.ng_fire.specs.FireOf.{firing}
 use Rattle.ng_fire.specs.Repeats.{all_ended, bodies_at}
-use Rattle.ng_fire.specs.Whole.{IsWhole}
-use Rattle.ng_link.specs.State.{body_of, state_of, templates_of}
+use Rattle.ng_changes.specs.Whole.{IsWhole}
+use Rattle.ng_instances.specs.InstanceOf.{body_of}
+use Rattle.ng_link.specs.State.{state_of, templates_of}
 use Rattle.ng_fire.proofs.repeats.end_rows.Given as goal
 
 abbrev pub invariant-loop-i : goal.invariant-loop-i

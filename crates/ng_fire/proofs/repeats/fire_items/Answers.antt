@@ -6,14 +6,14 @@ use Rattle.ng_base.specs.declared.fault.Fault.{Fault}
 use Rattle.ng_behaviour.specs.Scopes.{object_at}
 use Rattle.ng_blocks.specs.declared.keys.TrackKey.{TrackKey}
 use Rattle.ng_drawing.specs.Template.{Repeated}
-use Rattle.ng_fire.proofs.Bodies.{at_stands}
+use Rattle.ng_fire.proofs.BlockBodies.{at_stands}
 use Rattle.ng_fire.proofs.KeptRows.{as_many}
 use Rattle.ng_fire.proofs.RowsTaken.{keeps_same}
 use Rattle.ng_fire.specs.Blocks.{Firing}
-use Rattle.ng_fire.specs.FiringOf.{firing}
+use Rattle.ng_fire.specs.FireOf.{firing}
 use Rattle.ng_fire.specs.Repeats.{by_keys, rows_at}
-use Rattle.ng_fire.specs.Tracking.{Item, track_keys}
-use Rattle.ng_fire.specs.TrackingOf.{ItemsStand, items_of}
+use Rattle.ng_rows.specs.Tracking.{Item, track_keys}
+use Rattle.ng_rows.specs.TrackingOf.{ItemsStand, items_of}
 use Rattle.ng_link.specs.State.{state_of}
 use Rattle.ng_parts.specs.RepeatedOf.{repeated_of}
 use Rattle.ng_fire.proofs.repeats.fire_items.Goals as goal

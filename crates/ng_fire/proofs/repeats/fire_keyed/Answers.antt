@@ -5,17 +5,19 @@ use Rattle.ng_base.specs.declared.fault.Fault.{Fault}
 use Rattle.ng_blocks.specs.Plans.{planned, has_double}
 use Rattle.ng_blocks.specs.declared.plans.Plan.{Plan}
 use Rattle.ng_drawing.specs.Template.{Repeated}
-use Rattle.ng_fire.proofs.Answered.{ok_then, there}
-use Rattle.ng_fire.proofs.Bodies.{outlet_there}
-use Rattle.ng_fire.proofs.KeysFound.{plan_is}
+use Rattle.ng_changes.proofs.Answered.{ok_then, there}
+use Rattle.ng_fire.proofs.BlockBodies.{outlet_there}
+use Rattle.ng_fire.proofs.PlanFound.{plan_is}
 use Rattle.ng_fire.proofs.RowsTaken.{keeps_same}
 use Rattle.ng_fire.specs.Blocks.{Firing}
-use Rattle.ng_fire.specs.FiringOf.{firing}
-use Rattle.ng_fire.specs.Repeats.{as_fault, bodies_or, by_keys, by_plan, keys_of, rows_at}
-use Rattle.ng_fire.specs.TrackingOf.{items_of}
-use Rattle.ng_link.specs.Instances.{Body, linked_at}
-use Rattle.ng_link.specs.PlaceOf.{outlet_of_linked}
-use Rattle.ng_link.specs.State.{body_of, state_of}
+use Rattle.ng_fire.specs.FireOf.{firing}
+use Rattle.ng_rows.specs.RepeatRows.{as_fault, keys_of}
+use Rattle.ng_fire.specs.Repeats.{bodies_or, by_keys, by_plan, rows_at}
+use Rattle.ng_rows.specs.TrackingOf.{items_of}
+use Rattle.ng_instances.specs.Instances.{Body, linked_at}
+use Rattle.ng_instances.specs.PlaceOf.{outlet_of_linked}
+use Rattle.ng_instances.specs.InstanceOf.{body_of}
+use Rattle.ng_link.specs.State.{state_of}
 use Rattle.ng_parts.specs.RepeatedOf.{repeated_of}
 use Rattle.ng_fire.proofs.repeats.fire_keyed.Goals as goal
 

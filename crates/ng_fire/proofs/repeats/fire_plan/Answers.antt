@@ -5,16 +5,19 @@ use Rattle.ng_blocks.specs.declared.plans.Plan.{Plan}
 use Rattle.ng_blocks.specs.declared.plans.PlanFault.{PlanFault}
 use Rattle.ng_drawing.specs.declared.origin.Origin.{Origin}
 use Rattle.ng_drawing.specs.Template.{Repeated}
-use Rattle.ng_fire.proofs.Answered.{ok_then}
+use Rattle.ng_changes.proofs.Answered.{ok_then}
 use Rattle.ng_fire.proofs.KeptRows.{kept_or_gone, rows_stand}
 use Rattle.ng_fire.specs.Blocks.{Firing}
-use Rattle.ng_fire.specs.FiringOf.{firing}
-use Rattle.ng_fire.specs.Repeats.{Row, as_fault, bodies_at, by_plan, kept_rows, rows_changed}
-use Rattle.ng_fire.specs.RepeatsOf.{KeptOrGone, RowsOfStand, rows_of}
+use Rattle.ng_fire.specs.FireOf.{firing}
+use Rattle.ng_rows.specs.RepeatRows.{Row, as_fault, kept_rows}
+use Rattle.ng_fire.specs.Repeats.{bodies_at, by_plan, rows_changed}
+use Rattle.ng_rows.specs.RepeatsOf.{RowsOfStand, rows_of}
+use Rattle.ng_fire.specs.RowsKnown.{KeptOrGone}
 use Rattle.ng_fire.specs.Serving.{BodiesStay}
-use Rattle.ng_fire.specs.TrackingOf.{items_of}
-use Rattle.ng_link.specs.Instances.{Body}
-use Rattle.ng_link.specs.State.{body_of, state_of}
+use Rattle.ng_rows.specs.TrackingOf.{items_of}
+use Rattle.ng_instances.specs.Instances.{Body}
+use Rattle.ng_instances.specs.InstanceOf.{body_of}
+use Rattle.ng_link.specs.State.{state_of}
 use Rattle.ng_parts.specs.RepeatedOf.{repeated_of}
 use Rattle.ng_fire.proofs.repeats.fire_plan.Goals as goal
 

@@ -9,15 +9,16 @@ use Rattle.ng_core.specs.State.{Run}
 use Rattle.ng_drawing.specs.Roles.{Entry, entries_in}
 use Rattle.ng_drawing.specs.RolesOf.{entries_of}
 use Rattle.ng_drawing.specs.Template.{Repeated}
-use Rattle.ng_fire.proofs.Answered.{ok_then}
+use Rattle.ng_changes.proofs.Answered.{ok_then}
 use Rattle.ng_fire.proofs.MadeItems.{entries_stand, items_rise}
 use Rattle.ng_fire.proofs.RowsTaken.{keeps_same}
-use Rattle.ng_fire.proofs.Wholes.{whole_left}
+use Rattle.ng_changes.proofs.Wholes.{whole_left}
 use Rattle.ng_fire.specs.Blocks.{Firing}
-use Rattle.ng_fire.specs.FiringOf.{firing}
-use Rattle.ng_fire.specs.Repeats.{by_items, items_made, with_state}
-use Rattle.ng_fire.specs.Tracking.{Item}
-use Rattle.ng_fire.specs.TrackingOf.{EntriesStand, items_of}
+use Rattle.ng_fire.specs.FireOf.{firing}
+use Rattle.ng_rows.specs.RepeatRows.{items_made}
+use Rattle.ng_fire.specs.Repeats.{by_items, with_state}
+use Rattle.ng_rows.specs.Tracking.{Item}
+use Rattle.ng_rows.specs.TrackingOf.{EntriesStand, items_of}
 use Rattle.ng_link.specs.Calls.{with_core}
 use Rattle.ng_link.specs.State.{state_of}
 use Rattle.ng_parts.specs.RepeatedOf.{repeated_of}

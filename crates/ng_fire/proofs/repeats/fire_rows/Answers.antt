@@ -1,13 +1,14 @@
 use Rattle.std.proofs.Common.{◌≡◌, ◌∙◌, ◌+◌, ℕ, suc, List, ◌∷◌, ap, drop, length, map, refl, sym, subst, arith}
 use Rattle.ng_base.specs.declared.name.ScopeId.{ScopeId}
 use Rattle.ng_drawing.specs.declared.origin.Origin.{Origin}
-use Rattle.ng_fire.proofs.Answered.{dropped}
+use Rattle.ng_changes.proofs.Answered.{dropped}
 use Rattle.ng_fire.proofs.KeptRows.{rows_wider}
 use Rattle.ng_fire.proofs.RowsStay.{others_same, others_then}
 use Rattle.ng_fire.proofs.RowsTaken.{keeps_same, keeps_then, spot_stays}
-use Rattle.ng_fire.specs.FiringOf.{firing}
-use Rattle.ng_fire.specs.Repeats.{Filled, Row, filled_to, row_fired, row_names, rows_fired}
-use Rattle.ng_fire.specs.RepeatsOf.{RowsOfStand, row_of, rows_of}
+use Rattle.ng_fire.specs.FireOf.{firing}
+use Rattle.ng_rows.specs.RepeatRows.{Row, row_names}
+use Rattle.ng_fire.specs.Repeats.{Filled, filled_to, row_fired, rows_fired}
+use Rattle.ng_rows.specs.RepeatsOf.{RowsOfStand, row_of, rows_of}
 use Rattle.ng_link.specs.State.{state_of, templates_of}
 use Rattle.ng_parts.specs.RepeatedOf.{repeated_of}
 use Rattle.ng_fire.proofs.repeats.fire_rows.Goals as goal

@@ -1,10 +1,10 @@
 use Rattle.std.proofs.Common.{◌≡◌, ◌≤◌, drop, length, map}
 use Rattle.ng_base.specs.declared.name.ScopeId.{ScopeId}
-use Rattle.ng_fire.specs.FiringOf.{firing}
+use Rattle.ng_fire.specs.FireOf.{firing}
 use Rattle.ng_fire.specs.Repeats.{filled_to, rows_fired}
-use Rattle.ng_fire.specs.RepeatsOf.{RowsOfStand, rows_of}
+use Rattle.ng_rows.specs.RepeatsOf.{RowsOfStand, rows_of}
 use Rattle.ng_fire.specs.Serving.{Keeps, OthersStay}
-use Rattle.ng_fire.specs.Whole.{IsWhole}
+use Rattle.ng_changes.specs.Whole.{IsWhole}
 use Rattle.ng_link.specs.State.{state_of, templates_of}
 use Rattle.ng_parts.specs.RepeatedOf.{repeated_of}
 use Rattle.ng_fire.proofs.repeats.fire_rows.Given as goal

@@ -2,12 +2,12 @@ use Rattle.std.proofs.Common.{◌∙◌, ◌<◌, ℕ, List, ap, length, subst, 
 use Rattle.ng_core.proofs.MoreScopes.{ok_and}
 use Rattle.ng_core.specs.Frames as cores
 use Rattle.ng_core.specs.State as act
-use Rattle.ng_fire.proofs.Answered.{ok_then}
-use Rattle.ng_fire.proofs.Bodies.{scope_stands}
-use Rattle.ng_fire.proofs.Told.{whole_told}
-use Rattle.ng_fire.specs.Blocks.{told_on}
-use Rattle.ng_fire.specs.Repeats.{row_names}
-use Rattle.ng_fire.specs.TrackingOf.{item_of}
+use Rattle.ng_changes.proofs.Answered.{ok_then}
+use Rattle.ng_changes.proofs.Bodies.{scope_stands}
+use Rattle.ng_steps.proofs.WholeTold.{whole_told}
+use Rattle.ng_rows.specs.Chosen.{told_on}
+use Rattle.ng_rows.specs.RepeatRows.{row_names}
+use Rattle.ng_rows.specs.TrackingOf.{item_of}
 use Rattle.ng_link.specs.Calls.{with_core}
 use Rattle.ng_link.specs.State.{state_of}
 use Rattle.ng_members.specs.Leaves.{Local}

@@ -5,24 +5,29 @@ use Rattle.ng_base.specs.declared.name.ScopeId.{ScopeId}
 use Rattle.ng_behaviour.specs.Scopes.{Scope, path_at}
 use Rattle.ng_drawing.specs.declared.origin.Origin.{Origin}
 use Rattle.ng_drawing.specs.Roles.{Role}
-use Rattle.ng_fire.proofs.Answered.{ok_then, some_is, there}
-use Rattle.ng_fire.proofs.Bodies.{at_stands, body_holds, body_serves, new_free, outlet_there}
+use Rattle.ng_changes.proofs.Answered.{ok_then, some_is, there}
+use Rattle.ng_changes.proofs.Bodies.{new_free}
+use Rattle.ng_fire.proofs.BlockBodies.{at_stands, body_holds, body_serves, outlet_there}
 use Rattle.ng_fire.proofs.NewRows.{body_same, filled_on}
-use Rattle.ng_fire.proofs.Placed.{below_more}
+use Rattle.ng_steps.proofs.Placed.{below_more}
 use Rattle.ng_fire.proofs.RowsStay.{others_come, others_same}
 use Rattle.ng_fire.proofs.RowsTaken.{serves_keeps}
 use Rattle.ng_fire.proofs.Served.{at_linked, at_still}
-use Rattle.ng_fire.proofs.Told.{whole_told}
-use Rattle.ng_fire.specs.Blocks.{Firing, body_on, child_run, told_on}
-use Rattle.ng_fire.specs.FiringOf.{child_made, firing}
-use Rattle.ng_fire.specs.LinkingOf.{AreBelow}
-use Rattle.ng_fire.specs.Repeats.{role_for, row_names}
-use Rattle.ng_fire.specs.RepeatsOf.{row_of}
+use Rattle.ng_steps.proofs.WholeTold.{whole_told}
+use Rattle.ng_changes.specs.ChildRun.{child_run}
+use Rattle.ng_rows.specs.Chosen.{told_on}
+use Rattle.ng_fire.specs.Blocks.{Firing, body_on}
+use Rattle.ng_changes.specs.FiringOf.{child_made}
+use Rattle.ng_fire.specs.FireOf.{firing}
+use Rattle.ng_steps.specs.LinkingOf.{AreBelow}
+use Rattle.ng_rows.specs.RepeatRows.{role_for, row_names}
+use Rattle.ng_rows.specs.RepeatsOf.{row_of}
 use Rattle.ng_fire.specs.Serving.{IsAt, OthersStay, Serves, bare_outlets}
-use Rattle.ng_fire.specs.TrackingOf.{item_of}
-use Rattle.ng_link.specs.Calls.{Place, in_outlet, with_core}
-use Rattle.ng_link.specs.Instances.{Instances, instance_path, linked_at}
-use Rattle.ng_link.specs.PlaceOf.{IsFree, IsNewBelow}
+use Rattle.ng_rows.specs.TrackingOf.{item_of}
+use Rattle.ng_instances.specs.Changing.{Place, in_outlet}
+use Rattle.ng_link.specs.Calls.{with_core}
+use Rattle.ng_instances.specs.Instances.{Instances, instance_path, linked_at}
+use Rattle.ng_link.specs.FreePlace.{IsFree, IsNewBelow}
 use Rattle.ng_link.specs.State.{State, state_of, templates_of}
 use Rattle.ng_members.specs.Leaves.{Local}
 use Rattle.ng_store.proofs.Sound.{stands_more}

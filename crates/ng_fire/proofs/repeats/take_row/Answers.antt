@@ -1,15 +1,17 @@
 use Rattle.std.proofs.Common.{◌≡◌, length, map, slice_get, subst, sym, Some}
 use Rattle.ng_core.proofs.MoreScopes.{ok_and}
-use Rattle.ng_fire.proofs.Answered.{ok_then}
-use Rattle.ng_fire.proofs.Placed.{unlinked_stays}
+use Rattle.ng_changes.proofs.Answered.{ok_then}
+use Rattle.ng_steps.proofs.Placed.{unlinked_stays}
 use Rattle.ng_fire.proofs.RowsStay.{one_rest}
-use Rattle.ng_fire.proofs.RowsTaken.{one_gone, one_held, one_keeps, row_at}
-use Rattle.ng_fire.proofs.Wholes.{Stays, stays_of, whole_by}
+use Rattle.ng_rows.proofs.RowAt.{row_at}
+use Rattle.ng_fire.proofs.RowsTaken.{one_gone, one_held, one_keeps}
+use Rattle.ng_changes.proofs.Wholes.{Stays, stays_of, whole_by}
 use Rattle.ng_fire.specs.Repeats.{body_at}
-use Rattle.ng_fire.specs.RepeatsOf.{AreRowsAt, HaveGone}
+use Rattle.ng_fire.specs.RowsKnown.{AreRowsAt, HaveGone}
 use Rattle.ng_fire.specs.Serving.{RestStays}
-use Rattle.ng_link.specs.Instances.{Body}
-use Rattle.ng_link.specs.State.{State, body_of, state_of}
+use Rattle.ng_instances.specs.Instances.{Body}
+use Rattle.ng_instances.specs.InstanceOf.{body_of}
+use Rattle.ng_link.specs.State.{State, state_of}
 use Rattle.std.specs.Prelude.{Option}
 use Rattle.ng_fire.proofs.repeats.take_row.Goals as goal
 

@@ -3,10 +3,11 @@ use Rattle.std.proofs.lemmas.List.{drop_more}
 use Rattle.ng_fire.proofs.RowsStay.{rest_more}
 use Rattle.ng_fire.proofs.RowsTaken.{gone_more, keeps_then, stands_still, taken_more}
 use Rattle.ng_fire.specs.Repeats.{bodies_at, body_at, rows_taken}
-use Rattle.ng_fire.specs.RepeatsOf.{HaveGone}
+use Rattle.ng_fire.specs.RowsKnown.{HaveGone}
 use Rattle.ng_fire.specs.Serving.{RestStays}
-use Rattle.ng_link.specs.Instances.{Body}
-use Rattle.ng_link.specs.State.{body_of, state_of}
+use Rattle.ng_instances.specs.Instances.{Body}
+use Rattle.ng_instances.specs.InstanceOf.{body_of}
+use Rattle.ng_link.specs.State.{state_of}
 use Rattle.ng_fire.proofs.repeats.take_rows.Goals as goal
 
 pub take_row-requires-clause-row : goal.take_row-requires-clause-row

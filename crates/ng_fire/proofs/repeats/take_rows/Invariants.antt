@@ -1,9 +1,10 @@
 use Rattle.std.proofs.Common.{◌≡◌, ◌-◌, drop, length, map}
 use Rattle.ng_fire.specs.Repeats.{bodies_at, rows_taken}
-use Rattle.ng_fire.specs.RepeatsOf.{HaveGone}
+use Rattle.ng_fire.specs.RowsKnown.{HaveGone}
 use Rattle.ng_fire.specs.Serving.{Keeps, RestStays}
-use Rattle.ng_fire.specs.Whole.{IsWhole}
-use Rattle.ng_link.specs.State.{body_of, state_of, templates_of}
+use Rattle.ng_changes.specs.Whole.{IsWhole}
+use Rattle.ng_instances.specs.InstanceOf.{body_of}
+use Rattle.ng_link.specs.State.{state_of, templates_of}
 use Rattle.ng_fire.proofs.repeats.take_rows.Given as goal
 
 abbrev pub invariant-loop-k : goal.invariant-loop-k

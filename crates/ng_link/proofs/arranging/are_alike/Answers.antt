@@ -3,9 +3,9 @@ use Rattle.std.specs.Prelude.{not}
 use Rattle.std.proofs.lemmas.List.{drop_all, length-map}
 use Rattle.ng_base.specs.Order.{path_cmp-eq}
 use Rattle.ng_link.specs.Arranging.{are_alike}
-use Rattle.ng_link.specs.Instances.{is_path}
-use Rattle.ng_link.specs.State.{body_of}
-use Rattle.ng_link.specs.declared.works.Body as code
+use Rattle.ng_instances.specs.Instances.{is_path}
+use Rattle.ng_instances.specs.InstanceOf.{body_of}
+use Rattle.ng_instances.specs.declared.instances.Body as code
 use Rattle.ng_link.proofs.AlikeBodies.{alike_longer, alike_next}
 use Rattle.ng_link.proofs.arranging.are_alike.Goals as goal
 

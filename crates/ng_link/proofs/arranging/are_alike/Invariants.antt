@@ -1,6 +1,6 @@
 use Rattle.std.proofs.Common.{◌≡◌, drop, map}
 use Rattle.ng_link.specs.Arranging.{are_alike}
-use Rattle.ng_link.specs.State.{body_of}
+use Rattle.ng_instances.specs.InstanceOf.{body_of}
 use Rattle.ng_link.proofs.arranging.are_alike.Given as goal
 
 abbrev pub invariant-loop-i : goal.invariant-loop-i

@@ -1,9 +1,9 @@
 use Rattle.std.proofs.Common.{◌≡◌, ◌∙◌, ℕ, List, Option, Some, None, sym, ap, subst, refl, true, map}
 use Rattle.std.specs.Prelude.{option_map}
 use Rattle.ng_link.specs.Arranging.{are_alike, AreAt, IsOrder}
-use Rattle.ng_link.specs.Instances.{OutletState}
-use Rattle.ng_link.specs.State.{body_of, outlet_of}
-use Rattle.ng_link.specs.declared.works.Body as code
+use Rattle.ng_instances.specs.Instances.{OutletState}
+use Rattle.ng_instances.specs.InstanceOf.{body_of, outlet_of}
+use Rattle.ng_instances.specs.declared.instances.Body as code
 use Rattle.ng_link.proofs.arranging.order_in.Goals as goal
 
 pub returns-in-None : goal.returns-in-None

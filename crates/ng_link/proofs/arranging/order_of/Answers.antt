@@ -1,9 +1,9 @@
 use Rattle.std.proofs.Common.{◌+◌, ◌++◌, ℕ, List, [], ◌∷◌, sym, subst, map, take}
 use Rattle.std.proofs.lemmas.List.{take_all}
 use Rattle.ng_link.specs.Arranging.{AreAt, IsPlaceOf}
-use Rattle.ng_link.specs.Instances.{Body}
-use Rattle.ng_link.specs.State.{body_of}
-use Rattle.ng_link.specs.declared.works.Body as code
+use Rattle.ng_instances.specs.Instances.{Body}
+use Rattle.ng_instances.specs.InstanceOf.{body_of}
+use Rattle.ng_instances.specs.declared.instances.Body as code
 use Rattle.ng_link.proofs.AlikeBodies.{at_more, seen_more}
 use Rattle.ng_link.proofs.arranging.order_of.Goals as goal
 

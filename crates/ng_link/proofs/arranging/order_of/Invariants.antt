@@ -1,6 +1,6 @@
 use Rattle.std.proofs.Common.{map, take}
 use Rattle.ng_link.specs.Arranging.{AreAt}
-use Rattle.ng_link.specs.State.{body_of}
+use Rattle.ng_instances.specs.InstanceOf.{body_of}
 use Rattle.ng_link.proofs.arranging.order_of.Given as goal
 
 abbrev pub invariant-loop-body : goal.invariant-loop-body

@@ -1,7 +1,7 @@
 use Rattle.std.proofs.Common.{◌∙◌, ℕ, List, ap, sym, subst, map}
 use Rattle.ng_link.specs.Arranging.{ArePlaces, IsPlaceOf}
-use Rattle.ng_link.specs.State.{body_of}
-use Rattle.ng_link.specs.declared.works.Body as code
+use Rattle.ng_instances.specs.InstanceOf.{body_of}
+use Rattle.ng_instances.specs.declared.instances.Body as code
 use Rattle.ng_link.proofs.PlacesBy.{places_more, place_here}
 use Rattle.ng_link.proofs.arranging.places_by.Goals as goal
 

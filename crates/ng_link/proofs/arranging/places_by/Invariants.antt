@@ -1,6 +1,6 @@
 use Rattle.std.proofs.Common.{map}
 use Rattle.ng_link.specs.Arranging.{ArePlaces}
-use Rattle.ng_link.specs.State.{body_of}
+use Rattle.ng_instances.specs.InstanceOf.{body_of}
 use Rattle.ng_link.proofs.arranging.places_by.Given as goal
 
 abbrev pub invariant-loop-i : goal.invariant-loop-i

@@ -1,7 +1,7 @@
 use Rattle.std.proofs.Common.{ap, refl, sym, map, ◌∙◌}
-use Rattle.ng_link.specs.Instances.{bodies_arranged}
-use Rattle.ng_link.specs.State.{body_of, instances_of, spot_in}
-use Rattle.ng_link.proofs.Written.{written, unwritten, spots_written}
+use Rattle.ng_instances.specs.Instances.{bodies_arranged}
+use Rattle.ng_instances.specs.InstanceOf.{body_of, instances_of, spot_in}
+use Rattle.ng_instances.proofs.Written.{written, unwritten, spots_written}
 use Rattle.ng_link.proofs.arranging.set_held.Goals as goal
 
 pub returns-in-None-clause-arranged : goal.returns-in-None-clause-arranged

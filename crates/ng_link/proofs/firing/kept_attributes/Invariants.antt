@@ -1,6 +1,6 @@
 use Rattle.std.proofs.Common.{◌≡◌, [], drop, map}
 use Rattle.ng_dom.specs.Drawing.{drawn_on}
-use Rattle.ng_link.specs.Seen.{drawn_of}
+use Rattle.ng_build.specs.Seen.{drawn_of}
 use Rattle.ng_link.specs.State.{state_of, looks_in}
 use Rattle.ng_link.proofs.firing.kept_attributes.Given as goal
 

@@ -12,16 +12,17 @@ use Rattle.ng_drawing.specs.Roles.{Role}
 use Rattle.ng_drawing.specs.RolesOf.{role_of}
 use Rattle.ng_drawing.specs.declared.origin.Origin.{Origin}
 use Rattle.ng_compose.specs.Kept.{fragments_in}
-use Rattle.ng_link.specs.Instances.{Body, OutletState, Linked, is_path, linked_at, read_bodies}
-use Rattle.ng_link.specs.State.{body_of, outlet_of, linked_of, templates_of, site_states, roles_in, groups_in, nothing_linked, instance_join, instance_at, body_at, state_of}
-use Rattle.ng_link.specs.declared.works.Body as code_body
-use Rattle.ng_link.specs.declared.works.Linked as code
-use Rattle.ng_link.specs.declared.works.OutletState as code_outlet
+use Rattle.ng_instances.specs.Instances.{Body, OutletState, Linked, is_path, linked_at, read_bodies}
+use Rattle.ng_instances.specs.InstanceOf.{body_of, outlet_of, linked_of}
+use Rattle.ng_link.specs.State.{templates_of, site_states, roles_in, groups_in, nothing_linked, instance_join, instance_at, body_at, state_of}
+use Rattle.ng_instances.specs.declared.instances.Body as code_body
+use Rattle.ng_instances.specs.declared.instances.Linked as code
+use Rattle.ng_instances.specs.declared.instances.OutletState as code_outlet
 use Rattle.ng_link.specs.declared.works.Works.{Works}
 use Rattle.ng_link.proofs.Ahead.{after_fewer, from_later, less_is, read_ahead}
-use Rattle.ng_link.proofs.Listed.{keys-seen}
-use Rattle.ng_link.proofs.Loops.{next_seen, pushed}
-use Rattle.ng_link.proofs.Places.{linked_seen}
+use Rattle.ng_instances.proofs.Listed.{keys-seen}
+use Rattle.ng_build.proofs.Loops.{next_seen, pushed}
+use Rattle.ng_instances.proofs.Places.{linked_seen}
 use Rattle.ng_link.proofs.ReadOff.{read_none}
 use Rattle.ng_link.proofs.Rolled.{instance_made, group_made}
 use Rattle.ng_link.proofs.instance.+instance.Goals as goal

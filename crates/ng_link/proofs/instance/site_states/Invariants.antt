@@ -1,9 +1,10 @@
 use Rattle.std.proofs.Common.{◌≡◌, ◌++◌, ℕ, map}
 use Rattle.std.specs.Map.{keys_of as map_keys}
 use Rattle.ng_drawing.specs.InstanceOf.{state_of as seen_state}
-use Rattle.ng_link.specs.Instances.{scope_number, key_in}
-use Rattle.ng_link.specs.Registering.{mark_in}
-use Rattle.ng_link.specs.State.{page_of, site_state, state_of}
+use Rattle.ng_instances.specs.Instances.{scope_number, key_in}
+use Rattle.ng_instances.specs.Registering.{mark_in}
+use Rattle.ng_instances.specs.InstanceOf.{page_of}
+use Rattle.ng_link.specs.State.{site_state, state_of}
 use Rattle.ng_link.proofs.instance.site_states.Given as goal
 
 abbrev pub invariant-loop-serial : goal.invariant-loop-serial

@@ -1,4 +1,4 @@
-use Rattle.ng_link.proofs.Shapes.{shape_draws}
+use Rattle.ng_link.proofs.LinkedLooks.{shape_draws}
 use Rattle.ng_link.proofs.laws.shape_draws_parts.Goals as goal
 
 pub returns : goal.returns

@@ -4,7 +4,7 @@ use Rattle.std.specs.Prelude.{is_some}
 use Rattle.ng_value.specs.Snaps.{snap_of}
 use Rattle.ng_watch.specs.Table.{watchers_of, found}
 use Rattle.ng_link.proofs.Rested.{kept_found}
-use Rattle.ng_link.proofs.Tables.{seen_through}
+use Rattle.ng_build.proofs.Tables.{seen_through}
 use Rattle.ng_link.proofs.looks.kept_at_rest.Goals as goal
 
 pub returns-in-None : goal.returns-in-None

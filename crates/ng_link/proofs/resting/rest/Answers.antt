@@ -2,9 +2,10 @@ use Rattle.std.proofs.Common.{◌≡◌, Option, true, ap, sym, ◌∙◌, optio
 use Rattle.ng_value.specs.Snaps.{snap_of}
 use Rattle.ng_value.specs.declared.snapshot.Snap.{Snap}
 use Rattle.ng_watch.specs.Keys.{key_cmp}
-use Rattle.ng_link.specs.Instances.{is_site}
-use Rattle.ng_link.specs.State.{instances_of, resting_of}
-use Rattle.ng_link.proofs.Tables.{put-seen}
+use Rattle.ng_instances.specs.Instances.{is_site}
+use Rattle.ng_instances.specs.InstanceOf.{instances_of}
+use Rattle.ng_link.specs.State.{resting_of}
+use Rattle.ng_build.proofs.Tables.{put-seen}
 use Rattle.ng_link.proofs.resting.rest.Goals as goal
 
 pub returns-in_ok-insert-clause-rested : goal.returns-in_ok-insert-clause-rested

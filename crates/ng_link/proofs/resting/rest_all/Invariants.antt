@@ -3,7 +3,8 @@ use Rattle.std.specs.Vec.Iter.{into_iter_items}
 use Rattle.ng_compose.specs.Kept.{Named}
 use Rattle.ng_watch.specs.Table.{watchers_of}
 use Rattle.ng_link.specs.Calls.{rested}
-use Rattle.ng_link.specs.State.{instances_of, resting_of}
+use Rattle.ng_instances.specs.InstanceOf.{instances_of}
+use Rattle.ng_link.specs.State.{resting_of}
 use Rattle.ng_link.proofs.resting.rest_all.Given as goal
 
 abbrev pub invariant-loop-key : goal.invariant-loop-key

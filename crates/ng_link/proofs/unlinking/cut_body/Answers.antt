@@ -1,6 +1,6 @@
 use Rattle.std.proofs.Common.{arith}
 use Rattle.ng_dom.proofs.Places.{cut_past}
-use Rattle.ng_link.specs.State.{body_of}
+use Rattle.ng_instances.specs.InstanceOf.{body_of}
 use Rattle.ng_link.proofs.unlinking.cut_body.Goals as goal
 
 pub returns-else-i-len : goal.returns-else-i-len

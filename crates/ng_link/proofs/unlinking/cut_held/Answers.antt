@@ -1,10 +1,10 @@
 use Rattle.std.proofs.Common.{◌≡◌, ◌∙◌, Some, None, slice_get, sym, ap, refl}
 use Rattle.std.specs.Prelude.{option_map, option_and_then}
-use Rattle.ng_link.specs.Instances.{Linked}
-use Rattle.ng_link.specs.State.{instances_of, linked_of, spot_in}
+use Rattle.ng_instances.specs.Instances.{Linked}
+use Rattle.ng_instances.specs.InstanceOf.{instances_of, linked_of, spot_in}
 use Rattle.ng_link.specs.Unlinking.{body_cut}
 use Rattle.ng_link.proofs.HeldCut.{set_changed, none_changed, set_spots}
-use Rattle.ng_link.proofs.Places.{linked_seen}
+use Rattle.ng_instances.proofs.Places.{linked_seen}
 use Rattle.ng_link.proofs.unlinking.cut_held.Goals as goal
 
 pub returns-in-None-clause-instances : goal.returns-in-None-clause-instances

@@ -1,5 +1,5 @@
 use Rattle.std.proofs.Common.{ap, refl}
-use Rattle.ng_link.specs.Instances.{OutletState}
+use Rattle.ng_instances.specs.Instances.{OutletState}
 use Rattle.ng_link.proofs.HeldCut.{outlet_cut, outlet_past, none_past, kept_at, seen_outlet}
 use Rattle.ng_link.proofs.unlinking.cut_outlet.Goals as goal
 

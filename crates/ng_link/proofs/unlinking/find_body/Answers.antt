@@ -1,8 +1,8 @@
 use Rattle.std.proofs.Common.{List, sym, map, subst}
-use Rattle.ng_link.specs.State.{body_of, outlet_of}
+use Rattle.ng_instances.specs.InstanceOf.{body_of, outlet_of}
 use Rattle.ng_link.specs.Unlinking.{IsBodyAt}
-use Rattle.ng_link.specs.declared.works.Body.{Body}
-use Rattle.ng_link.specs.declared.works.OutletState.{OutletState}
+use Rattle.ng_instances.specs.declared.instances.Body.{Body}
+use Rattle.ng_instances.specs.declared.instances.OutletState.{OutletState}
 use Rattle.ng_link.proofs.HeldCut.{seen_at}
 use Rattle.ng_link.proofs.unlinking.find_body.Goals as goal
 

@@ -1,6 +1,6 @@
 use Rattle.std.proofs.Common.{◌≡◌, map, drop}
 use Rattle.ng_link.specs.Standing.{held_count}
-use Rattle.ng_link.specs.State.{outlet_of}
+use Rattle.ng_instances.specs.InstanceOf.{outlet_of}
 use Rattle.ng_link.proofs.unlinking.find_body.Given as goal
 
 abbrev pub invariant-loop-o : goal.invariant-loop-o

@@ -2,9 +2,11 @@ use Rattle.std.proofs.Common.{◌≡◌, ◌∙◌, Some, sym, ap, filter, not}
 use Rattle.std.specs.Map.{lookup_key}
 use Rattle.ng_base.specs.Order.{path_cmp}
 use Rattle.ng_watch.specs.Keys.{begins}
-use Rattle.ng_link.specs.declared.works.Linked.{Linked}
-use Rattle.ng_link.proofs.Firsts.{first_shorter, first_taken, none_passes, owners_step, owners_none}
-use Rattle.ng_link.proofs.Paths.{path_is, same_path}
+use Rattle.ng_instances.specs.declared.instances.Linked.{Linked}
+use Rattle.ng_build.proofs.Firsts.{first_shorter, first_taken, none_passes}
+use Rattle.ng_link.proofs.FirstOwners.{owners_step, owners_none}
+use Rattle.ng_instances.proofs.PathIs.{path_is}
+use Rattle.ng_link.proofs.PathsBelow.{same_path}
 use Rattle.ng_link.proofs.unlinking.forget_below.Goals as goal
 
 pub loop-path-smaller : goal.loop-path-smaller

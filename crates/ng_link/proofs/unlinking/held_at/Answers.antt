@@ -1,9 +1,9 @@
 use Rattle.std.proofs.Common.{◌≡◌, ◌∙◌, Some, None, sym, ap}
 use Rattle.std.specs.Prelude.{option_map}
-use Rattle.ng_link.specs.Instances.{Linked}
-use Rattle.ng_link.specs.State.{linked_of}
+use Rattle.ng_instances.specs.Instances.{Linked}
+use Rattle.ng_instances.specs.InstanceOf.{linked_of}
 use Rattle.ng_link.proofs.HeldCut.{held_match}
-use Rattle.ng_link.proofs.Places.{linked_seen}
+use Rattle.ng_instances.proofs.Places.{linked_seen}
 use Rattle.ng_link.proofs.unlinking.held_at.Goals as goal
 
 pub returns-in-None : goal.returns-in-None

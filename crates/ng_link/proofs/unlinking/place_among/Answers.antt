@@ -2,8 +2,8 @@ use Rattle.std.proofs.Common.{◌≡◌, ◌<◌, ◌+◌, ◌-◌, ◌∙◌, �
 use Rattle.std.proofs.lemmas.Slice.Eq.{bytes_eq-Decides}
 use Rattle.ng_base.specs.Order.{path_cmp-eq}
 use Rattle.ng_link.specs.Standing.{body_count}
-use Rattle.ng_link.specs.State.{body_of}
-use Rattle.ng_link.specs.declared.works.Body.{Body}
+use Rattle.ng_instances.specs.InstanceOf.{body_of}
+use Rattle.ng_instances.specs.declared.instances.Body.{Body}
 use Rattle.ng_link.proofs.HeldCut.{seen_at, next_body}
 use Rattle.ng_link.proofs.unlinking.place_among.Goals as goal
 

@@ -1,6 +1,6 @@
 use Rattle.std.proofs.Common.{◌≡◌, ◌≤◌, length, map, drop}
 use Rattle.ng_link.specs.Standing.{body_count}
-use Rattle.ng_link.specs.State.{body_of}
+use Rattle.ng_instances.specs.InstanceOf.{body_of}
 use Rattle.ng_link.proofs.unlinking.place_among.Given as goal
 
 abbrev pub invariant-loop-i : goal.invariant-loop-i

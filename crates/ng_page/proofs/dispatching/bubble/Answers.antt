@@ -2,9 +2,10 @@ use Rattle.std.proofs.Common.{◌∷◌, ◌+◌, [], ◌∙◌, drop, get_or, r
 use Rattle.std.proofs.lemmas.List.{drop_more, drop_all}
 use Rattle.ng_link.specs.State.{state_of}
 use Rattle.ng_page.specs.Dispatched.{told_all}
-use Rattle.ng_page.specs.EventSeen.{going, happening_seen, LastSettled}
+use Rattle.ng_commands.specs.HandlingOf.{going, happening_seen}
+use Rattle.ng_page.specs.EventSeen.{LastSettled}
 use Rattle.ng_page.specs.declared.dispatching.Dispatch.{Dispatch}
-use Rattle.ng_page.specs.declared.dispatching.Event.TheVariants as events
+use Rattle.ng_commands.specs.declared.handling.Event.TheVariants as events
 use Rattle.ng_page.proofs.Bubbling.{BubbledSoFar, bubbles_no_more, stopped_here, one_bubbled}
 use Rattle.ng_page.proofs.dispatching.bubble.Goals as goal
 

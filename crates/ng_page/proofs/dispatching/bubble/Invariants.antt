@@ -1,9 +1,10 @@
 use Rattle.std.proofs.Common.{◌≡◌, [], drop, length}
 use Rattle.ng_link.specs.State.{state_of}
 use Rattle.ng_page.specs.Dispatched.{told_all}
-use Rattle.ng_page.specs.EventSeen.{going, happening_seen, MadeBelow, LastSettled}
-use Rattle.ng_page.specs.PlaceOf.{PageIs}
-use Rattle.ng_page.specs.declared.dispatching.Event.TheVariants as events
+use Rattle.ng_commands.specs.HandlingOf.{going, happening_seen, MadeBelow}
+use Rattle.ng_page.specs.EventSeen.{LastSettled}
+use Rattle.ng_commands.specs.BetweenSteps.{PageIs}
+use Rattle.ng_commands.specs.declared.handling.Event.TheVariants as events
 use Rattle.ng_page.proofs.Bubbling.{BubbledSoFar}
 use Rattle.ng_page.proofs.dispatching.bubble.Given as goal
 

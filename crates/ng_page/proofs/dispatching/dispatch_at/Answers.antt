@@ -1,7 +1,7 @@
 use Rattle.std.proofs.Common.{◌∙◌}
 use Rattle.ng_link.specs.State.{state_of}
 use Rattle.ng_page.specs.Dispatched.{told_all}
-use Rattle.ng_page.specs.EventSeen.{event_seen}
+use Rattle.ng_commands.specs.HandlingOf.{event_seen}
 use Rattle.serde_json.specs.View.{view}
 use Rattle.ng_page.proofs.Bubbling.{dispatched_by, last_settled}
 use Rattle.ng_page.proofs.Turns.{if_ok}

@@ -4,7 +4,7 @@ use Rattle.ng_language.specs.Trees.{Trees}
 use Rattle.ng_parse.specs.ProgramOf.{program}
 use Rattle.ng_page.specs.Dispatch.{Told, Handles}
 use Rattle.ng_page.specs.Dispatched.{told_all}
-use Rattle.ng_page.specs.EventSeen.{going, happening_seen}
+use Rattle.ng_commands.specs.HandlingOf.{going, happening_seen}
 use Rattle.ng_page.proofs.Bubbling.{still_more}
 use Rattle.ng_page.proofs.dispatching.handle.Goals as goal
 

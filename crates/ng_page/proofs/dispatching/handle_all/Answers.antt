@@ -2,7 +2,7 @@ use Rattle.std.proofs.Common.{◌∷◌, ◌+◌, ◌∙◌, drop, map, refl, ap
 use Rattle.std.proofs.lemmas.List.{drop_more, drop_all}
 use Rattle.ng_parse.specs.ProgramOf.{program}
 use Rattle.ng_page.specs.Dispatched.{told_all}
-use Rattle.ng_page.specs.EventSeen.{going, happening_seen}
+use Rattle.ng_commands.specs.HandlingOf.{going, happening_seen}
 use Rattle.ng_page.proofs.Bubbling.{HandledSoFar, still_more, none_handled, one_handled, all_handled}
 use Rattle.ng_page.proofs.dispatching.handle_all.Goals as goal
 

@@ -2,8 +2,9 @@ use Rattle.std.proofs.Common.{drop, length, map}
 use Rattle.ng_link.specs.State.{state_of}
 use Rattle.ng_parse.specs.ProgramOf.{program}
 use Rattle.ng_page.specs.Dispatched.{told_all}
-use Rattle.ng_page.specs.EventSeen.{going, happening_seen, MadeBelow, IsStill, LastSettled}
-use Rattle.ng_page.specs.PlaceOf.{PageIs}
+use Rattle.ng_commands.specs.HandlingOf.{going, happening_seen, MadeBelow}
+use Rattle.ng_page.specs.EventSeen.{IsStill, LastSettled}
+use Rattle.ng_commands.specs.BetweenSteps.{PageIs}
 use Rattle.ng_page.proofs.Bubbling.{HandledSoFar}
 use Rattle.ng_page.proofs.dispatching.handle_all.Given as goal
 

@@ -1,8 +1,8 @@
 use Rattle.std.proofs.Common.{◌∙◌, [], ◌∷◌, ap, sym}
 use Rattle.ng_link.specs.State.{state_of}
-use Rattle.ng_page.specs.Dispatch.{has_touch}
+use Rattle.ng_commands.specs.Handling.{has_touch}
 use Rattle.ng_page.specs.Dispatched.{told_of, told_all}
-use Rattle.ng_page.specs.EventSeen.{happening_seen, going}
+use Rattle.ng_commands.specs.HandlingOf.{happening_seen, going}
 use Rattle.ng_page.proofs.Bubbling.{one_touch, pushed_settled, none_pushed, told_pushed}
 use Rattle.ng_page.proofs.dispatching.may_touch.Goals as goal
 

@@ -1,6 +1,6 @@
 use Rattle.std.proofs.Common.{length, refl}
 use Rattle.ng_link.specs.State.{state_of}
-use Rattle.ng_page.specs.EventSeen.{going}
+use Rattle.ng_commands.specs.HandlingOf.{going}
 use Rattle.ng_page.specs.OutcomeOf.{outcome_of}
 use Rattle.ng_page.proofs.Turns.{touches, touched_grown, before_touch_rest, turn_settled, below_touched, ends_grown, if_ok_both, on_ok_if}
 use Rattle.ng_page.proofs.dispatching.touch.Goals as goal

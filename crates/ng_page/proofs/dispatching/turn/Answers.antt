@@ -1,9 +1,10 @@
 use Rattle.std.proofs.Common.{length, refl}
 use Rattle.ng_link.specs.State.{state_of}
 use Rattle.ng_parse.specs.ProgramOf.{program}
-use Rattle.ng_page.specs.EventSeen.{happening_seen, going}
+use Rattle.ng_commands.specs.HandlingOf.{happening_seen, going}
 use Rattle.ng_page.specs.OutcomeOf.{outcome_of}
-use Rattle.ng_page.proofs.Turns.{takes_turn, turn_settled, below_still, ends_grown, if_ok_both, on_ok_if, before_rest}
+use Rattle.ng_commands.proofs.Handled.{below_still}
+use Rattle.ng_page.proofs.Turns.{takes_turn, turn_settled, ends_grown, if_ok_both, on_ok_if, before_rest}
 use Rattle.ng_page.proofs.dispatching.turn.Goals as goal
 
 pub returns-clause-turn : goal.returns-clause-turn

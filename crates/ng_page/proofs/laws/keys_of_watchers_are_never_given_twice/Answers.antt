@@ -1,5 +1,5 @@
 use Rattle.std.proofs.Common.{refl}
-use Rattle.ng_fire.proofs.RisingPrograms.{does-rises}
+use Rattle.ng_changes.proofs.RisingPrograms.{does-rises}
 use Rattle.ng_page.proofs.Lasting.{steps_last, linked_anew}
 use Rattle.ng_page.proofs.laws.keys_of_watchers_are_never_given_twice.Goals as goal
 

@@ -5,14 +5,14 @@ use Rattle.ng_base.specs.declared.name.TplId.{TplId}
 use Rattle.ng_drawing.specs.Origins.{plain_origin, first_home}
 use Rattle.ng_drawing.specs.declared.origin.Home.{Home}
 use Rattle.ng_drawing.specs.declared.origin.Origin.{Origin}
-use Rattle.ng_fire.specs.LinkingOf.{AreBelow}
+use Rattle.ng_steps.specs.LinkingOf.{AreBelow}
 use Rattle.ng_link.specs.State.{State, state_of, templates_of}
 use Rattle.ng_compose.specs.Kept.{Named, fragment_for}
 use Rattle.ng_watch.specs.Table.{watchers_of}
 use Rattle.ng_page.specs.Opening.{linked_on, page_origin}
 use Rattle.ng_page.proofs.DigestsStay.{AreFitting}
 use Rattle.ng_page.proofs.Opened.{first_fragment, IsLinkedAs, page_linked, opened_fitting}
-use Rattle.ng_page.proofs.Sites.{InKeys}
+use Rattle.ng_commands.proofs.Sites.{InKeys}
 use Rattle.ng_page.proofs.opening.link_page.Goals as goal
 
 -- the origin of the first template's own fragment

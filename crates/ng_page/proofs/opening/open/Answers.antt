@@ -1,5 +1,5 @@
 use Rattle.std.proofs.Common.{◌≡◌, ◌∙◌, ◌<◌, List, [], ◌∷◌, None, ap, arith, length, subst, sym}
-use Rattle.ng_fire.proofs.Placed.{templates_regular}
+use Rattle.ng_steps.proofs.Placed.{templates_regular}
 use Rattle.ng_link.specs.State.{templates_of}
 use Rattle.ng_compose.specs.Kept.{Named, templates_of as kept_templates}
 use Rattle.ng_parts.specs.TemplateOf.{template_of}

@@ -5,8 +5,8 @@ use Rattle.ng_core.specs.declared.core_state.Core.{Core}
 use Rattle.ng_app.specs.AppOf.{facts}
 use Rattle.ng_app.specs.Directives.{all_unnamed, all_programs}
 use Rattle.ng_app.specs.Templates.{all_named}
-use Rattle.ng_fire.specs.Runs.{program_run}
-use Rattle.ng_fire.specs.Whole.{IsWhole}
+use Rattle.ng_changes.specs.Runs.{program_run}
+use Rattle.ng_changes.specs.Whole.{IsWhole}
 use Rattle.ng_link.specs.State.{State}
 use Rattle.ng_link.specs.declared.works.Works.{Works}
 use Rattle.ng_parse.specs.ProgramOf.{program}
@@ -15,8 +15,8 @@ use Rattle.ng_compose.specs.DirectivesOf.{directives_of}
 use Rattle.ng_compose.specs.Kept.{Named, templates_of as kept_templates}
 use Rattle.ng_page.specs.Opening.{templates_for}
 use Rattle.ng_page.proofs.Prepared.{whole_new, prepared_by}
-use Rattle.ng_page.proofs.Ran.{whole_ran}
-use Rattle.ng_page.proofs.StepsStay.{program_stays}
+use Rattle.ng_commands.proofs.Ran.{whole_ran}
+use Rattle.ng_commands.proofs.StepsStay.{program_stays}
 use Rattle.ng_page.proofs.opening.prepare.Goals as goal
 
 pub follow-requires : goal.follow-requires

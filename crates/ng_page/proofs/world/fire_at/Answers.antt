@@ -5,7 +5,7 @@ use Rattle.ng_digest.specs.Machine.{fired_at}
 use Rattle.ng_value.specs.Snaps.{snap_of}
 use Rattle.ng_page.specs.PageMachine.{State, handed_on_at, page_machine}
 use Rattle.ng_page.specs.PlaceOf.{seen_of, state_of, handed_on_from}
-use Rattle.ng_page.proofs.Prepared.{on_ok}
+use Rattle.ng_commands.proofs.SitesRest.{on_ok}
 use Rattle.ng_page.proofs.Stages.{fired_on}
 use Rattle.ng_page.proofs.world.fire_at.Goals as goal
 

@@ -4,10 +4,12 @@ use Rattle.ng_page.specs.Dispatched.{told_all}
 use Rattle.ng_page.specs.OutcomeOf.{outcome_of}
 use Rattle.ng_page.specs.PageOf.{state_of}
 use Rattle.ng_script.specs.Acts.{act_of, entry_of}
-use Rattle.ng_run.specs.Happenings.{fired_by, event_step}
+use Rattle.ng_printing.specs.EventStep.{event_step}
+use Rattle.ng_run.specs.Happenings.{fired_by}
 use Rattle.ng_run.specs.Performed.{PerformedAct, IsStepOf}
-use Rattle.ng_run.specs.ReplyOf.{told_lines}
-use Rattle.ng_run.specs.Steps.{idle_step, aimless_step, step_of}
+use Rattle.ng_printing.specs.Lines.{told_lines}
+use Rattle.ng_printing.specs.Left.{idle_step, aimless_step}
+use Rattle.ng_printing.specs.StepLines.{step_of}
 use Rattle.ng_run.proofs.Answering.{if_ok}
 use Rattle.ng_run.proofs.Performing.{aimless_does, idle_does, outcome_does, outcomes_does}
 use Rattle.ng_run.proofs.commands.do_command.Goals as goal

@@ -1,7 +1,8 @@
 use Rattle.std.proofs.Common.{◌≡◌, map, take}
 use Rattle.ng_run.specs.Doing.{HasDone}
-use Rattle.ng_run.specs.ReplyOf.{IsReady, LeavesPage}
-use Rattle.ng_run.specs.Steps.{Left}
+use Rattle.ng_printing.specs.StepSeen.{IsReady}
+use Rattle.ng_run.specs.ReplyOf.{LeavesPage}
+use Rattle.ng_printing.specs.Left.{Left}
 use Rattle.ng_script.specs.Acts.{entry_of}
 use Rattle.ng_run.proofs.doing.do_all.Given as goal
 

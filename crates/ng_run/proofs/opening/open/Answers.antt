@@ -3,8 +3,8 @@ use Rattle.ng_inputs.specs.InputsOf.{accepted_of}
 use Rattle.ng_link.specs.State.{rendering}
 use Rattle.ng_page.specs.OutcomeOf.{outcome_of}
 use Rattle.ng_page.specs.PageOf.{state_of}
-use Rattle.ng_run.specs.ReplyOf.{told_lines}
-use Rattle.ng_run.specs.Steps.{step_of}
+use Rattle.ng_printing.specs.Lines.{told_lines}
+use Rattle.ng_printing.specs.StepLines.{step_of}
 use Rattle.ng_run.proofs.OpenedPages.{opened_page}
 use Rattle.ng_run.proofs.opening.open.Goals as goal
 

@@ -1,9 +1,10 @@
 use Rattle.std.proofs.Common.{◌≡◌, ℕ, List, Option, map, subst}
 use Rattle.ng_link.specs.Arranging.{IsOrder}
-use Rattle.ng_link.specs.Instances.{OutletState, linked_at}
-use Rattle.ng_link.specs.PlaceOf.{outlet_of_linked}
-use Rattle.ng_link.specs.State.{body_of, state_of, templates_of}
-use Rattle.ng_link.specs.declared.works.Body as code
+use Rattle.ng_instances.specs.Instances.{OutletState, linked_at}
+use Rattle.ng_instances.specs.PlaceOf.{outlet_of_linked}
+use Rattle.ng_instances.specs.InstanceOf.{body_of}
+use Rattle.ng_link.specs.State.{state_of, templates_of}
+use Rattle.ng_instances.specs.declared.instances.Body as code
 use Rattle.ng_link.specs.declared.works.Works.{Works}
 use Rattle.ng_link.proofs.Rearranged.{arranged_state, arranged_stands}
 use Rattle.ng_link.proofs.works.Works.arrange.Goals as goal

@@ -1,9 +1,10 @@
 use Rattle.std.proofs.Common.{◌≡◌, Some, None, ap, sym, ◌∙◌, map}
 use Rattle.std.specs.Prelude.{option_map}
 use Rattle.std.proofs.lemmas.Result.{IfOk-weaker}
-use Rattle.ng_link.specs.Instances.{OutletState, linked_at}
-use Rattle.ng_link.specs.PlaceOf.{outlet_of_linked}
-use Rattle.ng_link.specs.State.{body_of, outlet_of, state_of, templates_of}
+use Rattle.ng_instances.specs.Instances.{OutletState, linked_at}
+use Rattle.ng_instances.specs.PlaceOf.{outlet_of_linked}
+use Rattle.ng_instances.specs.InstanceOf.{body_of, outlet_of}
+use Rattle.ng_link.specs.State.{state_of, templates_of}
 use Rattle.ng_link.proofs.works.Works.bodies_in.Goals as goal
 
 pub returns-in-None : goal.returns-in-None

@@ -1,8 +1,8 @@
 use Rattle.std.proofs.Common.{ap, sym, ◌∙◌}
 use Rattle.std.specs.Option.{option_copied}
-use Rattle.ng_link.specs.BoundOf.{bound_of}
+use Rattle.ng_instances.specs.BoundOf.{bound_of}
 use Rattle.ng_link.specs.State.{templates_of}
-use Rattle.ng_link.proofs.Noted.{bound_none, bound_some, copied_map}
+use Rattle.ng_instances.proofs.Noted.{bound_none, bound_some, copied_map}
 use Rattle.ng_link.proofs.works.Works.bound.Goals as goal
 
 pub returns-in-None : goal.returns-in-None

@@ -15,18 +15,20 @@ use Rattle.ng_parts.specs.Numbering.{is_whole, HasOrder}
 use Rattle.ng_parts.specs.Seen.{parts_of}
 use Rattle.ng_copies.specs.WholeOf.{whole_of}
 use Rattle.ng_watch.specs.Table.{Table, watchers_of}
-use Rattle.ng_link.specs.BoundOf.{registered_of}
-use Rattle.ng_link.specs.Building.{parent_name, IsStood}
+use Rattle.ng_instances.specs.BoundOf.{registered_of}
+use Rattle.ng_build.specs.Building.{parent_name, IsStood}
 use Rattle.ng_link.specs.Calls.{page_on, linked_on}
-use Rattle.ng_link.specs.Instances.{keys_of}
-use Rattle.ng_link.specs.Linking.{steps}
-use Rattle.ng_link.specs.Placing.{IsLaid, IsPrepared, IsRegistered}
-use Rattle.ng_link.specs.Registering.{Ground, Registered, IsGrounded, site_rows}
-use Rattle.ng_link.specs.RowOf.{row_of}
-use Rattle.ng_link.specs.Rows.{Row, with_sites, spots_by}
-use Rattle.ng_link.specs.Shape.{keys_by, shape, unfilled, holes, anchors}
-use Rattle.ng_link.specs.State.{linked_of, state_of, templates_of}
-use Rattle.ng_link.specs.declared.works.Linked as code
+use Rattle.ng_instances.specs.Instances.{keys_of}
+use Rattle.ng_build.specs.Linking.{steps}
+use Rattle.ng_instances.specs.Laid.{IsLaid}
+use Rattle.ng_link.specs.Placing.{IsPrepared, IsRegistered}
+use Rattle.ng_instances.specs.Registering.{Ground, Registered, IsGrounded, site_rows}
+use Rattle.ng_instances.specs.RowOf.{row_of}
+use Rattle.ng_instances.specs.Rows.{Row, with_sites, spots_by}
+use Rattle.ng_build.specs.Shape.{keys_by, shape, unfilled, holes, anchors}
+use Rattle.ng_instances.specs.InstanceOf.{linked_of}
+use Rattle.ng_link.specs.State.{state_of, templates_of}
+use Rattle.ng_instances.specs.declared.instances.Linked as code
 use Rattle.ng_link.specs.declared.works.Works.{Works}
 use Rattle.ng_link.proofs.Undrawn.{outlets_undrawn}
 use Rattle.ng_link.proofs.Counted.{is_done, ended_done, parts_count}

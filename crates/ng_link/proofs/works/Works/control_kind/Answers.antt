@@ -1,9 +1,10 @@
 use Rattle.std.proofs.Common.{◌≡◌, Bor, Option, Some, None, ap, sym, ◌∙◌}
 use Rattle.std.specs.Prelude.{option_map}
-use Rattle.ng_link.specs.Controls.{ControlHere, kind_in}
+use Rattle.ng_build.specs.Controls.{ControlHere, kind_in}
 use Rattle.ng_link.specs.Events.{control_at, state_by}
-use Rattle.ng_link.specs.State.{control_of, state_of}
-use Rattle.ng_link.specs.declared.works.ControlHere as code
+use Rattle.ng_build.specs.HandledOf.{control_of}
+use Rattle.ng_link.specs.State.{state_of}
+use Rattle.ng_build.specs.declared.controlled.ControlHere as code
 use Rattle.ng_link.proofs.works.Works.control_kind.Goals as goal
 
 pub returns-in-None : goal.returns-in-None

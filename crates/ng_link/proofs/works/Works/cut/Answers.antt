@@ -1,5 +1,5 @@
 use Rattle.std.proofs.Common.{ℕ, ap, subst, ◌∙◌, slice_get, option_and_then}
-use Rattle.ng_link.specs.Instances.{Linked}
+use Rattle.ng_instances.specs.Instances.{Linked}
 use Rattle.ng_link.specs.State.{templates_of}
 use Rattle.ng_link.specs.Unlinking.{IsHeldAt, CutsOut}
 use Rattle.ng_link.specs.declared.works.Works.{Works}

@@ -4,10 +4,10 @@ use Rattle.ng_base.specs.declared.path.Key.{Key}
 use Rattle.ng_watch.specs.Keys.{key_cmp}
 use Rattle.ng_watch.specs.Seen.{watching_of}
 use Rattle.ng_watch.specs.Table.{Table, watchers_of, with_watch}
-use Rattle.ng_link.specs.Instances.{is_site}
+use Rattle.ng_instances.specs.Instances.{is_site}
 use Rattle.ng_link.specs.State.{Declared, declared_of, listening_of, state_of}
 use Rattle.ng_link.proofs.Same.{declared_stands}
-use Rattle.ng_link.proofs.Tables.{put-seen}
+use Rattle.ng_build.proofs.Tables.{put-seen}
 use Rattle.ng_link.proofs.works.Works.declare.Goals as goal
 
 pub returns-clause-state : goal.returns-clause-state

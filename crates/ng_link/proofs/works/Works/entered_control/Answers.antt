@@ -1,12 +1,13 @@
 use Rattle.std.proofs.Common.{◌≡◌, [], ap, sym, ◌∙◌}
 use Rattle.std.specs.Option.{option_copied}
-use Rattle.ng_link.specs.Controls.{Controlled, controlled_at}
+use Rattle.ng_build.specs.Controls.{Controlled, controlled_at}
 use Rattle.ng_link.specs.Events.{controlled_in, instance_of_node}
-use Rattle.ng_link.specs.Instances.{owner_of}
-use Rattle.ng_link.specs.State.{control_of, controlled_of, state_of, templates_of}
+use Rattle.ng_instances.specs.Instances.{owner_of}
+use Rattle.ng_build.specs.HandledOf.{control_of, controlled_of}
+use Rattle.ng_link.specs.State.{state_of, templates_of}
 use Rattle.ng_link.proofs.ControlStates.{entered-seen}
 use Rattle.ng_link.proofs.Owners.{controlled_or, node_controlled}
-use Rattle.ng_link.proofs.Tables.{seen_through}
+use Rattle.ng_build.proofs.Tables.{seen_through}
 use Rattle.ng_link.proofs.works.Works.entered_control.Goals as goal
 
 pub returns-in-None : goal.returns-in-None

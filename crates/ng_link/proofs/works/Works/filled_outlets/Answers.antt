@@ -1,10 +1,11 @@
 use Rattle.std.proofs.Common.{◌≡◌, List, ℕ, Some, None, ap, sym, subst, ◌∙◌, map}
 use Rattle.std.specs.Option.{option_copied}
 use Rattle.std.specs.Prelude.{Option, IfOk}
-use Rattle.ng_link.specs.Due.{due_of, all_due}
-use Rattle.ng_link.specs.Instances.{Linked, linked_for, instance_path}
-use Rattle.ng_link.specs.State.{linked_of, state_of, templates_of}
-use Rattle.ng_link.proofs.Places.{for_none, for_some}
+use Rattle.ng_instances.specs.Due.{due_of, all_due}
+use Rattle.ng_instances.specs.Instances.{Linked, linked_for, instance_path}
+use Rattle.ng_instances.specs.InstanceOf.{linked_of}
+use Rattle.ng_link.specs.State.{state_of, templates_of}
+use Rattle.ng_instances.proofs.Places.{for_none, for_some}
 use Rattle.ng_link.proofs.works.Works.filled_outlets.Goals as goal
 
 pub returns-in-None : goal.returns-in-None

@@ -1,9 +1,10 @@
 use Rattle.std.proofs.Common.{◌≡◌, [], ap, sym, ◌∙◌}
 use Rattle.std.specs.Option.{option_copied}
 use Rattle.ng_link.specs.Events.{handled_in, instance_of_node}
-use Rattle.ng_link.specs.Handlers.{Handled, is_entered}
-use Rattle.ng_link.specs.Instances.{owner_of}
-use Rattle.ng_link.specs.State.{handled_of, state_of, templates_of}
+use Rattle.ng_build.specs.Handlers.{Handled, is_entered}
+use Rattle.ng_instances.specs.Instances.{owner_of}
+use Rattle.ng_build.specs.HandledOf.{handled_of}
+use Rattle.ng_link.specs.State.{state_of, templates_of}
 use Rattle.ng_link.proofs.Owners.{handled_or, node_handled}
 use Rattle.ng_link.proofs.works.Works.handles.Goals as goal
 

@@ -2,11 +2,12 @@ use Rattle.std.proofs.Common.{◌≡◌, ℕ, List, [], true, false, Option, Som
 use Rattle.std.specs.Map.{lookup}
 use Rattle.std.specs.Prelude.{is_some, option_map}
 use Rattle.ng_drawing.specs.Instance.{Instance}
-use Rattle.ng_link.specs.Instances.{Linked, is_path}
-use Rattle.ng_link.specs.State.{linked_of, instance_at, instance, state_of, templates_of}
-use Rattle.ng_link.specs.declared.works.Linked as code
+use Rattle.ng_instances.specs.Instances.{Linked, is_path}
+use Rattle.ng_instances.specs.InstanceOf.{linked_of}
+use Rattle.ng_link.specs.State.{instance_at, instance, state_of, templates_of}
+use Rattle.ng_instances.specs.declared.instances.Linked as code
 use Rattle.ng_link.specs.declared.works.Works.{Works}
-use Rattle.ng_link.proofs.Places.{linked_seen}
+use Rattle.ng_instances.proofs.Places.{linked_seen}
 use Rattle.ng_link.proofs.works.Works.instance.Goals as goal
 
 -- what is read where there is something, and where there is nothing

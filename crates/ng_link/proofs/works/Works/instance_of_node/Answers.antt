@@ -5,7 +5,7 @@ use Rattle.std.specs.Map.{lookup}
 use Rattle.std.specs.Ordering.{nat_cmp}
 use Rattle.std.specs.Prelude.{option_and_then}
 use Rattle.std.specs.declared.ops.Bound.TheVariants.{Included, Unbounded}
-use Rattle.ng_link.specs.Instances.{Owners, is_path, owner_of}
+use Rattle.ng_instances.specs.Instances.{Owners, is_path, owner_of}
 use Rattle.ng_link.proofs.Owners.{last_or, last-end, owner_last, is_upto}
 use Rattle.ng_link.proofs.works.Works.instance_of_node.Goals as goal
 

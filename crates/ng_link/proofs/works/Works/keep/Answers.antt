@@ -7,8 +7,9 @@ use Rattle.ng_value.specs.Snaps.{snap_of}
 use Rattle.ng_watch.specs.Seen.{Watcher}
 use Rattle.ng_watch.specs.Table.{Table, watchers_of, with_kept}
 use Rattle.ng_link.specs.Calls.{keeping_at}
-use Rattle.ng_link.specs.Controls.{Controls}
-use Rattle.ng_link.specs.State.{state_of, looks_of, spot_in}
+use Rattle.ng_build.specs.Controls.{Controls}
+use Rattle.ng_instances.specs.InstanceOf.{spot_in}
+use Rattle.ng_link.specs.State.{state_of, looks_of}
 use Rattle.ng_link.specs.Standing.{Standing}
 use Rattle.ng_link.specs.declared.works.Works.{Works}
 use Rattle.ng_link.proofs.Fired.{kept_stands, written_next}

@@ -5,9 +5,9 @@ use Rattle.std.specs.Prelude.{option_map}
 use Rattle.ng_drawing.specs.Template.{Site, OutletScope, Fragment}
 use Rattle.ng_parts.specs.FragmentOf.{fragment_of}
 use Rattle.ng_copies.specs.WholeOf.{whole_of}
-use Rattle.ng_link.specs.Linking.{is_binds, steps}
-use Rattle.ng_link.specs.StepOf.{step_of}
-use Rattle.ng_link.specs.declared.ordering.LinkStep.{LinkStep}
+use Rattle.ng_build.specs.Linking.{is_binds, steps}
+use Rattle.ng_build.specs.StepOf.{step_of}
+use Rattle.ng_build.specs.declared.ordering.LinkStep.{LinkStep}
 use Rattle.ng_link.proofs.works.Works.link_order.Goals as goal
 
 -- the scope of an outlet by its number

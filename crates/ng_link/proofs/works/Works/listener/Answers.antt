@@ -3,7 +3,7 @@ use Rattle.std.specs.Map.{lookup}
 use Rattle.std.proofs.lemmas.Map.Made.{lookup-map_values}
 use Rattle.ng_watch.specs.Keys.{is_key}
 use Rattle.ng_link.specs.State.{listening_of}
-use Rattle.ng_link.proofs.Tables.{seen_through}
+use Rattle.ng_build.proofs.Tables.{seen_through}
 use Rattle.ng_link.proofs.works.Works.listener.Goals as goal
 
 pub returns : goal.returns

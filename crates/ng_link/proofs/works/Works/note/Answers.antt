@@ -1,5 +1,5 @@
 use Rattle.std.proofs.Common.{ap, ◌∙◌}
-use Rattle.ng_link.specs.State.{spot_in}
+use Rattle.ng_instances.specs.InstanceOf.{spot_in}
 use Rattle.ng_link.proofs.works.Works.note.Goals as goal
 
 pub returns-in_ok-take_in-in-Outlet-clause-spots : goal.returns-in_ok-take_in-in-Outlet-clause-spots

@@ -11,18 +11,22 @@ use Rattle.ng_drawing.specs.Nodes.{nodes}
 use Rattle.ng_drawing.specs.Template.{Fragment}
 use Rattle.ng_drawing.specs.declared.origin.Origin.{Origin}
 use Rattle.ng_compose.specs.Kept.{fragment_for}
-use Rattle.ng_link.specs.BoundOf.{inner_of, registered_of}
-use Rattle.ng_link.specs.Building.{IsStood}
-use Rattle.ng_link.specs.Calls.{Place, any_on, linked_on, taken_in, placed_under}
-use Rattle.ng_link.specs.Controls.{controls_begun}
-use Rattle.ng_link.specs.Instances.{Linked, scope_number, with_inner}
-use Rattle.ng_link.specs.PlaceOf.{place_of, IsFree}
+use Rattle.ng_instances.specs.BoundOf.{inner_of, registered_of}
+use Rattle.ng_build.specs.Building.{IsStood}
+use Rattle.ng_instances.specs.Changing.{Place, any_on}
+use Rattle.ng_link.specs.Calls.{linked_on, taken_in, placed_under}
+use Rattle.ng_build.specs.Controls.{controls_begun}
+use Rattle.ng_instances.specs.Instances.{Linked, scope_number, with_inner}
+use Rattle.ng_instances.specs.PlaceOf.{place_of}
+use Rattle.ng_link.specs.FreePlace.{IsFree}
 use Rattle.ng_link.specs.Placing.{IsRegistered}
-use Rattle.ng_link.specs.Registering.{Registered, site_rows}
+use Rattle.ng_instances.specs.Registering.{Registered, site_rows}
 use Rattle.ng_link.specs.Standing.{IsStanding}
-use Rattle.ng_link.specs.State.{looks_in, controlled_of, page_of, linked_of, instances_of, spot_in, state_of, templates_of}
-use Rattle.ng_link.specs.declared.works.Inner as code_inner
-use Rattle.ng_link.specs.declared.works.Linked as code
+use Rattle.ng_build.specs.HandledOf.{controlled_of}
+use Rattle.ng_instances.specs.InstanceOf.{page_of, linked_of, instances_of, spot_in}
+use Rattle.ng_link.specs.State.{looks_in, state_of, templates_of}
+use Rattle.ng_instances.specs.declared.instances.Inner as code_inner
+use Rattle.ng_instances.specs.declared.instances.Linked as code
 use Rattle.ng_link.specs.declared.works.Works.{Works}
 use Rattle.ng_link.proofs.Added.{new_stands}
 use Rattle.ng_link.proofs.Counted.{ended_done, parts_count, room_for_nodes}
@@ -33,7 +37,7 @@ use Rattle.ng_link.proofs.Lives.{spot_lives}
 use Rattle.ng_link.proofs.Marks.{ground_scope, grounded, lives_are}
 use Rattle.ng_link.proofs.NewInstance.{after, many_holes, taken_up, stood_next, spots_noted, placed_state}
 use Rattle.ng_link.proofs.Serials.{spots_are}
-use Rattle.ng_link.specs.Linking.{steps}
+use Rattle.ng_build.specs.Linking.{steps}
 use Rattle.ng_link.proofs.works.Works.place.Goals as goal
 
 pub build-requires-clause-there : goal.build-requires-clause-there

@@ -1,7 +1,8 @@
 use Rattle.std.proofs.Common.{ap, sym, ◌∙◌}
 use Rattle.std.specs.Option.{option_copied}
-use Rattle.ng_link.specs.Instances.{owner_of, scope_number}
-use Rattle.ng_link.specs.State.{page_of, templates_of}
+use Rattle.ng_instances.specs.Instances.{owner_of, scope_number}
+use Rattle.ng_instances.specs.InstanceOf.{page_of}
+use Rattle.ng_link.specs.State.{templates_of}
 use Rattle.ng_link.proofs.Owners.{element_none, element_some}
 use Rattle.ng_link.proofs.works.Works.scope_of.Goals as goal
 

@@ -2,8 +2,9 @@ use Rattle.std.proofs.Common.{◌≡◌, ℕ, ap, sym, subst, ◌∙◌}
 use Rattle.ng_control.specs.State.{checked_in}
 use Rattle.ng_dom.specs.Document.{next_name}
 use Rattle.ng_link.specs.Calls.{with_control_at}
-use Rattle.ng_link.specs.Controls.{Controls}
-use Rattle.ng_link.specs.State.{state_of, looks_of, spot_in}
+use Rattle.ng_build.specs.Controls.{Controls}
+use Rattle.ng_instances.specs.InstanceOf.{spot_in}
+use Rattle.ng_link.specs.State.{state_of, looks_of}
 use Rattle.ng_link.specs.Standing.{Standing}
 use Rattle.ng_link.specs.declared.works.Works.{Works}
 use Rattle.ng_link.proofs.Fired.{control_stands, written_next}

@@ -2,10 +2,10 @@ use Rattle.std.proofs.Common.{◌≡◌, false, ap, sym, ◌∙◌}
 use Rattle.std.specs.Map.{remove_entry}
 use Rattle.ng_watch.specs.Keys.{is_key}
 use Rattle.ng_watch.specs.Table.{Table, without_watch}
-use Rattle.ng_link.specs.Instances.{is_site}
+use Rattle.ng_instances.specs.Instances.{is_site}
 use Rattle.ng_link.specs.State.{Declared, declared_of, listening_of, state_of}
 use Rattle.ng_link.proofs.Same.{undeclared_stands}
-use Rattle.ng_link.proofs.Tables.{removed-seen}
+use Rattle.ng_build.proofs.Tables.{removed-seen}
 use Rattle.ng_link.proofs.works.Works.undeclare.Goals as goal
 
 pub returns-clause-state : goal.returns-clause-state

@@ -1,6 +1,6 @@
 use Rattle.std.proofs.Common.{◌≡◌, ◌∙◌, ap}
 use Rattle.serde_json.specs.View.{view}
-use Rattle.ng_page.specs.Commands.{Asked, broadcasts, is_idle, asked_run}
+use Rattle.ng_commands.specs.Commands.{Asked, broadcasts, is_idle, asked_run}
 use Rattle.ng_link.specs.State as link
 use Rattle.ng_page.specs.Commanded.{refusal}
 use Rattle.ng_page.specs.PageOf.{state_of}

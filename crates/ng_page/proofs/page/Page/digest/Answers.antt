@@ -1,5 +1,5 @@
 use Rattle.std.proofs.Common.{Ok}
-use Rattle.ng_page.specs.Commands.{Asked, digests, is_idle}
+use Rattle.ng_commands.specs.Commands.{Asked, digests, is_idle}
 use Rattle.ng_link.specs.State as link
 use Rattle.ng_page.specs.Commanded.{refusal}
 use Rattle.ng_page.specs.PageOf.{state_of}

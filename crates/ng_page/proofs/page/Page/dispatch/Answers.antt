@@ -1,6 +1,6 @@
 use Rattle.std.proofs.Common.{◌∙◌, Err, sym, subst}
 use Rattle.serde_json.specs.View.{view}
-use Rattle.ng_page.specs.Dispatch.{Happening}
+use Rattle.ng_commands.specs.Handling.{Happening}
 use Rattle.ng_page.specs.Dispatched.{Dispatched}
 use Rattle.ng_page.proofs.Answering.{dispatched_spent, dispatched_none, dispatched_some, dispatched_wanting}
 use Rattle.ng_page.proofs.page.Page.dispatch.Goals as goal

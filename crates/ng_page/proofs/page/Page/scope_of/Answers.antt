@@ -1,4 +1,4 @@
-use Rattle.ng_page.proofs.Turns.{scope_there}
+use Rattle.ng_commands.proofs.Handled.{scope_there}
 use Rattle.ng_page.proofs.page.Page.scope_of.Goals as goal
 
 pub returns-clause-there : goal.returns-clause-there

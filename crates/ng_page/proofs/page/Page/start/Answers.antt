@@ -1,9 +1,9 @@
 use Rattle.std.proofs.Common.{◌≡◌}
 use Rattle.ng_drawing.specs.Drawing.{shown_as}
 use Rattle.ng_link.specs.State.{state_of, shown, rendering}
-use Rattle.ng_page.specs.Settled.{IsSettled}
+use Rattle.ng_commands.specs.Settled.{IsSettled}
 use Rattle.ng_page.proofs.Rendering.{settled_renders, when_done}
-use Rattle.ng_page.proofs.Wholes.{works_display}
+use Rattle.ng_commands.proofs.Wholes.{works_display}
 use Rattle.ng_page.proofs.page.Page.start.Goals as goal
 
 pub returns-clause-shown : goal.returns-clause-shown

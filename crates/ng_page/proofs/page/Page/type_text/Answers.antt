@@ -1,14 +1,14 @@
 use Rattle.std.proofs.Common.{◌≡◌, ◌∙◌, ℕ, ap, subst, sym}
 use Rattle.std.specs.Prelude.{◌||◌}
 use Rattle.ng_control.specs.Typed.{TakesText}
-use Rattle.ng_link.specs.Controls.{IsOfKind}
+use Rattle.ng_build.specs.Controls.{IsOfKind}
 use Rattle.ng_link.specs.Events.{control_at, state_by}
 use Rattle.ng_link.specs.State as link
-use Rattle.ng_page.specs.Commands.{Asked, types, is_dead, is_idle, asked_run}
+use Rattle.ng_commands.specs.Commands.{Asked, types, is_dead, is_idle, asked_run}
 use Rattle.ng_page.specs.Commanded.{refusal}
 use Rattle.ng_page.specs.PageOf.{state_of}
 use Rattle.ng_page.proofs.Commanding.{commanded_refused, commanded_ended, not_refused, not_spent, where_ran}
-use Rattle.ng_page.proofs.Inputs.{begun_kind}
+use Rattle.ng_commands.proofs.Inputs.{begun_kind}
 use Rattle.ng_page.proofs.page.Page.type_text.Goals as goal
 
 pub refused_on-requires-clause-scope : goal.refused_on-requires-clause-scope

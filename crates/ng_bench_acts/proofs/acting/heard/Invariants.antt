@@ -1,0 +1,6 @@
+use Rattle.std.proofs.Common.{◌<◌, length}
+use Rattle.ng_core.specs.Frames.{IsSound}
+use Rattle.ng_bench_acts.proofs.acting.heard.Given as goal
+
+abbrev pub invariant-loop : goal.invariant-loop
+invariant-loop l = record { sound : IsSound l.core; root : 0 < length l.core.scopes }

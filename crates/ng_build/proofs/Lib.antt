@@ -1,0 +1,10 @@
+pub mod Unset
+pub mod Paths
+pub mod Shapes
+pub mod Keys
+pub mod Tables
+pub mod ControlSets
+pub mod Built
+pub mod Loops
+pub mod Entered
+pub mod Firsts

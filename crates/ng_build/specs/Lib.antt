@@ -1,0 +1,9 @@
+pub mod Seen
+pub mod Sources
+pub mod Shape
+pub mod Building
+pub mod Handlers
+pub mod Controls
+pub mod Linking
+pub mod StepOf
+pub mod HandledOf

@@ -1,0 +1,15 @@
+pub mod ScopesStay
+pub mod EventsStay
+pub mod ProgramsStay
+pub mod Sites
+pub mod Watched
+pub mod FitsStay
+pub mod StepsStay
+pub mod NodeScopes
+pub mod Taken
+pub mod Wholes
+pub mod Ran
+pub mod SitesRest
+pub mod Programs
+pub mod Handled
+pub mod Inputs

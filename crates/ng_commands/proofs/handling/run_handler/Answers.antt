@@ -1,0 +1,19 @@
+use Rattle.std.proofs.Common.{◌-◌, length, subst, sym}
+use Rattle.ng_core.specs.Frames as cores
+use Rattle.ng_core.specs.Frames.{Acts}
+use Rattle.ng_act.specs.Running.{act_run, same}
+use Rattle.ng_core.specs.State.{with_locals}
+use Rattle.ng_parse.specs.ProgramOf.{program}
+use Rattle.ng_members.specs.Leaves.{LocalsStand}
+use Rattle.ng_commands.proofs.Programs.{handler_acts}
+use Rattle.ng_commands.proofs.handling.run_handler.Goals as goal
+
+pub act-requires-clause-locals : goal.act-requires-clause-locals
+act-requires-clause-locals c = subst (LocalsStand (length c.args.core.now.store)) (sym c.in_ok-locals.ensures) (c.requires.event, tt)
+
+pub returns-clause-run : goal.returns-clause-run
+returns-clause-run c =
+    let s = cores.state_of c.args.core.now in
+    let n = cores.state_of c.act.new.core in
+    handler_acts c.act.result n s c.act.new.locals c.args.core.now.depth c.args.scope.0 c.args.o.0 (program c.args.p.now) c.requires.idle c.act.ensures.outer
+    (subst (λ ls. Acts same c.act.result (with_locals c.act.new.locals n) (act_run (64 - c.args.core.now.depth) c.args.scope.0 ls (program c.args.p.now) s)) c.in_ok-locals.ensures c.act.ensures.run)

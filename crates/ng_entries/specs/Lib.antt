@@ -1,0 +1,5 @@
+pub mod Free
+pub mod Refused
+pub mod Entries
+pub mod DirectiveEntries
+pub mod EntryOf

@@ -1,7 +1,0 @@
-use Rattle.std.proofs.Common.{◌≡◌, ◌++◌, drop, map}
-use Rattle.ng_fire.specs.Repeats.{keys_of}
-use Rattle.ng_link.specs.State.{body_of}
-use Rattle.ng_fire.proofs.rows.keys_of.Given as goal
-
-abbrev pub invariant-loop-body : goal.invariant-loop-body
-invariant-loop-body l = l.keys ++ keys_of (map body_of (drop l.body-index l.bodies)) ≡ keys_of (map body_of l.bodies)

@@ -1,0 +1,16 @@
+use Rattle.std.proofs.Common.{ap, sym, ◌∙◌, ℕ, map}
+use Rattle.std.specs.Prelude.{option_map, slice_index_or, unwrap_or}
+use Rattle.ng_base.specs.declared.name.ScopeId.{ScopeId}
+use Rattle.ng_build.proofs.Loops.{index_seen}
+use Rattle.ng_instances.proofs.outlets.scope_among.Goals as goal
+
+pub returns-in-None : goal.returns-in-None
+returns-in-None c =
+    let d : ℕ = slice_index_or (map (λ (s : ScopeId). s.0) c.args.scopes.now) 0 0 in
+    c.first_scope.ensures
+    ∙ (ap (λ r. unwrap_or (option_map (λ s. s.now.0) r) d) (sym c.in-None.is) ∙ index_seen (λ (s : ScopeId). s.0) c.args.scopes.now c.args.n d c.get.result c.get.ensures.lookup.0 c.get.ensures.lookup.1)
+
+pub returns-in-Some : goal.returns-in-Some
+returns-in-Some c =
+    let d : ℕ = slice_index_or (map (λ (s : ScopeId). s.0) c.args.scopes.now) 0 0 in
+    ap (λ r. unwrap_or (option_map (λ s. s.now.0) r) d) (sym c.in-Some.is) ∙ index_seen (λ (s : ScopeId). s.0) c.args.scopes.now c.args.n d c.get.result c.get.ensures.lookup.0 c.get.ensures.lookup.1

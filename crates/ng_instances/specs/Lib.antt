@@ -1,0 +1,12 @@
+pub mod Rows
+pub mod Instances
+pub mod InstanceOf
+pub mod Changing
+pub mod Laid
+pub mod PlaceOf
+pub mod Due
+pub mod RowOf
+pub mod Bindings
+pub mod BoundOf
+pub mod Registering
+pub mod MarksOf

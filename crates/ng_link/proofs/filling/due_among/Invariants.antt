@@ -1,7 +1,0 @@
-use Rattle.std.proofs.Common.{◌≡◌, ◌++◌, drop, map}
-use Rattle.ng_link.specs.Due.{due_of, due_from}
-use Rattle.ng_link.specs.State.{outlet_of}
-use Rattle.ng_link.proofs.filling.due_among.Given as goal
-
-abbrev pub invariant-loop-i : goal.invariant-loop-i
-invariant-loop-i l = map due_of l.all.items ++ due_from l.serial l.i (map outlet_of (drop l.i l.outlets)) ≡ due_from l.serial 0 (map outlet_of l.outlets)

@@ -1,7 +1,0 @@
-use Rattle.std.proofs.Common.{◌≡◌, ◌++◌, drop, map}
-use Rattle.ng_link.specs.Linking.{registers}
-use Rattle.ng_link.specs.StepOf.{step_of}
-use Rattle.ng_link.proofs.ordering.add_own.Given as goal
-
-abbrev pub invariant-loop : goal.invariant-loop
-invariant-loop l = map step_of l.order.items ++ map (λ n. registers) (drop l.index l.own) ≡ map step_of l.initial.order.items ++ map (λ n. registers) l.own

@@ -1,8 +1,0 @@
-use Rattle.std.proofs.Common.{◌≡◌, ◌++◌, drop, map}
-use Rattle.ng_parse.specs.ProgramOf.{program}
-use Rattle.ng_link.specs.Linking.{starts_at}
-use Rattle.ng_link.specs.StepOf.{step_of}
-use Rattle.ng_link.proofs.ordering.add_starts_at.Given as goal
-
-abbrev pub invariant-loop-p : goal.invariant-loop-p
-invariant-loop-p l = map step_of l.order.items ++ map (starts_at l.outlet) (map program (drop l.p-index l.programs)) ≡ map step_of l.initial.order.items ++ map (starts_at l.outlet) (map program l.programs)

@@ -1,9 +1,0 @@
-use Rattle.std.proofs.Common.{arith}
-use Rattle.ng_parts.specs.Seen.{part_of}
-use Rattle.ng_link.proofs.Loops.{part_within}
-use Rattle.ng_link.proofs.outlets.+anchored.Goals as goal
-
-pub add_anchors-add_anchor-requires : goal.add_anchors-add_anchor-requires
-add_anchors-add_anchor-requires t c =
-    let h = part_within part_of c.args.parts.now c.loop-part.part-index c.part-item.result c.loop-part-test.true c.part-item.is in
-    omega (arith, h, c.decreases)

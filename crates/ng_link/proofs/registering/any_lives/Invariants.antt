@@ -1,8 +1,0 @@
-use Rattle.std.proofs.Common.{◌≡◌, ℕ, List}
-use Rattle.std.specs.Map.{keys_of as map_keys}
-use Rattle.ng_link.specs.Calls.{any_on}
-use Rattle.ng_link.specs.State.{page_of}
-use Rattle.ng_link.proofs.registering.any_lives.Given as goal
-
-abbrev pub invariant-loop-serial : goal.invariant-loop-serial
-invariant-loop-serial l = (path : List ℕ) → any_on l.core.scopes (page_of path l.one) l.serial-iterator ≡ any_on l.core.scopes (page_of path l.one) (map_keys l.one.spots.entries)

@@ -1,7 +1,0 @@
-use Rattle.ng_page.proofs.Wholes.{probing_page}
-use Rattle.ng_page.proofs.running.probe.Goals as goal
-
-pub returns-clause-page : goal.returns-clause-page
-returns-clause-page c =
-    let w = c.args.works.now in
-    probing_page w (record w.core { probes = c.push.new.self }) c.requires.page

@@ -1,0 +1,4 @@
+pub mod RowAt
+pub mod KeptItems
+pub mod Told
+pub mod FirstItems

@@ -1,0 +1,5 @@
+pub mod Chosen
+pub mod Tracking
+pub mod TrackingOf
+pub mod RepeatRows
+pub mod RepeatsOf

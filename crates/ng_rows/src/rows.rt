@@ -1,0 +1,299 @@
+//! The rows that the entries of a repeat call for, and what their scopes are told (API: ngRepeat).
+ghost use Rattle.std.specs.Prelude.{◌≡◌, ◌<◌, false, length, map, IfOk, OnOk};
+ghost use Rattle.ng_core.specs.Frames as cores;
+ghost use Rattle.ng_core.specs.Frames.{IsSound};
+ghost use Rattle.ng_base.specs.Objects.{StandsAmong};
+ghost use Rattle.ng_base.specs.Word.{IsWord};
+ghost use Rattle.ng_blocks.specs.Plans.{planned, has_double as has_double_of};
+ghost use Rattle.ng_drawing.specs.RolesOf.{role_of};
+ghost use Rattle.ng_rows.specs.Chosen.{told_on};
+ghost use Rattle.ng_rows.specs.RepeatRows.{key_of as key_of_role, keys_of as keys_of_bodies, path_from as path_from_bodies, rows_from as rows_from_all, role_for as role_for_row, kept_rows as kept_rows_of, place_names as names_of_place, row_names, as_fault};
+ghost use Rattle.ng_rows.specs.RepeatsOf.{row_of, rows_of, AreNames};
+ghost use Rattle.ng_rows.specs.Tracking.{key_local, key_value as value_of_key};
+ghost use Rattle.ng_rows.specs.TrackingOf.{item_of, items_of};
+ghost use Rattle.ng_language.specs.Objects.{set_name};
+ghost use Rattle.ng_instances.specs.InstanceOf.{body_of};
+ghost use Rattle.ng_parts.specs.RepeatedOf.{repeated_of};
+ghost use Rattle.ng_write.specs.Storing.{with_names};
+
+use crate::tracking::{Item, index_name, key_value, place_of};
+use indexmap::IndexSet;
+use ng_base::fault::{Fault, Memory};
+use ng_base::lists::Sources;
+use ng_base::name::{Oid, ScopeId};
+use ng_base::path::Path;
+use ng_base::txt::Txt;
+use ng_base::value::Value;
+use ng_blocks::{Plan, PlanFault, TrackKey, TrackKeys, plan};
+use ng_core::core_state::Core;
+use ng_drawing::roles::Role;
+use ng_instances::instances::Body;
+use ng_parts::Repeated;
+use ng_store::store::Store;
+use std::alloc::{AllocError, Global};
+
+/// The names by which a row's scope knows the place of its entry.
+#[derive(Drop)]
+pub struct PlaceNames {
+    index: Txt,
+    first: Txt,
+    middle: Txt,
+    last: Txt,
+    even: Txt,
+    odd: Txt,
+}
+
+/// A row that an entry calls for: the item, its track key, and the path of the row that it comes from, where one stands.
+#[derive(Drop)]
+pub struct Row {
+    pub item: Item,
+    key: TrackKey,
+    pub from: Option<Path>,
+}
+
+/// What the scopes of all rows of a repeat are told by: the names, and how many entries there are.
+#[derive(Drop)]
+pub struct Ground<'a> {
+    repeated: &'a Repeated,
+    names: PlaceNames,
+    count: u32,
+}
+
+/// A word of ASCII characters as a text.
+fn text_of(alloc: Global, word: &str) -> Result<Txt, AllocError>
+    ensures { IsWord word.now → IfOk result (λ t. t ≡ word.now) }
+{
+    let mut text = Txt::new(alloc);
+    text.push_str(word)?;
+    Ok(text)
+}
+
+fn place_names(alloc: Global) -> Result<PlaceNames, AllocError>
+    ensures { IfOk result AreNames }
+{
+    Ok(PlaceNames {
+        index: index_name(alloc)?,
+        first: text_of(alloc, "$first")?,
+        middle: text_of(alloc, "$middle")?,
+        last: text_of(alloc, "$last")?,
+        even: text_of(alloc, "$even")?,
+        odd: text_of(alloc, "$odd")?,
+    })
+}
+
+/// What the rows of so many entries are told by.
+pub fn ground_for(alloc: Global, repeated: &Repeated, count: usize) -> Result<Ground<'_>, Memory>
+    ensures repeated { IfOk result (λ g. g.repeated.now ≡ repeated.now) }
+    ensures names { IfOk result (λ g. AreNames g.names) }
+    ensures count { IfOk result (λ g. g.count ≡ count) }
+{
+    Ok(Ground {
+        repeated,
+        names: place_names(alloc)?,
+        count: place_of(count)?,
+    })
+}
+
+/// A name of an object is set.
+pub fn tell(store: &mut Store, object: Oid, name: &Txt, value: Value) -> Result<(), Memory>
+    requires object { object.0 < length store.old }
+    requires value { StandsAmong (length store.old) value }
+    ensures told { OnOk result (store.new ≡ set_name store.old object.0 name.now value) }
+    ensures count { length store.new ≡ length store.old }
+{
+    store.set(object, name, value)
+}
+
+/// The names of an entry's place are set.
+fn tell_place(
+    store: &mut Store,
+    object: Oid,
+    names: &PlaceNames,
+    count: u32,
+    i: u32,
+) -> Result<(), Memory>
+    requires names { AreNames names.now }
+    requires object { object.0 < length store.old }
+    requires place { i < count }
+    ensures told { OnOk result (store.new ≡ with_names store.old object.0 (names_of_place count i)) }
+    ensures count { length store.new ≡ length store.old }
+{
+    let first = i == 0;
+    let last = count - i == 1;
+    let even = i % 2 == 0;
+    tell(store, object, &names.index, Value::Int(i as i64))?;
+    tell(store, object, &names.first, Value::Bool(first))?;
+    tell(store, object, &names.middle, Value::Bool(!(first || last)))?;
+    tell(store, object, &names.last, Value::Bool(last))?;
+    tell(store, object, &names.even, Value::Bool(even))?;
+    tell(store, object, &names.odd, Value::Bool(!even))
+}
+
+/// The name of an entry's key is set, where the repeat has one.
+fn tell_key(
+    store: &mut Store,
+    object: Oid,
+    key: &Option<Txt>,
+    i: u32,
+    name: &Option<Txt>,
+) -> Result<(), Memory>
+    requires object { object.0 < length store.old }
+    ensures told { OnOk result (store.new ≡ with_names store.old object.0 (key_local key.now (value_of_key i name.now))) }
+    ensures count { length store.new ≡ length store.old }
+{
+    match key {
+        None => Ok(()),
+        Some(key) => tell(store, object, key, key_value(i, name)?),
+    }
+}
+
+/// The names of a row's scope are set: its item, its key, and its place.
+pub fn tell_row(
+    core: &mut Core,
+    scope: ScopeId,
+    ground: &Ground<'_>,
+    i: u32,
+    item: &Item,
+) -> Result<(), Memory>
+    requires sound { IsSound core.old }
+    requires scope { scope.0 < length core.old.scopes }
+    requires names { AreNames ground.now.names }
+    requires place { i < ground.now.count }
+    requires item { StandsAmong (length core.old.store) item.now.value }
+    ensures told { OnOk result (cores.state_of core.new ≡ told_on scope.0 (row_names (repeated_of ground.now.repeated.now) ground.now.count i (item_of item.now)) (cores.state_of core.old)) }
+    ensures sound { OnOk result (IsSound core.new) }
+    ensures scopes { core.new.scopes ≡ core.old.scopes }
+    ensures depth { core.new.depth ≡ core.old.depth }
+    ensures store { length core.new.store ≡ length core.old.store }
+{
+    let object = core.scopes.object(scope);
+    let value = item.value.copied()?;
+    let repeated = ground.repeated;
+    tell(&mut core.store, object, &repeated.name, value)?;
+    tell_key(&mut core.store, object, &repeated.key, i, &item.entry.name)?;
+    tell_place(&mut core.store, object, &ground.names, ground.count, i)
+}
+
+/// The key of a row that stands.
+fn key_of(role: &Role) -> Result<TrackKey, AllocError>
+    ensures { IfOk result (λ k. k ≡ key_of_role (role_of role.now)) }
+{
+    match role {
+        Role::Body | Role::Named(_) => Ok(TrackKey::Place(0)),
+        Role::Row(key, _) => key.copied(),
+    }
+}
+
+/// The keys of the rows that stand.
+fn keys_of(alloc: Global, bodies: &[Body]) -> Result<TrackKeys, AllocError>
+    ensures { IfOk result (λ ks. ks ≡ keys_of_bodies (map body_of bodies.now)) }
+{
+    let mut keys = TrackKeys::new(alloc);
+    for body in bodies {
+        keys.push(key_of(&body.role)?)?;
+    }
+    Ok(keys)
+}
+
+/// The path of the row at a place.
+#[tactic(auto, using(crate::proofs::RowAt::row_at, crate::proofs::RowAt::no_row_at))]
+fn path_from(bodies: &[Body], from: Option<u32>) -> Result<Option<Path>, AllocError>
+    ensures { IfOk result (λ p. p ≡ path_from_bodies (map body_of bodies.now) from) }
+{
+    match from {
+        None => Ok(None),
+        Some(i) => match bodies.get(i as usize) {
+            None => Ok(None),
+            Some(body) => Ok(Some(body.path.copied()?)),
+        },
+    }
+}
+
+/// The rows that are called for.
+pub fn rows_from(
+    alloc: Global,
+    bodies: &[Body],
+    items: Vec<Item>,
+    keys: &TrackKeys,
+    sources: &Sources,
+) -> Result<Vec<Row>, AllocError>
+    ensures { IfOk result (λ v. rows_of v.items ≡ rows_from_all (map body_of bodies.now) (items_of items.items) keys.now sources.now) }
+{
+    let mut rows = Vec::new(alloc);
+    let mut keys = keys.as_slice();
+    let mut sources = sources.as_slice();
+    for item in items {
+        let Some((key, other_keys)) = keys.split_first() else {
+            return Ok(rows);
+        };
+        let Some((source, other_sources)) = sources.split_first() else {
+            return Ok(rows);
+        };
+        rows.push(Row {
+            item,
+            key: key.copied()?,
+            from: path_from(bodies, *source)?,
+        })?;
+        keys = other_keys;
+        sources = other_sources;
+    }
+    Ok(rows)
+}
+
+/// The role of a row.
+pub fn role_for(alloc: Global, row: &Row) -> Result<Role, Memory>
+    ensures { IfOk result (λ r. role_of r ≡ role_for_row (row_of row.now)) }
+{
+    let entry = row.item.entry.copied(alloc)?;
+    Ok(Role::Row(row.key.copied()?, entry))
+}
+
+/// The rows that are kept, in the order of their entries.
+pub fn kept_rows(alloc: Global, rows: &[Row]) -> Result<Vec<Body>, Memory>
+    ensures { IfOk result (λ v. map body_of v.items ≡ kept_rows_of (rows_of rows.now)) }
+{
+    let mut kept = Vec::new(alloc);
+    for row in rows {
+        if let Some(path) = &row.from {
+            kept.push(Body {
+                path: path.copied()?,
+                role: role_for(alloc, row)?,
+            })?;
+        }
+    }
+    Ok(kept)
+}
+
+/// Whether two of these keys are the same.
+fn has_double(alloc: Global, keys: &TrackKeys) -> Result<bool, Memory>
+    ensures { IfOk result (λ b. b ≡ has_double_of keys.now) }
+{
+    let mut set = IndexSet::new(alloc);
+    for key in keys.as_slice() {
+        if !set.insert(key.copied()?)? {
+            return Ok(true);
+        }
+    }
+    Ok(false)
+}
+
+/// Which rows go, and which row each entry comes from, unless two entries have one key. No two rows that stand have one.
+pub fn plan_rows(
+    alloc: Global,
+    bodies: &[Body],
+    keys: &TrackKeys,
+) -> Result<Result<Plan, Fault>, Memory>
+    ensures plan { IfOk result (λ p. p ≡ as_fault (planned (keys_of_bodies (map body_of bodies.now)) keys.now)) }
+    ensures old { OnOk result (has_double_of (keys_of_bodies (map body_of bodies.now)) ≡ false) }
+{
+    let old = keys_of(alloc, bodies)?;
+    let _few = place_of(bodies.len())?;
+    if has_double(alloc, &old)? {
+        return Err(Memory::Worn);
+    }
+    match plan(alloc, &old, keys) {
+        Err(PlanFault::Memory(memory)) => Err(memory),
+        Err(PlanFault::Dupes) => Ok(Err(Fault::Dupes)),
+        Ok(plan) => Ok(Ok(plan)),
+    }
+}

@@ -1,0 +1,195 @@
+//! The entries of a repeat's collection as values, and their track keys (API: ngRepeat, "Tracking and Duplicates").
+ghost use Rattle.std.specs.Prelude.{ℕ, ◌≡◌, ◌<◌, ◌≤◌, [], length, Some, IfOk};
+ghost use Rattle.ng_core.specs.Frames.{state_of, IsSound, Acts};
+ghost use Rattle.ng_base.specs.Faults.{is_memory};
+ghost use Rattle.ng_base.specs.Meets.{Meets};
+ghost use Rattle.ng_base.specs.Objects.{StandsAmong};
+ghost use Rattle.ng_drawing.specs.RolesOf.{entry_of, entries_of};
+ghost use Rattle.ng_rows.specs.RepeatRows.{item_made, items_made};
+ghost use Rattle.ng_rows.specs.Tracking.{index_name as index_name_of, key_value as key_value_of, track_locals as track_locals_of, plain_key as plain_key_of, track_key as track_key_of, track_keys as track_keys_of};
+ghost use Rattle.ng_rows.specs.TrackingOf.{item_of, items_of, EntriesStand, ItemsStand};
+ghost use Rattle.ng_language.specs.Views.{ViewStands};
+ghost use Rattle.ng_parts.specs.RepeatedOf.{track_of, repeated_of};
+ghost use Rattle.ng_value.specs.Snaps.{snap_of};
+ghost use Rattle.ng_members.specs.Leaves.{LocalsStand};
+
+use ng_base::fault::{Fault, Memory};
+use ng_base::locals::Locals;
+use ng_base::name::Oid;
+use ng_base::txt::Txt;
+use ng_base::value::Value;
+use ng_base::view::View;
+use ng_blocks::{TrackKey, TrackKeys};
+use ng_core::binding::value_in;
+use ng_core::core_state::Core;
+use ng_core::keeping::keep;
+use ng_drawing::roles::Entry;
+use ng_parts::{Repeated, Track};
+use ng_store::store::Store;
+use ng_value::snapshot::Snap;
+use ng_value::texts::to_text;
+use ng_view::view;
+use std::alloc::{AllocError, Global};
+
+/// An entry with its value; that of a fresh list or record is a new object.
+#[derive(Drop)]
+pub struct Item {
+    pub entry: Entry,
+    pub value: Value,
+}
+
+/// An entry gets its value.
+fn make_item(core: &mut Core, alloc: Global, entry: Entry) -> Result<Item, Fault>
+    requires sound { IsSound core.old }
+    requires entry { ViewStands (length core.old.store) (snap_of entry.value) }
+    ensures run { Acts item_of result (state_of core.new) (item_made (entry_of entry) (state_of core.old)) }
+    ensures sound { IsSound core.new }
+    ensures depth { core.new.depth ≡ core.old.depth }
+    ensures grown { length core.old.store ≤ length core.new.store }
+    ensures stands { IfOk result (λ x. StandsAmong (length core.new.store) x.value) }
+{
+    let view = keep(core, alloc, entry.value.view())?;
+    Ok(Item {
+        entry,
+        value: value_in(view),
+    })
+}
+
+/// Entries get their values, in order: each fresh list or record becomes a new object.
+pub fn make_items(core: &mut Core, alloc: Global, entries: Vec<Entry>) -> Result<Vec<Item>, Fault>
+    requires sound { IsSound core.old }
+    requires entries { EntriesStand (length core.old.store) (entries_of entries.items) }
+    ensures run { Acts (λ v. items_of v.items) result (state_of core.new) (items_made (entries_of entries.items) [] (state_of core.old)) }
+    ensures sound { IsSound core.new }
+    ensures depth { core.new.depth ≡ core.old.depth }
+    ensures grown { length core.old.store ≤ length core.new.store }
+    ensures stands { IfOk result (λ v. ItemsStand (length core.new.store) (items_of v.items)) }
+{
+    let mut items = Vec::new(alloc);
+    for entry in entries {
+        items.push(make_item(core, alloc, entry)?)?;
+    }
+    Ok(items)
+}
+
+/// The name `$index`.
+pub(crate) fn index_name(alloc: Global) -> Result<Txt, AllocError>
+    ensures { IfOk result (λ t. t ≡ index_name_of) }
+{
+    let mut name = Txt::new(alloc);
+    name.push_word("$index")?;
+    Ok(name)
+}
+
+/// The key of an entry as programs see it: the name of a named value, or the place of an item.
+pub(crate) fn key_value(i: u32, name: &Option<Txt>) -> Result<Value, AllocError>
+    ensures { IfOk result (λ v. v ≡ key_value_of i name.now) }
+{
+    match name {
+        None => Ok(Value::Int(i as i64)),
+        Some(name) => Ok(Value::Text(name.copied()?)),
+    }
+}
+
+/// The locals of a track expression.
+fn track_locals(
+    alloc: Global,
+    repeated: &Repeated,
+    i: u32,
+    item: &Item,
+) -> Result<Locals, AllocError>
+    ensures locals { IfOk result (λ ls. ls ≡ track_locals_of (repeated_of repeated.now) i (item_of item.now)) }
+    ensures stands { (n : ℕ) → StandsAmong n item.now.value → IfOk result (LocalsStand n) }
+{
+    let mut locals = Locals::new(alloc);
+    locals.push(index_name(alloc)?, Value::Int(i as i64))?;
+    locals.push(repeated.name.copied()?, item.value.copied()?)?;
+    if let Some(key) = &repeated.key {
+        locals.push(key.copied()?, key_value(i, &item.entry.name)?)?;
+    }
+    Ok(locals)
+}
+
+/// The key of an entry without a track expression.
+fn plain_key(i: u32, name: &Option<Txt>, value: &Snap) -> Result<TrackKey, AllocError>
+    ensures { IfOk result (λ k. k ≡ plain_key_of i name.now (snap_of value.now)) }
+{
+    match name {
+        Some(name) => Ok(TrackKey::Text(name.copied()?)),
+        None => match value.view() {
+            View::Prim(value) => Ok(TrackKey::Prim(value.copied()?)),
+            View::List(_) => Ok(TrackKey::Place(i)),
+            View::Rec(_) => Ok(TrackKey::Place(i)),
+        },
+    }
+}
+
+/// The key of an entry by a track expression: its text.
+#[tactic(auto, using(ng_view::proofs::Pure::pure_are, ng_view::proofs::Pure::known_are))]
+fn tracked_key(
+    alloc: Global,
+    store: &Store,
+    object: Oid,
+    repeated: &Repeated,
+    track: &Track,
+    i: u32,
+    item: &Item,
+) -> Result<TrackKey, Fault>
+    requires object { object.0 < length store.now }
+    requires item { StandsAmong (length store.now) item.now.value }
+    ensures { Meets is_memory (track_key_of store.now object.0 (repeated_of repeated.now) (Some (track_of track.now)) i (item_of item.now)) result }
+{
+    let locals = track_locals(alloc, repeated, i, item)?;
+    let value = view(alloc, store, object, &locals, track.program())?;
+    Ok(TrackKey::Text(to_text(alloc, store, &value)?))
+}
+
+/// The key of an entry.
+fn track_key(
+    alloc: Global,
+    store: &Store,
+    object: Oid,
+    repeated: &Repeated,
+    i: u32,
+    item: &Item,
+) -> Result<TrackKey, Fault>
+    requires object { object.0 < length store.now }
+    requires item { StandsAmong (length store.now) item.now.value }
+    ensures { Meets is_memory (track_key_of store.now object.0 (repeated_of repeated.now) (repeated_of repeated.now).track i (item_of item.now)) result }
+{
+    match &repeated.track {
+        None => Ok(plain_key(i, &item.entry.name, &item.entry.value)?),
+        Some(track) => tracked_key(alloc, store, object, repeated, track, i, item),
+    }
+}
+
+/// The place of an entry as a number of 32 bits.
+pub(crate) fn place_of(i: usize) -> Result<u32, Memory>
+    ensures { IfOk result (λ n. n ≡ i) }
+{
+    if i < 4_294_967_295 {
+        Ok(i as u32)
+    } else {
+        Err(Memory::Worn)
+    }
+}
+
+/// The keys of entries, in order.
+pub fn track_keys(
+    alloc: Global,
+    store: &Store,
+    object: Oid,
+    repeated: &Repeated,
+    items: &[Item],
+) -> Result<TrackKeys, Fault>
+    requires object { object.0 < length store.now }
+    requires items { ItemsStand (length store.now) (items_of items.now) }
+    ensures { Meets is_memory (track_keys_of store.now object.0 (repeated_of repeated.now) 0 [] (items_of items.now)) result }
+{
+    let mut keys = TrackKeys::new(alloc);
+    for i in 0..items.len() {
+        let key = track_key(alloc, store, object, repeated, place_of(i)?, &items[i])?;
+        keys.push(key)?;
+    }
+    Ok(keys)
+}

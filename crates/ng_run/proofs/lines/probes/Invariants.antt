@@ -1,6 +1,0 @@
-use Rattle.std.proofs.Common.{◌≡◌, ◌++◌, drop}
-use Rattle.ng_run.specs.Lines.{probe_lines}
-use Rattle.ng_run.proofs.lines.probes.Given as goal
-
-abbrev pub invariant-loop-text : goal.invariant-loop-text
-invariant-loop-text l = l.bytes.items ++ probe_lines (drop l.text-index l.list) ≡ probe_lines l.list

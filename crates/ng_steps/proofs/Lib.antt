@@ -1,0 +1,17 @@
+pub mod Numbered
+pub mod Placed
+pub mod Spots
+pub mod SetRuns
+pub mod Underway
+pub mod GivenNumbers
+pub mod Numbers
+pub mod Rooms
+pub mod Registered
+pub mod LiveNodes
+pub mod Cuts
+pub mod Linkings
+pub mod WholeTold
+pub mod Functions
+pub mod Binds
+pub mod BoundTexts
+pub mod SetTexts

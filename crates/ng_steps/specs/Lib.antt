@@ -1,0 +1,5 @@
+pub mod Links
+pub mod LinkingOf
+pub mod Attending
+pub mod AttendingOf
+pub mod LinkBindings
