@@ -40,7 +40,7 @@ use ng_drawing::cases::kept_as_text;
 use ng_drawing::origin::Origin;
 use ng_drawing::roles::Role;
 use ng_instances::filling::{Due, copied_scopes};
-use ng_instances::instances::Body;
+use ng_instances::instances::SharedBody;
 use ng_instances::linking::Place;
 use ng_link::works::Works;
 use ng_parts::Filling;
@@ -89,7 +89,7 @@ fn take_body(
     works: &mut Works,
     alloc: Global,
     holder: &Path,
-    body: &Body,
+    body: &SharedBody,
     told: &mut Followed,
 ) -> Result<(), Memory>
     requires whole { IsWhole works.old }
@@ -100,8 +100,8 @@ fn take_body(
     ensures whole { OnOk result (IsWhole works.new) }
     ensures templates { templates_of works.new ≡ templates_of works.old }
 {
-    end_body(works, alloc, &body.path, told)?;
-    works.unlink(holder, &body.path)
+    end_body(works, alloc, body.path(), told)?;
+    works.unlink(holder, body.path(), 0)
 }
 
 /// Bodies are gone, one after another.
@@ -109,7 +109,7 @@ fn take_bodies(
     works: &mut Works,
     alloc: Global,
     holder: &Path,
-    bodies: &[Body],
+    bodies: &[SharedBody],
     told: &mut Followed,
 ) -> Result<(), Memory>
     requires whole { IsWhole works.old }
@@ -418,7 +418,8 @@ fn fill_outlet(
                 scope: due.scope,
                 outsides: due.outsides.as_slice(),
             };
-            fire_repeat(works, alloc, &spot, repeated, value.view(), told)
+            let guesses = due.bodies.as_slice();
+            fire_repeat(works, alloc, &spot, repeated, value.view(), guesses, told)
         }
         Filling::ByName(body) => { fill_named(works, alloc, holder, all, value, due, *body, told) }
     }

@@ -34,7 +34,7 @@ use ng_changes::following::Followed;
 use ng_changes::scoping::make_child;
 use ng_drawing::origin::Origin;
 use ng_drawing::roles::entries_in;
-use ng_instances::instances::Body;
+use ng_instances::instances::SharedBody;
 use ng_instances::linking::Place;
 use ng_link::works::Works;
 use ng_parts::Repeated;
@@ -57,7 +57,7 @@ pub(crate) struct Spot<'a> {
 fn end_row(
     works: &mut Works,
     alloc: Global,
-    bodies: &[Body],
+    bodies: &[SharedBody],
     i: u32,
     told: &mut Followed,
 ) -> Result<(), Memory>
@@ -70,7 +70,7 @@ fn end_row(
 {
     match bodies.get(i as usize) {
         None => Ok(()),
-        Some(body) => end_body(works, alloc, &body.path, told),
+        Some(body) => end_body(works, alloc, body.path(), told),
     }
 }
 
@@ -78,7 +78,7 @@ fn end_row(
 fn end_rows(
     works: &mut Works,
     alloc: Global,
-    bodies: &[Body],
+    bodies: &[SharedBody],
     gone: &[u32],
     told: &mut Followed,
 ) -> Result<(), Memory>
@@ -97,7 +97,7 @@ fn end_rows(
 
 /// The row at a place is taken out.
 #[tactic(auto, using(ng_rows::proofs::RowAt::row_at, ng_rows::proofs::RowAt::no_row_at))]
-fn take_row(works: &mut Works, spot: &Spot<'_>, bodies: &[Body], i: u32) -> Result<(), Memory>
+fn take_row(works: &mut Works, spot: &Spot<'_>, bodies: &[SharedBody], i: u32) -> Result<(), Memory>
     requires whole { IsWhole works.old }
     requires row { AreRowsAt spot.now.holder.now spot.now.outlet (body_at (slice_get (map body_of bodies.now) i)) (state_of works.old).instances }
     ensures state { OnOk result (state_of works.new ≡ rows_taken spot.now.holder.now (body_at (slice_get (map body_of bodies.now) i)) (state_of works.old)) }
@@ -110,7 +110,7 @@ fn take_row(works: &mut Works, spot: &Spot<'_>, bodies: &[Body], i: u32) -> Resu
 {
     match bodies.get(i as usize) {
         None => Ok(()),
-        Some(body) => works.unlink(spot.holder, &body.path),
+        Some(body) => works.unlink(spot.holder, body.path(), i as usize),
     }
 }
 
@@ -118,7 +118,7 @@ fn take_row(works: &mut Works, spot: &Spot<'_>, bodies: &[Body], i: u32) -> Resu
 fn take_rows(
     works: &mut Works,
     spot: &Spot<'_>,
-    bodies: &[Body],
+    bodies: &[SharedBody],
     gone: &[u32],
 ) -> Result<(), Memory>
     requires whole { IsWhole works.old }
@@ -143,19 +143,19 @@ fn keep_row(
     works: &mut Works,
     ground: &Ground<'_>,
     i: u32,
-    path: &Path,
+    body: &SharedBody,
     row: &Row,
 ) -> Result<(), Memory>
     requires whole { IsWhole works.old }
     requires names { AreNames ground.now.names }
     requires place { i < ground.now.count }
     requires row { StandsAmong (length works.old.core.store) row.now.item.value }
-    ensures state { OnOk result (state_of works.new ≡ with_core (told_on (scope_in (linked_at path.now (state_of works.old).instances)) (row_names (repeated_of ground.now.repeated.now) ground.now.count i (item_of row.now.item)) (state_of works.old).core) (state_of works.old)) }
+    ensures state { OnOk result (state_of works.new ≡ with_core (told_on (scope_in (linked_at body.now.path (state_of works.old).instances)) (row_names (repeated_of ground.now.repeated.now) ground.now.count i (item_of row.now.item)) (state_of works.old).core) (state_of works.old)) }
     ensures whole { OnOk result (IsWhole works.new) }
     ensures store { length works.new.core.store ≡ length works.old.core.store }
     ensures templates { templates_of works.new ≡ templates_of works.old }
 {
-    let scope = works.scope_on(path);
+    let scope = works.scope_on(body.path());
     tell_row(&mut works.core, scope, ground, i, &row.item)
 }
 
@@ -215,6 +215,16 @@ fn make_row(
     }
 }
 
+/// A place as a number of 32 bits.
+fn place_at(i: usize) -> Result<u32, Memory>
+    ensures { IfOk result (λ n. n ≡ i) }
+{
+    match u32::try_from(i) {
+        Ok(n) => Ok(n),
+        Err(_) => Err(Memory::Worn),
+    }
+}
+
 /// The row of an entry is kept, or made unless one before it could not be made. The answer is how many rows stand then before the next.
 fn fire_row(
     works: &mut Works,
@@ -232,7 +242,7 @@ fn fire_row(
     requires place { i < ground.now.count }
     requires few { at ≤ i }
     requires row { StandsAmong (length works.old.core.store) row.now.item.value }
-    ensures fired { IfOk result (λ n. filled_to n (firing works.new told.new) ≡ row_fired spot.now.holder.now spot.now.scope.0 (map (λ s. s.0) spot.now.outsides.now) spot.now.outlet spot.now.origin (row_of row.now) (row_names (repeated_of ground.now.repeated.now) ground.now.count i (item_of row.now.item)) row.now.from (filled_to at (firing works.old told.old))) }
+    ensures fired { IfOk result (λ n. filled_to n (firing works.new told.new) ≡ row_fired spot.now.holder.now spot.now.scope.0 (map (λ s. s.0) spot.now.outsides.now) spot.now.outlet spot.now.origin (row_of row.now) (row_names (repeated_of ground.now.repeated.now) ground.now.count i (item_of row.now.item)) (row_of row.now).from (filled_to at (firing works.old told.old))) }
     ensures few { IfOk result (λ n. n ≤ i + 1) }
     ensures keeps { OnOk result (Keeps spot.now.holder.now (state_of works.old).instances (state_of works.new).instances) }
     ensures others { OnOk result (OthersStay spot.now.holder.now (state_of works.old).instances (state_of works.new).instances) }
@@ -241,16 +251,20 @@ fn fire_row(
     ensures templates { templates_of works.new ≡ templates_of works.old }
 {
     match &row.from {
-        Some(path) => {
-            keep_row(works, ground, i, path, row)?;
-            Ok(at + 1)
+        Some(body) => {
+            keep_row(works, ground, i, body, row)?;
+            place_at(at as usize + 1)
         }
         None => {
             if told.faulted {
                 return Ok(at);
             }
             make_row(works, alloc, spot, ground, i, at, row, told)?;
-            if told.faulted { Ok(at) } else { Ok(at + 1) }
+            if told.faulted {
+                Ok(at)
+            } else {
+                place_at(at as usize + 1)
+            }
         }
     }
 }
@@ -278,7 +292,8 @@ fn fire_rows(
 {
     let mut at = 0;
     for i in 0..rows.len() {
-        at = fire_row(works, alloc, spot, ground, i as u32, at, &rows[i], told)?;
+        let place = place_at(i)?;
+        at = fire_row(works, alloc, spot, ground, place, at, &rows[i], told)?;
     }
     Ok(())
 }
@@ -289,7 +304,7 @@ fn change_rows(
     alloc: Global,
     spot: &Spot<'_>,
     repeated: &Repeated,
-    bodies: &[Body],
+    bodies: &[SharedBody],
     gone: &Numbers,
     rows: &[Row],
     told: &mut Followed,
@@ -319,7 +334,7 @@ fn fire_plan(
     alloc: Global,
     spot: &Spot<'_>,
     repeated: &Repeated,
-    bodies: &[Body],
+    bodies: &[SharedBody],
     items: Vec<Item>,
     keys: &TrackKeys,
     plan: &Plan,
@@ -399,6 +414,7 @@ fn fire_items(
     spot: &Spot<'_>,
     repeated: &Repeated,
     items: Vec<Item>,
+    guesses: &[SharedBody],
     told: &mut Followed,
 ) -> Result<(), Memory>
     requires whole { IsWhole works.old }
@@ -411,7 +427,8 @@ fn fire_items(
     ensures templates { templates_of works.new ≡ templates_of works.old }
 {
     let object = works.core.scopes.object(spot.scope);
-    let tracked = track_keys(alloc, &works.core.store, object, repeated, items.as_slice());
+    let store = &works.core.store;
+    let tracked = track_keys(alloc, store, object, repeated, items.as_slice(), guesses);
     match tracked {
         Err(Fault::Memory(memory)) => Err(memory),
         Err(f) => {
@@ -422,13 +439,14 @@ fn fire_items(
     }
 }
 
-/// The rows of an outlet become those that a collection calls for, of which this is kept.
+/// The rows of an outlet become those that a collection calls for, of which this is kept. Those that stand may be guessed.
 pub(crate) fn fire_repeat(
     works: &mut Works,
     alloc: Global,
     spot: &Spot<'_>,
     repeated: &Repeated,
     value: &View,
+    guesses: &[SharedBody],
     told: &mut Followed,
 ) -> Result<(), Memory>
     requires whole { IsWhole works.old }
@@ -448,6 +466,6 @@ pub(crate) fn fire_repeat(
             fault(works, f, told);
             Ok(())
         }
-        Ok(items) => fire_items(works, alloc, spot, repeated, items, told),
+        Ok(items) => fire_items(works, alloc, spot, repeated, items, guesses, told),
     }
 }

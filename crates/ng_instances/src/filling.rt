@@ -6,7 +6,7 @@ ghost use Rattle.ng_instances.specs.InstanceOf.{body_of, outlet_of, page_of, lin
 ghost use Rattle.ng_compose.specs.Kept.{Named};
 ghost use Rattle.ng_watch.specs.Keys.{is_key};
 
-use crate::instances::{Body, Linked, OutletState};
+use crate::instances::{Linked, OutletState, SharedBody};
 use ng_base::fault::Memory;
 use ng_base::name::ScopeId;
 use ng_base::path::{Key, Path};
@@ -23,19 +23,16 @@ pub struct Due {
     pub scope: ScopeId,
     pub outsides: Vec<ScopeId>,
     pub filling: Filling,
-    pub bodies: Vec<Body>,
+    pub bodies: Vec<SharedBody>,
 }
 
-/// The same bodies again.
-pub fn copied_bodies(alloc: Global, bodies: &[Body]) -> Result<Vec<Body>, Memory>
+/// The same bodies, each with one owner more.
+pub fn copied_bodies(alloc: Global, bodies: &[SharedBody]) -> Result<Vec<SharedBody>, Memory>
     ensures { IfOk result (λ v. map body_of v.items ≡ map body_of bodies.now) }
 {
-    let mut copies = Vec::new(alloc);
+    let mut copies = Vec::with_capacity(alloc, bodies.len())?;
     for body in bodies {
-        copies.push(Body {
-            path: body.path.copied()?,
-            role: body.role.copied(alloc)?,
-        })?;
+        copies.push(body.copied()?)?;
     }
     Ok(copies)
 }

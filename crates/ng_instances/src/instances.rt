@@ -1,5 +1,5 @@
 //! What stands of a fragment that is linked.
-ghost use Rattle.std.specs.Prelude.{ℕ, ◌≡◌, List, None, option_copied};
+ghost use Rattle.std.specs.Prelude.{ℕ, ◌≡◌, List, None, option_copied, IfOk};
 ghost use Rattle.std.specs.Map.{lookup};
 ghost use Rattle.ng_instances.specs.Instances.{is_path, instance_path as instance_path_of, scope_number, scope_path};
 ghost use Rattle.ng_instances.specs.MarksOf.{marks_of};
@@ -16,13 +16,22 @@ use ng_drawing::roles::Role;
 use ng_parse::Program;
 use ng_parts::acts::Handler;
 use ng_parts::{Filling, SiteScopes};
+use std::alloc::{AllocError, Global};
 use std::collections::BTreeMap;
+use std::marker::Model;
+use std::rc::Rc;
 
 /// A body of a block, by the path of its scope, and what it stands for.
 #[derive(Drop)]
 pub struct Body {
     pub path: Path,
     pub role: Role,
+}
+
+/// A body of which a copy is one more owner, so that it takes no memory and no time that grows with what it has.
+#[derive(Drop)]
+pub struct SharedBody {
+    body: Rc<Body>,
 }
 
 /// An outlet that stands: the number of registration of its site; how it is filled, and where the bodies come from; the scope round them, and the
@@ -35,7 +44,7 @@ pub struct OutletState {
     pub outsides: Vec<ScopeId>,
     pub filling: Filling,
     pub anchor: u64,
-    pub bodies: Vec<Body>,
+    pub bodies: Vec<SharedBody>,
 }
 
 /// A scope of an instance beside its own, which linking made for a directive or a slot: its name and its path.
@@ -156,4 +165,52 @@ pub fn instance_of<'a>(
     ensures { option_copied result ≡ lookup (is_path (instance_path_of inner.now.entries p.now)) instances.now.entries }
 {
     instances.get(instance_path(inner, p))
+}
+
+impl Model for SharedBody {
+    ghost use Rattle.std.specs.Coded.{codes};
+    ghost use Rattle.ng_instances.specs.contracts.instances.Body as body_contracts;
+    ghost use Rattle.ng_instances.specs.declared.instances.Body.{Body};
+
+    ghost Value = { Body };
+
+    ghost coded = { Prim.hlevel (codes, body_contracts.the_row.coded) };
+
+    ghost view = { λ b. b.body.value };
+}
+
+impl SharedBody {
+    /// A body that has one owner.
+    pub fn new(alloc: Global, path: Path, role: Role) -> Result<SharedBody, AllocError>
+        ensures path { IfOk result (λ b. b.path ≡ path) }
+        ensures role { IfOk result (λ b. b.role ≡ role) }
+    {
+        match Rc::new(alloc, Body { path, role }) {
+            Ok(body) => Ok(SharedBody { body }),
+            Err(_) => Err(AllocError),
+        }
+    }
+
+    /// The path of its scope.
+    pub fn path(&self) -> &Path
+        ensures { result.now ≡ self.now.path }
+    {
+        &self.body.as_ref().path
+    }
+
+    /// What it stands for.
+    pub fn role(&self) -> &Role
+        ensures { result.now ≡ self.now.role }
+    {
+        &self.body.as_ref().role
+    }
+
+    /// One more owner of it. It is refused where there are as many as can be counted.
+    pub fn copied(&self) -> Result<SharedBody, AllocError>
+        ensures { IfOk result (λ b. b ≡ self.now) }
+    {
+        Ok(SharedBody {
+            body: self.body.clone()?,
+        })
+    }
 }

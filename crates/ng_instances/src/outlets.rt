@@ -14,7 +14,7 @@ ghost use Rattle.ng_build.specs.Shape.{anchors};
 ghost use Rattle.ng_instances.specs.InstanceOf.{body_of, outlet_of, instances_of, spot_in};
 
 use crate::filling::copied_scopes;
-use crate::instances::{Body, Linked, OutletState};
+use crate::instances::{Linked, OutletState, SharedBody};
 use ng_base::fault::Memory;
 use ng_base::name::ScopeId;
 use ng_base::path::Path;
@@ -223,7 +223,7 @@ pub fn outlet_in<'a>(
 
 /// A body is put before the one at a place, or at the end.
 #[tactic(auto, using(ng_dom::proofs::Places::puts))]
-fn put_body(bodies: &mut Vec<Body>, at: u32, body: Body) -> Result<(), AllocError>
+fn put_body(bodies: &mut Vec<SharedBody>, at: u32, body: SharedBody) -> Result<(), AllocError>
     ensures { OnOk result (map body_of bodies.new.items ≡ put_at at (body_of body) (map body_of bodies.old.items)) }
 {
     if (at as usize) < bodies.len() {
@@ -235,7 +235,7 @@ fn put_body(bodies: &mut Vec<Body>, at: u32, body: Body) -> Result<(), AllocErro
 }
 
 /// A body more in an outlet.
-fn push_body(state: &mut OutletState, at: u32, body: Body) -> Result<(), AllocError>
+fn push_body(state: &mut OutletState, at: u32, body: SharedBody) -> Result<(), AllocError>
     ensures { OnOk result (outlet_of state.new ≡ with_body at (body_of body) (outlet_of state.old)) }
 {
     put_body(&mut state.bodies, at, body)
@@ -246,7 +246,7 @@ fn add_body(
     outlets: &mut Vec<OutletState>,
     outlet: usize,
     at: u32,
-    body: Body,
+    body: SharedBody,
 ) -> Result<(), AllocError>
     ensures { OnOk result (map outlet_of outlets.new.items ≡ body_added outlet at (body_of body) (map outlet_of outlets.old.items)) }
 {
@@ -262,7 +262,7 @@ pub fn take_in(
     holder: &Path,
     outlet: usize,
     at: u32,
-    body: Body,
+    body: SharedBody,
 ) -> Result<(), AllocError>
     ensures taken { (all : List Named) → OnOk result (instances_of all instances.new.entries ≡ outlets_changed holder.now (body_added outlet at (body_of body)) (instances_of all instances.old.entries)) }
     ensures spots { (inner : Inners) → (k : Key) → OnOk result (spot_in inner instances.new.entries k ≡ spot_in inner instances.old.entries k) }

@@ -16,20 +16,20 @@ use ng_base::lists::Numbers;
 use ng_base::name::{NodeId, Serial};
 use ng_base::path::Path;
 use ng_dom::dom::Dom;
-use ng_instances::instances::{Body, Linked, OutletState};
+use ng_instances::instances::{Linked, OutletState, SharedBody};
 use ng_instances::outlets::outlet_in;
 use std::alloc::Global;
 use std::collections::BTreeMap;
 
 /// Whether bodies are on the same paths, one by one.
-fn are_alike(old: &[Body], new: &[Body]) -> bool
+fn are_alike(old: &[SharedBody], new: &[SharedBody]) -> bool
     ensures { result ≡ alike_of (map body_of old.now) (map body_of new.now) }
 {
     if old.len() != new.len() {
         return false;
     }
     for i in 0..old.len() {
-        if old[i].path != new[i].path {
+        if *old[i].path() != *new[i].path() {
             return false;
         }
     }
@@ -47,12 +47,12 @@ fn place_at(i: usize) -> Result<u32, Memory>
 }
 
 /// The places of bodies, by their paths.
-fn places_by(alloc: Global, bodies: &[Body]) -> Result<BTreeMap<Path, u32>, Memory>
+fn places_by(alloc: Global, bodies: &[SharedBody]) -> Result<BTreeMap<Path, u32>, Memory>
     ensures { IfOk result (λ places. ArePlaces (map body_of bodies.now) places.entries) }
 {
     let mut places = BTreeMap::new(alloc);
     for i in 0..bodies.len() {
-        let _ = places.insert(bodies[i].path.copied()?, place_at(i)?)?;
+        let _ = places.insert(bodies[i].path().copied()?, place_at(i)?)?;
     }
     Ok(places)
 }
@@ -68,13 +68,13 @@ fn place_in(places: &BTreeMap<Path, u32>, p: &Path) -> Result<u32, Memory>
 }
 
 /// The places that bodies have among others.
-fn order_of(alloc: Global, old: &[Body], new: &[Body]) -> Result<Numbers, Memory>
+fn order_of(alloc: Global, old: &[SharedBody], new: &[SharedBody]) -> Result<Numbers, Memory>
     ensures { IfOk result (λ is. AreAt (map body_of old.now) is (map body_of new.now)) }
 {
     let places = places_by(alloc, old)?;
     let mut order = Numbers::new(alloc);
     for body in new {
-        order.push(place_in(&places, &body.path)?)?;
+        order.push(place_in(&places, body.path())?)?;
     }
     Ok(order)
 }
@@ -85,7 +85,7 @@ fn order_in(
     instances: &BTreeMap<Path, Linked>,
     holder: &Path,
     outlet: usize,
-    bodies: &[Body],
+    bodies: &[SharedBody],
 ) -> Result<Option<(u64, Numbers)>, Memory>
     ensures { (all : List Named) → IfOk result (λ r. IsOrder r (map body_of bodies.now) (outlet_of_linked outlet (linked_at holder.now (instances_of all instances.now.entries)))) }
 {
@@ -118,7 +118,7 @@ fn pick(dom: &mut Dom, order: &Option<(u64, Numbers)>) -> Result<(), Memory>
 }
 
 /// An outlet gets other bodies.
-fn put_bodies(state: &mut OutletState, bodies: Vec<Body>)
+fn put_bodies(state: &mut OutletState, bodies: Vec<SharedBody>)
     ensures { outlet_of state.new ≡ with_bodies (map body_of bodies.items) (outlet_of state.old) }
 {
     state.bodies = bodies;
@@ -126,7 +126,7 @@ fn put_bodies(state: &mut OutletState, bodies: Vec<Body>)
 
 /// The outlet of a number gets other bodies.
 #[tactic(auto, using(ng_instances::proofs::Written::arranged_set, ng_instances::proofs::Written::arranged_past))]
-fn set_bodies(outlets: &mut Vec<OutletState>, outlet: usize, bodies: Vec<Body>)
+fn set_bodies(outlets: &mut Vec<OutletState>, outlet: usize, bodies: Vec<SharedBody>)
     ensures { map outlet_of outlets.new.items ≡ bodies_arranged outlet (map body_of bodies.items) (map outlet_of outlets.old.items) }
 {
     if outlet < outlets.len() {
@@ -135,7 +135,12 @@ fn set_bodies(outlets: &mut Vec<OutletState>, outlet: usize, bodies: Vec<Body>)
 }
 
 /// An outlet of an instance gets other bodies.
-fn set_held(instances: &mut BTreeMap<Path, Linked>, holder: &Path, outlet: usize, bodies: Vec<Body>)
+fn set_held(
+    instances: &mut BTreeMap<Path, Linked>,
+    holder: &Path,
+    outlet: usize,
+    bodies: Vec<SharedBody>,
+)
     ensures arranged { (all : List Named) → instances_of all instances.new.entries ≡ outlets_changed holder.now (bodies_arranged outlet (map body_of bodies.items)) (instances_of all instances.old.entries) }
     ensures spots { (inner : Inners) → (k : Key) → spot_in inner instances.new.entries k ≡ spot_in inner instances.old.entries k }
 {
@@ -148,7 +153,12 @@ fn set_held(instances: &mut BTreeMap<Path, Linked>, holder: &Path, outlet: usize
 impl Works {
     /// The bodies of an outlet are these, which are those that stood there, in another order or with other roles. The nodes of those that
     /// change their places are moved, and no other.
-    pub fn arrange(&mut self, holder: &Path, outlet: usize, bodies: Vec<Body>) -> Result<(), Memory>
+    pub fn arrange(
+        &mut self,
+        holder: &Path,
+        outlet: usize,
+        bodies: Vec<SharedBody>,
+    ) -> Result<(), Memory>
         requires stands { IsStanding self.old }
         requires same { IsRearranged (map body_of bodies.items) outlet holder.now (state_of self.old).instances }
         ensures state { OnOk result (state_of self.new ≡ arranged_at holder.now outlet (map body_of bodies.items) (state_of self.old)) }

@@ -13,7 +13,7 @@ use ng_base::fault::Memory;
 use ng_base::name::ScopeId;
 use ng_base::path::{Key, Path};
 use ng_instances::filling::{Due, copied_bodies};
-use ng_instances::instances::{Body, Bound, instance_of, instance_path};
+use ng_instances::instances::{Bound, SharedBody, instance_of, instance_path};
 use ng_instances::outlets::outlet_in;
 
 impl Works {
@@ -45,7 +45,7 @@ impl Works {
     }
 
     /// The bodies that stand in an outlet of an instance, in order.
-    pub fn bodies_in(&self, holder: &Path, outlet: usize) -> Result<Vec<Body>, Memory>
+    pub fn bodies_in(&self, holder: &Path, outlet: usize) -> Result<Vec<SharedBody>, Memory>
         ensures { IfOk result (λ v. (x : OutletOf) → outlet_of_linked outlet (linked_at holder.now (state_of self.now).instances) ≡ Some x → map body_of v.items ≡ x.bodies) }
     {
         match outlet_in(&self.instances, holder, outlet) {

@@ -18,7 +18,7 @@ use ng_build::copying::key_on;
 use ng_control::Control;
 use ng_drawing::instance::{Instance, Instances, SiteState};
 use ng_drawing::origin::{Home, Origin};
-use ng_instances::instances::{Body, Linked, OutletState};
+use ng_instances::instances::{Linked, OutletState, SharedBody};
 use ng_value::copies::copied;
 use ng_value::snapshot::Snap;
 
@@ -120,14 +120,14 @@ fn outlets_in(
 
 /// The bodies in an outlet of an instance.
 #[cycle(instance)]
-fn bodies_in(works: &Works, holder: &Path, bodies: &[Body]) -> Result<Instances, Memory>
+fn bodies_in(works: &Works, holder: &Path, bodies: &[SharedBody]) -> Result<Instances, Memory>
     ensures { IfOk result (λ is. seen_group (fragments_in (templates_of works.now)) is ≡ (roles_in (map body_of bodies.now), instances_from (map (λ (b : BodyOf). body_at (state_of works.now) holder.now b.path) (map body_of bodies.now)))) }
 {
     let mut roles = Vec::new(works.alloc);
     let mut items = Vec::new(works.alloc);
     for body in bodies {
-        roles.push(body.role.copied(works.alloc)?)?;
-        items.push(body_on(works, holder, &body.path)?)?;
+        roles.push(body.role().copied(works.alloc)?)?;
+        items.push(body_on(works, holder, body.path())?)?;
     }
     Ok(Instances { roles, items })
 }

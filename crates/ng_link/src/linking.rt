@@ -32,7 +32,7 @@ use ng_base::name::ScopeId;
 use ng_base::path::{Key, Path};
 use ng_build::controls::begin_controls;
 use ng_drawing::origin::Origin;
-use ng_instances::instances::{Body, Linked};
+use ng_instances::instances::{Linked, SharedBody};
 use ng_instances::linking::{
     Order, Place, Spot, lay_out, link_nodes, linked_with, outlet_scopes, parts_order,
     site_programs, spot_for,
@@ -173,10 +173,7 @@ impl Works {
                 at,
                 role,
             } => {
-                let body = Body {
-                    path: copy,
-                    role: role.copied(self.alloc)?,
-                };
+                let body = SharedBody::new(self.alloc, copy, role.copied(self.alloc)?)?;
                 Ok(take_in(&mut self.instances, holder, *outlet, *at, body)?)
             }
         }

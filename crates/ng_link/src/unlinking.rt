@@ -1,5 +1,5 @@
-//! Unlinking: a body goes, with those in it (API: ngIf).
-ghost use Rattle.std.specs.Prelude.{List, Some, ◌≡◌, map, not, OnOk, IfOk, MatchOption, option_and_then, slice_get};
+//! Unlinking: a body goes, with those in it (API: ngIf, ngSwitch, ngRepeat).
+ghost use Rattle.std.specs.Prelude.{List, Some, ◌≡◌, true, map, not, OnOk, IfOk, IfSome, MatchOption, option_and_then, slice_get};
 ghost use Rattle.std.specs.BTreeMap.{is_at};
 ghost use Rattle.std.specs.List.{filter};
 ghost use Rattle.std.specs.Map.{lookup, lookup_key, remove_entry};
@@ -21,40 +21,72 @@ use ng_base::name::{NodeId, Serial};
 use ng_base::path::Path;
 use ng_build::forgetting::{begins, forget_on};
 use ng_dom::dom::Dom;
-use ng_instances::instances::{Body, Linked, OutletState};
+use ng_instances::instances::{Linked, OutletState, SharedBody};
 use std::alloc::AllocError;
 use std::collections::BTreeMap;
 use std::ops::Bound;
 
-/// The place of a body among others. It is looked for from the end, since of several that go the last goes first.
-fn place_among(bodies: &[Body], p: &Path) -> Option<usize>
+/// Whether the body at a place is on a path.
+fn is_on(bodies: &[SharedBody], i: usize, p: &Path) -> bool
+    ensures { result ≡ true → IsBodyAt p.now i (map body_of bodies.now) }
+{
+    match bodies.get(i) {
+        None => false,
+        Some(body) => *p == *body.path(),
+    }
+}
+
+/// The last place of a body among others.
+fn last_place(bodies: &[SharedBody], p: &Path) -> Option<usize>
     ensures { MatchOption result (body_count p.now (map body_of bodies.now) ≡ 0) (λ i. IsBodyAt p.now i (map body_of bodies.now)) }
 {
     let mut i = bodies.len();
     while i > 0 {
         i -= 1;
-        if *p == bodies[i].path {
+        if *p == *bodies[i].path() {
             return Some(i);
         }
     }
     None
 }
 
-/// The outlet that holds a body, and the body's place there.
-fn find_body(outlets: &[OutletState], p: &Path) -> Option<(usize, usize)>
+/// The outlet that has a body on a path at a place.
+fn guessed(outlets: &[OutletState], p: &Path, guess: usize) -> Option<usize>
+    ensures { IfSome result (λ o. IsHeldAt p.now o guess (map outlet_of outlets.now)) }
+{
+    for o in 0..outlets.len() {
+        if is_on(outlets[o].bodies.as_slice(), guess, p) {
+            return Some(o);
+        }
+    }
+    None
+}
+
+/// The outlet that holds a body, and the body's place there, among all bodies.
+fn look_for(outlets: &[OutletState], p: &Path) -> Option<(usize, usize)>
     ensures { MatchOption result (held_count p.now (map outlet_of outlets.now) ≡ 0) (λ r. IsHeldAt p.now r.0 r.1 (map outlet_of outlets.now)) }
 {
     for o in 0..outlets.len() {
-        if let Some(i) = place_among(outlets[o].bodies.as_slice(), p) {
+        if let Some(i) = last_place(outlets[o].bodies.as_slice(), p) {
             return Some((o, i));
         }
     }
     None
 }
 
+/// The outlet that holds a body, and the body's place there: the one that is guessed, if it is there.
+fn find_body(outlets: &[OutletState], p: &Path, guess: usize) -> Option<(usize, usize)>
+    ensures { MatchOption result (held_count p.now (map outlet_of outlets.now) ≡ 0) (λ r. IsHeldAt p.now r.0 r.1 (map outlet_of outlets.now)) }
+{
+    match guessed(outlets, p, guess) {
+        Some(o) => Some((o, guess)),
+        None => look_for(outlets, p),
+    }
+}
+
 /// A body is taken out of others.
 #[tactic(auto, using(ng_dom::proofs::Places::cuts))]
-fn cut_body(bodies: &mut Vec<Body>, i: usize)
+fn cut_body(bodies: &mut Vec<SharedBody>, i: usize)
     ensures { map body_of bodies.new.items ≡ without_at i (map body_of bodies.old.items) }
 {
     if i < bodies.len() {
@@ -77,12 +109,17 @@ fn cut_outlet(outlets: &mut Vec<OutletState>, o: usize, i: usize) -> u64
 }
 
 /// Where an instance holds a body.
-fn held_at(instances: &BTreeMap<Path, Linked>, holder: &Path, p: &Path) -> Option<(usize, usize)>
+fn held_at(
+    instances: &BTreeMap<Path, Linked>,
+    holder: &Path,
+    p: &Path,
+    guess: usize,
+) -> Option<(usize, usize)>
     ensures { (all : List Named) (holds : IsHeldIn holder.now p.now (instances_of all instances.now.entries)) → MatchOption result ⊥ (λ r. IsHeldAt p.now r.0 r.1 holds.0.page.outlets) }
 {
     match instances.get(holder) {
         None => None,
-        Some(one) => find_body(one.outlets.as_slice(), p),
+        Some(one) => find_body(one.outlets.as_slice(), p, guess),
     }
 }
 
@@ -189,7 +226,7 @@ fn forget_below(
 
 impl Works {
     /// The instances of a body, and of those in it, go with their nodes.
-    fn cut(&mut self, holder: &Path, p: &Path) -> Result<(), Memory>
+    fn cut(&mut self, holder: &Path, p: &Path, guess: usize) -> Result<(), Memory>
         requires stands { IsStanding self.old }
         requires held { IsHeld holder.now p.now (state_of self.old) }
         ensures state { OnOk result (state_of self.new ≡ cut_at holder.now p.now (state_of self.old)) }
@@ -197,7 +234,7 @@ impl Works {
         ensures core { self.new.core ≡ self.old.core }
         ensures templates { templates_of self.new ≡ templates_of self.old }
     {
-        let Some((o, i)) = held_at(&self.instances, holder, p) else {
+        let Some((o, i)) = held_at(&self.instances, holder, p, guess) else {
             unreachable!();
         };
         let anchor = cut_held(&mut self.instances, holder, o, i);
@@ -208,8 +245,10 @@ impl Works {
         forget_on(&mut self.controls, p)?;
         Ok(())
     }
-    /// A body that an instance holds goes, with those in it. It costs what it takes.
-    pub fn unlink(&mut self, holder: &Path, p: &Path) -> Result<(), Memory>
+
+    /// A body that an instance holds goes, with those in it. Its place among the bodies of its outlet may be guessed. It costs what it takes and
+    /// a move of the bodies behind it by one, and where the guess is wrong a look at each body of the instance.
+    pub fn unlink(&mut self, holder: &Path, p: &Path, guess: usize) -> Result<(), Memory>
         requires stands { IsStanding self.old }
         requires held { IsHeld holder.now p.now (state_of self.old) }
         ensures state { OnOk result (state_of self.new ≡ unlinked_at holder.now p.now (state_of self.old)) }
@@ -218,7 +257,7 @@ impl Works {
         ensures templates { templates_of self.new ≡ templates_of self.old }
     {
         self.leave(p)?;
-        self.cut(holder, p)?;
+        self.cut(holder, p, guess)?;
         Ok(())
     }
 }

@@ -1,5 +1,6 @@
 pub mod Chosen
 pub mod Tracking
 pub mod TrackingOf
+pub mod Splices
 pub mod RepeatRows
 pub mod RepeatsOf

@@ -1,5 +1,5 @@
 -- The rows of a repeat: its items, their track keys, and the rows that are kept (API: ngRepeat).
-use Rattle.std.specs.Prelude.{ℕ, pos, ◌+◌, ◌==◌, ◌%◌, ◌||◌, not, List, [], ◌∷◌, ◌++◌, map, Option, None, Some, option_map, slice_get, Result, Ok, Err, codes}
+use Rattle.std.specs.Prelude.{ℕ, pos, ◌+◌, ◌==◌, ◌%◌, ◌||◌, ◌&&◌, Bool, false, not, List, [], ◌∷◌, ◌++◌, map, Option, None, Some, option_map, slice_get, Result, Ok, Err, codes}
 use Rattle.std.specs.List.{flat_map}
 use Rattle.ng_core.specs.Keeping.{stores}
 use Rattle.ng_core.specs.State as act
@@ -7,12 +7,13 @@ use Rattle.ng_core.specs.State.{Run, ◌>>=◌}
 use Rattle.ng_base.specs.declared.fault.Fault.{Fault}
 use Rattle.ng_base.specs.declared.fault.Fault.TheVariants as faults
 use Rattle.ng_base.specs.declared.value.Value.TheVariants as value
+use Rattle.ng_blocks.specs.SameKeys.{same_key}
 use Rattle.ng_blocks.specs.declared.keys.TrackKey.{TrackKey}
 use Rattle.ng_blocks.specs.declared.keys.TrackKey.TheVariants as keys
 use Rattle.ng_blocks.specs.declared.plans.Plan.{Plan}
 use Rattle.ng_blocks.specs.declared.plans.PlanFault.{PlanFault}
 use Rattle.ng_blocks.specs.declared.plans.PlanFault.TheVariants as plans
-use Rattle.ng_drawing.specs.Roles.{Entry, Role, a_body, a_row, a_named}
+use Rattle.ng_drawing.specs.Roles.{Entry, Role, a_body, a_row, a_named, same_entry}
 use Rattle.ng_drawing.specs.Template.{Repeated}
 use Rattle.ng_rows.specs.Tracking.{Item, key_value, key_local, index_name}
 use Rattle.ng_instances.specs.Instances.{Body}
@@ -53,6 +54,12 @@ rows_from bs xs ks ps = []
 
 abbrev pub role_for : Row → Role
 role_for r = a_row r.key r.item.entry
+
+-- whether a role is that of the row of an entry under its key
+abbrev pub same_row : TrackKey → Entry → Role → Bool
+same_row k e a_body = false
+same_row k e (a_row l f) = same_key k l && same_entry e f
+same_row k e (a_named w) = false
 
 -- the rows that are kept, in the order of their entries
 abbrev pub kept_from : Option (List ℕ) → Role → List Body

@@ -45,9 +45,12 @@ plain_key i None (list ts) = keys.Place i
 plain_key i None (rec fs) = keys.Place i
 
 -- with one it is known by the text of that
+abbrev pub tracked_by : List Object → ℕ → List Local → Trees → Result TrackKey Fault
+tracked_by objects o locals p = evaluated_program objects o locals p >>= to_text objects >>= λ t. Ok (keys.Text t)
+
 abbrev pub track_key : List Object → ℕ → Repeated → Option Trees → ℕ → Item → Result TrackKey Fault
 track_key objects o r None i x = Ok (plain_key i x.entry.name x.entry.value)
-track_key objects o r (Some p) i x = evaluated_program objects o (track_locals r i x) p >>= to_text objects >>= λ t. Ok (keys.Text t)
+track_key objects o r (Some p) i x = tracked_by objects o (track_locals r i x) p
 
 -- the keys of items, of which the first has this place, after keys that are known; the first fault stands
 abbrev pub track_keys : List Object → ℕ → Repeated → ℕ → List TrackKey → List Item → Result (List TrackKey) Fault

@@ -6,11 +6,12 @@
 //!
 //! Each function of the code has its definition as its contract.
 //!
-//! In reading order: `tracking` has items and their keys, `rows` the rows, and `choosing` the bodies.
+//! In reading order: `tracking` has items and their keys, `splicing` plans rows that came or went at one place, `rows` has them all, and `choosing` the bodies.
 //!
 //! No body is linked or taken out here: ng_fire does that.
 #![tactic(auto)]
 
 pub mod choosing;
 pub mod rows;
+pub mod splicing;
 pub mod tracking;

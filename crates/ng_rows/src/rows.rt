@@ -5,10 +5,10 @@ ghost use Rattle.ng_core.specs.Frames.{IsSound};
 ghost use Rattle.ng_base.specs.Objects.{StandsAmong};
 ghost use Rattle.ng_base.specs.Word.{IsWord};
 ghost use Rattle.ng_blocks.specs.Plans.{planned, has_double as has_double_of};
-ghost use Rattle.ng_drawing.specs.RolesOf.{role_of};
+ghost use Rattle.ng_drawing.specs.RolesOf.{entry_of, role_of};
 ghost use Rattle.ng_rows.specs.Chosen.{told_on};
-ghost use Rattle.ng_rows.specs.RepeatRows.{key_of as key_of_role, keys_of as keys_of_bodies, path_from as path_from_bodies, rows_from as rows_from_all, role_for as role_for_row, kept_rows as kept_rows_of, place_names as names_of_place, row_names, as_fault};
-ghost use Rattle.ng_rows.specs.RepeatsOf.{row_of, rows_of, AreNames};
+ghost use Rattle.ng_rows.specs.RepeatRows.{key_of as key_of_role, keys_of as keys_of_bodies, path_from, same_row, rows_from as rows_from_all, role_for as role_for_row, kept_rows as kept_rows_of, place_names as names_of_place, row_names, as_fault};
+ghost use Rattle.ng_rows.specs.RepeatsOf.{path_of, row_of, rows_of, AreNames};
 ghost use Rattle.ng_rows.specs.Tracking.{key_local, key_value as value_of_key};
 ghost use Rattle.ng_rows.specs.TrackingOf.{item_of, items_of};
 ghost use Rattle.ng_language.specs.Objects.{set_name};
@@ -16,18 +16,17 @@ ghost use Rattle.ng_instances.specs.InstanceOf.{body_of};
 ghost use Rattle.ng_parts.specs.RepeatedOf.{repeated_of};
 ghost use Rattle.ng_write.specs.Storing.{with_names};
 
+use crate::splicing::{has_double, plan_spliced};
 use crate::tracking::{Item, index_name, key_value, place_of};
-use indexmap::IndexSet;
 use ng_base::fault::{Fault, Memory};
 use ng_base::lists::Sources;
 use ng_base::name::{Oid, ScopeId};
-use ng_base::path::Path;
 use ng_base::txt::Txt;
 use ng_base::value::Value;
 use ng_blocks::{Plan, PlanFault, TrackKey, TrackKeys, plan};
 use ng_core::core_state::Core;
-use ng_drawing::roles::Role;
-use ng_instances::instances::Body;
+use ng_drawing::roles::{Entry, Role, same_entry};
+use ng_instances::instances::SharedBody;
 use ng_parts::Repeated;
 use ng_store::store::Store;
 use std::alloc::{AllocError, Global};
@@ -43,12 +42,12 @@ pub struct PlaceNames {
     odd: Txt,
 }
 
-/// A row that an entry calls for: the item, its track key, and the path of the row that it comes from, where one stands.
+/// A row that an entry calls for: the item, its track key, and the body of the row that it comes from, where one stands.
 #[derive(Drop)]
 pub struct Row {
     pub item: Item,
     key: TrackKey,
-    pub from: Option<Path>,
+    pub from: Option<SharedBody>,
 }
 
 /// What the scopes of all rows of a repeat are told by: the names, and how many entries there are.
@@ -185,26 +184,26 @@ fn key_of(role: &Role) -> Result<TrackKey, AllocError>
 }
 
 /// The keys of the rows that stand.
-fn keys_of(alloc: Global, bodies: &[Body]) -> Result<TrackKeys, AllocError>
+fn keys_of(alloc: Global, bodies: &[SharedBody]) -> Result<TrackKeys, AllocError>
     ensures { IfOk result (λ ks. ks ≡ keys_of_bodies (map body_of bodies.now)) }
 {
     let mut keys = TrackKeys::new(alloc);
     for body in bodies {
-        keys.push(key_of(&body.role)?)?;
+        keys.push(key_of(body.role())?)?;
     }
     Ok(keys)
 }
 
-/// The path of the row at a place.
+/// The body of the row at a place.
 #[tactic(auto, using(crate::proofs::RowAt::row_at, crate::proofs::RowAt::no_row_at))]
-fn path_from(bodies: &[Body], from: Option<u32>) -> Result<Option<Path>, AllocError>
-    ensures { IfOk result (λ p. p ≡ path_from_bodies (map body_of bodies.now) from) }
+fn body_from(bodies: &[SharedBody], from: Option<u32>) -> Result<Option<SharedBody>, AllocError>
+    ensures { IfOk result (λ b. path_of b ≡ path_from (map body_of bodies.now) from) }
 {
     match from {
         None => Ok(None),
         Some(i) => match bodies.get(i as usize) {
             None => Ok(None),
-            Some(body) => Ok(Some(body.path.copied()?)),
+            Some(body) => Ok(Some(body.copied()?)),
         },
     }
 }
@@ -212,14 +211,14 @@ fn path_from(bodies: &[Body], from: Option<u32>) -> Result<Option<Path>, AllocEr
 /// The rows that are called for.
 pub fn rows_from(
     alloc: Global,
-    bodies: &[Body],
+    bodies: &[SharedBody],
     items: Vec<Item>,
     keys: &TrackKeys,
     sources: &Sources,
 ) -> Result<Vec<Row>, AllocError>
     ensures { IfOk result (λ v. rows_of v.items ≡ rows_from_all (map body_of bodies.now) (items_of items.items) keys.now sources.now) }
 {
-    let mut rows = Vec::new(alloc);
+    let mut rows = Vec::with_capacity(alloc, items.len())?;
     let mut keys = keys.as_slice();
     let mut sources = sources.as_slice();
     for item in items {
@@ -232,7 +231,7 @@ pub fn rows_from(
         rows.push(Row {
             item,
             key: key.copied()?,
-            from: path_from(bodies, *source)?,
+            from: body_from(bodies, *source)?,
         })?;
         keys = other_keys;
         sources = other_sources;
@@ -248,39 +247,47 @@ pub fn role_for(alloc: Global, row: &Row) -> Result<Role, Memory>
     Ok(Role::Row(row.key.copied()?, entry))
 }
 
+/// Whether a body is the row of an entry under its key.
+fn is_row(key: &TrackKey, entry: &Entry, role: &Role) -> bool
+    ensures { result ≡ same_row key.now (entry_of entry.now) (role_of role.now) }
+{
+    match role {
+        Role::Body => false,
+        Role::Row(own, row) => key.same(own) && same_entry(entry, row),
+        Role::Named(_) => false,
+    }
+}
+
+/// The body of a row that is kept. It is the one that stands, unless that is for another entry.
+fn kept_row(alloc: Global, body: &SharedBody, row: &Row) -> Result<SharedBody, Memory>
+    ensures path { IfOk result (λ b. b.path ≡ body.now.path) }
+    ensures role { IfOk result (λ b. role_of b.role ≡ role_for_row (row_of row.now)) }
+{
+    if is_row(&row.key, &row.item.entry, body.role()) {
+        Ok(body.copied()?)
+    } else {
+        let path = body.path().copied()?;
+        Ok(SharedBody::new(alloc, path, role_for(alloc, row)?)?)
+    }
+}
+
 /// The rows that are kept, in the order of their entries.
-pub fn kept_rows(alloc: Global, rows: &[Row]) -> Result<Vec<Body>, Memory>
+pub fn kept_rows(alloc: Global, rows: &[Row]) -> Result<Vec<SharedBody>, Memory>
     ensures { IfOk result (λ v. map body_of v.items ≡ kept_rows_of (rows_of rows.now)) }
 {
-    let mut kept = Vec::new(alloc);
+    let mut kept = Vec::with_capacity(alloc, rows.len())?;
     for row in rows {
-        if let Some(path) = &row.from {
-            kept.push(Body {
-                path: path.copied()?,
-                role: role_for(alloc, row)?,
-            })?;
+        if let Some(body) = &row.from {
+            kept.push(kept_row(alloc, body, row)?)?;
         }
     }
     Ok(kept)
 }
 
-/// Whether two of these keys are the same.
-fn has_double(alloc: Global, keys: &TrackKeys) -> Result<bool, Memory>
-    ensures { IfOk result (λ b. b ≡ has_double_of keys.now) }
-{
-    let mut set = IndexSet::new(alloc);
-    for key in keys.as_slice() {
-        if !set.insert(key.copied()?)? {
-            return Ok(true);
-        }
-    }
-    Ok(false)
-}
-
 /// Which rows go, and which row each entry comes from, unless two entries have one key. No two rows that stand have one.
 pub fn plan_rows(
     alloc: Global,
-    bodies: &[Body],
+    bodies: &[SharedBody],
     keys: &TrackKeys,
 ) -> Result<Result<Plan, Fault>, Memory>
     ensures plan { IfOk result (λ p. p ≡ as_fault (planned (keys_of_bodies (map body_of bodies.now)) keys.now)) }
@@ -288,6 +295,9 @@ pub fn plan_rows(
 {
     let old = keys_of(alloc, bodies)?;
     let _few = place_of(bodies.len())?;
+    if let Some(plan) = plan_spliced(alloc, &old, keys)? {
+        return Ok(Ok(plan));
+    }
     if has_double(alloc, &old)? {
         return Err(Memory::Worn);
     }

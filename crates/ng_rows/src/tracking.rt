@@ -1,13 +1,17 @@
 //! The entries of a repeat's collection as values, and their track keys (API: ngRepeat, "Tracking and Duplicates").
-ghost use Rattle.std.specs.Prelude.{ℕ, ◌≡◌, ◌<◌, ◌≤◌, [], length, Some, IfOk};
+ghost use Rattle.std.specs.Prelude.{◌≡◌, ◌<◌, ◌≤◌, [], ◌∷◌, length, pos, List, IfOk, IsTrue, Ok, OnOk};
 ghost use Rattle.ng_core.specs.Frames.{state_of, IsSound, Acts};
 ghost use Rattle.ng_base.specs.Faults.{is_memory};
 ghost use Rattle.ng_base.specs.Meets.{Meets};
-ghost use Rattle.ng_base.specs.Objects.{StandsAmong};
+ghost use Rattle.ng_base.specs.Objects.{Object, StandsAmong};
+ghost use Rattle.ng_base.specs.ViewOf.{view_of};
+ghost use Rattle.ng_base.specs.Views.{prim};
+ghost use Rattle.ng_base.specs.declared.value.Value.TheVariants.{Int, Undefined};
 ghost use Rattle.ng_drawing.specs.RolesOf.{entry_of, entries_of};
 ghost use Rattle.ng_rows.specs.RepeatRows.{item_made, items_made};
-ghost use Rattle.ng_rows.specs.Tracking.{index_name as index_name_of, key_value as key_value_of, track_locals as track_locals_of, plain_key as plain_key_of, track_key as track_key_of, track_keys as track_keys_of};
-ghost use Rattle.ng_rows.specs.TrackingOf.{item_of, items_of, EntriesStand, ItemsStand};
+ghost use Rattle.ng_rows.specs.Tracking.{index_name as index_name_of, key_value as key_value_of, track_locals as track_locals_of, plain_key as plain_key_of, key_local, tracked_by, track_key as track_key_of, track_keys as track_keys_of};
+ghost use Rattle.ng_rows.specs.TrackingOf.{item_of, items_of, AreLocals, EntriesStand, ItemsStand};
+ghost use Rattle.ng_language.specs.Texts.{to_text as to_text_of};
 ghost use Rattle.ng_language.specs.Views.{ViewStands};
 ghost use Rattle.ng_parts.specs.RepeatedOf.{track_of, repeated_of};
 ghost use Rattle.ng_value.specs.Snaps.{snap_of};
@@ -23,7 +27,8 @@ use ng_blocks::{TrackKey, TrackKeys};
 use ng_core::binding::value_in;
 use ng_core::core_state::Core;
 use ng_core::keeping::keep;
-use ng_drawing::roles::Entry;
+use ng_drawing::roles::{Entry, Role};
+use ng_instances::instances::SharedBody;
 use ng_parts::{Repeated, Track};
 use ng_store::store::Store;
 use ng_value::snapshot::Snap;
@@ -65,7 +70,7 @@ pub fn make_items(core: &mut Core, alloc: Global, entries: Vec<Entry>) -> Result
     ensures grown { length core.old.store ≤ length core.new.store }
     ensures stands { IfOk result (λ v. ItemsStand (length core.new.store) (items_of v.items)) }
 {
-    let mut items = Vec::new(alloc);
+    let mut items = Vec::with_capacity(alloc, entries.len())?;
     for entry in entries {
         items.push(make_item(core, alloc, entry)?)?;
     }
@@ -91,23 +96,49 @@ pub(crate) fn key_value(i: u32, name: &Option<Txt>) -> Result<Value, AllocError>
     }
 }
 
-/// The locals of a track expression.
-fn track_locals(
-    alloc: Global,
+/// The place of an entry as programs see it.
+fn place_value(i: u32) -> Value
+    ensures { result ≡ Int (pos i) }
+{
+    Value::Int(i as i64)
+}
+
+/// The locals of a track expression, by their names alone.
+fn track_names(alloc: Global, repeated: &Repeated) -> Result<Locals, AllocError>
+    ensures { IfOk result (λ ls. ls ≡ (index_name_of, Undefined) ∷ (repeated.now.name, Undefined) ∷ key_local repeated.now.key Undefined) }
+{
+    let mut locals = Locals::new(alloc);
+    locals.push(index_name(alloc)?, Value::Undefined)?;
+    locals.push(repeated.name.copied()?, Value::Undefined)?;
+    if let Some(key) = &repeated.key {
+        locals.push(key.copied()?, Value::Undefined)?;
+    }
+    Ok(locals)
+}
+
+/// The locals of a track expression get the values of an entry.
+fn track_values(
+    locals: &mut Locals,
     repeated: &Repeated,
     i: u32,
     item: &Item,
-) -> Result<Locals, AllocError>
-    ensures locals { IfOk result (λ ls. ls ≡ track_locals_of (repeated_of repeated.now) i (item_of item.now)) }
-    ensures stands { (n : ℕ) → StandsAmong n item.now.value → IfOk result (LocalsStand n) }
+) -> Result<(), AllocError>
+    requires { AreLocals (repeated_of repeated.now) locals.old }
+    ensures locals { OnOk result (locals.new ≡ track_locals_of (repeated_of repeated.now) i (item_of item.now)) }
+    ensures names { AreLocals (repeated_of repeated.now) locals.new }
 {
-    let mut locals = Locals::new(alloc);
-    locals.push(index_name(alloc)?, Value::Int(i as i64))?;
-    locals.push(repeated.name.copied()?, item.value.copied()?)?;
-    if let Some(key) = &repeated.key {
-        locals.push(key.copied()?, key_value(i, &item.entry.name)?)?;
+    let value = item.value.copied()?;
+    let key = key_value(i, &item.entry.name)?;
+    let place = place_value(i);
+    locals.put(0, place);
+    locals.put(1, value);
+    match &repeated.key {
+        None => Ok(()),
+        Some(_) => {
+            locals.put(2, key);
+            Ok(())
+        }
     }
-    Ok(locals)
 }
 
 /// The key of an entry without a track expression.
@@ -124,42 +155,107 @@ fn plain_key(i: u32, name: &Option<Txt>, value: &Snap) -> Result<TrackKey, Alloc
     }
 }
 
+/// The key of the row at a place.
+fn key_at(bodies: &[SharedBody], i: u32) -> Option<&TrackKey> {
+    match bodies.get(i as usize) {
+        None => None,
+        Some(body) => match body.role() {
+            Role::Body | Role::Named(_) => None,
+            Role::Row(key, _) => Some(key),
+        },
+    }
+}
+
+/// Whether a number has this text, told without spelling it.
+#[tactic(auto, unfolding(ng_language::specs::Unfolding::level_limit, ng_language::specs::Unfolding::node_limit))]
+fn spells(value: &Value, text: &Txt) -> bool
+    ensures { IsTrue result → (objects : List Object) → to_text_of objects (prim value.now) ≡ Ok text.now }
+{
+    match value {
+        Value::Int(n) => text.is_number(*n),
+        _ => false,
+    }
+}
+
+/// The text of a number, which is shared where a key has it.
+fn shared_text(
+    alloc: Global,
+    store: &Store,
+    value: &View,
+    number: &Value,
+    text: &Txt,
+) -> Result<Txt, Fault>
+    requires stands { ViewStands (length store.now) (view_of value.now) }
+    requires number { view_of value.now ≡ prim number.now }
+    ensures { Meets is_memory (to_text_of store.now (view_of value.now)) result }
+{
+    if spells(number, text) {
+        return Ok(text.copied()?);
+    }
+    to_text(alloc, store, value)
+}
+
+/// The text of a value, which is shared where the key that is guessed has it.
+fn text_by(
+    alloc: Global,
+    store: &Store,
+    value: &View,
+    guess: Option<&TrackKey>,
+) -> Result<Txt, Fault>
+    requires { ViewStands (length store.now) (view_of value.now) }
+    ensures { Meets is_memory (to_text_of store.now (view_of value.now)) result }
+{
+    match value {
+        View::Prim(number) => match guess {
+            Some(TrackKey::Text(text)) => shared_text(alloc, store, value, number, text),
+            _ => to_text(alloc, store, value),
+        },
+        View::List(_) => to_text(alloc, store, value),
+        View::Rec(_) => to_text(alloc, store, value),
+    }
+}
+
 /// The key of an entry by a track expression: its text.
 #[tactic(auto, using(ng_view::proofs::Pure::pure_are, ng_view::proofs::Pure::known_are))]
 fn tracked_key(
     alloc: Global,
     store: &Store,
     object: Oid,
-    repeated: &Repeated,
+    locals: &Locals,
     track: &Track,
-    i: u32,
-    item: &Item,
+    guess: Option<&TrackKey>,
 ) -> Result<TrackKey, Fault>
     requires object { object.0 < length store.now }
-    requires item { StandsAmong (length store.now) item.now.value }
-    ensures { Meets is_memory (track_key_of store.now object.0 (repeated_of repeated.now) (Some (track_of track.now)) i (item_of item.now)) result }
+    requires locals { LocalsStand (length store.now) locals.now }
+    ensures { Meets is_memory (tracked_by store.now object.0 locals.now (track_of track.now)) result }
 {
-    let locals = track_locals(alloc, repeated, i, item)?;
-    let value = view(alloc, store, object, &locals, track.program())?;
-    Ok(TrackKey::Text(to_text(alloc, store, &value)?))
+    let value = view(alloc, store, object, locals, track.program())?;
+    Ok(TrackKey::Text(text_by(alloc, store, &value, guess)?))
 }
 
-/// The key of an entry.
+/// The key of an entry. Where it has a track expression the locals get the entry's values.
 fn track_key(
     alloc: Global,
     store: &Store,
     object: Oid,
     repeated: &Repeated,
+    locals: &mut Locals,
     i: u32,
     item: &Item,
+    guess: Option<&TrackKey>,
 ) -> Result<TrackKey, Fault>
     requires object { object.0 < length store.now }
     requires item { StandsAmong (length store.now) item.now.value }
-    ensures { Meets is_memory (track_key_of store.now object.0 (repeated_of repeated.now) (repeated_of repeated.now).track i (item_of item.now)) result }
+    requires names { AreLocals (repeated_of repeated.now) locals.old }
+    ensures key { Meets is_memory (track_key_of store.now object.0 (repeated_of repeated.now) (repeated_of repeated.now).track i (item_of item.now)) result }
+    ensures names { AreLocals (repeated_of repeated.now) locals.new }
 {
     match &repeated.track {
         None => Ok(plain_key(i, &item.entry.name, &item.entry.value)?),
-        Some(track) => tracked_key(alloc, store, object, repeated, track, i, item),
+        Some(track) => {
+            track_values(locals, repeated, i, item)?;
+            tracked_key(alloc, store, object, locals, track, guess)
+        }
     }
 }
 
@@ -174,21 +270,34 @@ pub(crate) fn place_of(i: usize) -> Result<u32, Memory>
     }
 }
 
-/// The keys of entries, in order.
+/// The keys of entries, in order. What rows have of them already may be guessed to stand in the order of the entries.
 pub fn track_keys(
     alloc: Global,
     store: &Store,
     object: Oid,
     repeated: &Repeated,
     items: &[Item],
+    guesses: &[SharedBody],
 ) -> Result<TrackKeys, Fault>
     requires object { object.0 < length store.now }
     requires items { ItemsStand (length store.now) (items_of items.now) }
     ensures { Meets is_memory (track_keys_of store.now object.0 (repeated_of repeated.now) 0 [] (items_of items.now)) result }
 {
     let mut keys = TrackKeys::new(alloc);
+    let mut locals = track_names(alloc, repeated)?;
     for i in 0..items.len() {
-        let key = track_key(alloc, store, object, repeated, place_of(i)?, &items[i])?;
+        let place = place_of(i)?;
+        let guess = key_at(guesses, place);
+        let key = track_key(
+            alloc,
+            store,
+            object,
+            repeated,
+            &mut locals,
+            place,
+            &items[i],
+            guess,
+        )?;
         keys.push(key)?;
     }
     Ok(keys)

@@ -11,7 +11,7 @@ pub mod LiveNodes
 pub mod Cuts
 pub mod Linkings
 pub mod WholeTold
-pub mod Functions
+pub mod FunctionSound
 pub mod Binds
 pub mod BoundTexts
 pub mod SetTexts

@@ -59,13 +59,15 @@ loop-i-preserved c =
     let outs : List ℕ = map (λ (n : ScopeId). n.0) spot.outsides.now in
     let before : Filled = filled_to l.at (firing l.works l.told) in
     let done = c.in_ok-at.ensures in
+    let place = c.in_ok-place.ensures in
     let names = row_names repeated count l.i r.item in
     let next : l.i + 1 ≡ suc l.i = omega arith in
     record {
       fired = ap (λ (f : Filled). (rows_fired holder scope outs o which repeated count (l.i + 1) rest f).firing) done.fired
+          ∙ (ap (λ (k : ℕ). (rows_fired holder scope outs o which repeated count (l.i + 1) rest (row_fired holder scope outs o which r (row_names repeated count k r.item) r.from before)).firing) place
           ∙ (ap (λ (n : ℕ). (rows_fired holder scope outs o which repeated count n rest (row_fired holder scope outs o which r names r.from before)).firing) next
-          ∙ (sym (ap (λ (rs : List Row). (rows_fired holder scope outs o which repeated count l.i rs before).firing) e) ∙ l.invariant.fired));
-      few = done.few;
+          ∙ (sym (ap (λ (rs : List Row). (rows_fired holder scope outs o which repeated count l.i rs before).firing) e) ∙ l.invariant.fired)));
+      few = (let most = done.few in omega (arith, most, place));
       keeps = keeps_then holder (state_of first).instances (state_of l.works).instances (state_of w).instances l.invariant.keeps done.keeps;
       others = others_then holder (state_of first).instances (state_of l.works).instances (state_of w).instances l.invariant.others done.others;
       rows = rows_wider (length l.works.core.store) (length w.core.store) done.grown rest (subst (λ (rs : List Row). RowsOfStand (length l.works.core.store) rs) e l.invariant.rows).1;

@@ -1,4 +1,4 @@
-use Rattle.std.proofs.Common.{◌≡◌, ◌≤◌, ◌<◌, ◌∙◌, ℕ, List, [], Bool, sym, ap, refl, true, false, bytes_eq, map, drop, length, get_or, arith}
+use Rattle.std.proofs.Common.{◌≡◌, ◌≤◌, ◌<◌, ◌∙◌, ℕ, List, [], Bool, sym, ap, refl, true, false, bytes_eq, map, drop, length, arith}
 use Rattle.std.specs.Prelude.{not}
 use Rattle.std.proofs.lemmas.List.{drop_all, length-map}
 use Rattle.ng_base.specs.Order.{path_cmp-eq}
@@ -18,10 +18,10 @@ was_other : (t u : Bool) → u ≡ not t → u ≡ true → t ≡ false
 was_other false u e f = refl
 was_other true u e f = let two : false ≡ true = sym e ∙ f in cc
 
--- as two bodies have their paths
-on_paths : (b c d e : code.Body) (t : Bool) → b ≡ d → c ≡ e → bytes_eq d.path e.path ≡ t → is_path b.path c.path ≡ t
-on_paths b c d e t left right test =
-    sym (path_cmp-eq b.path c.path) ∙ (ap (λ (x : code.Body). bytes_eq x.path c.path) left ∙ (ap (λ (x : code.Body). bytes_eq d.path x.path) right ∙ test))
+-- what a test of two paths tells of the paths that they are
+on_paths : (p q left right : List ℕ) (t : Bool) → left ≡ p → right ≡ q → bytes_eq left right ≡ t → is_path p q ≡ t
+on_paths p q left right t is_left is_right test =
+    sym (path_cmp-eq p q) ∙ (ap (λ (x : List ℕ). bytes_eq x q) (sym is_left) ∙ (ap (bytes_eq left) (sym is_right) ∙ test))
 
 pub returns-then-old-new : goal.returns-then-old-new
 returns-then-old-new c =
@@ -37,10 +37,10 @@ returns-then-ne c =
     let b = c.index-old-i.result in
     let d = c.index-new-i.result in
     let within : i < length new = omega (arith, c.loop-i-test.true, c.if-old-new.false) in
-    let p : List ℕ = (get_or old i b).path in
-    let q : List ℕ = (get_or new i d).path in
-    let other : bytes_eq p q ≡ false = was_other (bytes_eq p q) c.ne.result c.ne.ensures c.if-ne.true in
-    sym (alike_next old new i b d false c.loop-i-test.true within c.index-old-i.is c.index-new-i.is (on_paths b d (get_or old i b) (get_or new i d) false c.index-old-i.is c.index-new-i.is other)) ∙ c.loop-i.invariant
+    let left : List ℕ = c.path.result.now in
+    let right : List ℕ = c.path-in-loop-i.result.now in
+    let other : bytes_eq left right ≡ false = was_other (bytes_eq left right) c.ne.result c.ne.ensures c.if-ne.true in
+    sym (alike_next old new i b d false c.loop-i-test.true within c.index-old-i.is c.index-new-i.is (on_paths b.path d.path left right false c.path.ensures c.path-in-loop-i.ensures other)) ∙ c.loop-i.invariant
 
 pub loop-i-preserved : goal.loop-i-preserved
 loop-i-preserved c =
@@ -50,10 +50,10 @@ loop-i-preserved c =
     let b = c.index-old-i.result in
     let d = c.index-new-i.result in
     let within : i < length new = omega (arith, c.loop-i-test.true, c.if-old-new.false) in
-    let p : List ℕ = (get_or old i b).path in
-    let q : List ℕ = (get_or new i d).path in
-    let same : bytes_eq p q ≡ true = was_same (bytes_eq p q) c.ne.result c.ne.ensures c.if-ne.false in
-    sym (alike_next old new i b d true c.loop-i-test.true within c.index-old-i.is c.index-new-i.is (on_paths b d (get_or old i b) (get_or new i d) true c.index-old-i.is c.index-new-i.is same)) ∙ c.loop-i.invariant
+    let left : List ℕ = c.path.result.now in
+    let right : List ℕ = c.path-in-loop-i.result.now in
+    let same : bytes_eq left right ≡ true = was_same (bytes_eq left right) c.ne.result c.ne.ensures c.if-ne.false in
+    sym (alike_next old new i b d true c.loop-i-test.true within c.index-old-i.is c.index-new-i.is (on_paths b.path d.path left right true c.path.ensures c.path-in-loop-i.ensures same)) ∙ c.loop-i.invariant
 
 pub returns : goal.returns
 returns c =

@@ -15,7 +15,7 @@ loop-body-preserved c =
     let b = c.body-item.result in
     let n = c.in_ok-place_in.field-0 in
     let is = c.loop-body.order in
-    let one : IsPlaceOf old b.path n = c.in_ok-place_in.ensures old c.in_ok-places.ensures in
+    let one : IsPlaceOf old b.path n = subst (λ (p : List ℕ). IsPlaceOf old p n) c.path.ensures (c.in_ok-place_in.ensures old c.in_ok-places.ensures) in
     subst (λ (js : List ℕ). AreAt old js (map body_of (take (k + 1) new))) (sym c.in_ok-push.ensures.ok)
     (subst (λ (bs : List Body). AreAt old (is ++ n ∷ []) bs) (sym (seen_more new k b c.loop-body-test.true c.body-item.is)) (at_more old is (map body_of (take k new)) n (body_of b) one c.loop-body.invariant))
 

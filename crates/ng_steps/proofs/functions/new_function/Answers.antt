@@ -1,5 +1,5 @@
 use Rattle.std.proofs.Common.{refl}
-use Rattle.ng_steps.proofs.Functions.{function_sound}
+use Rattle.ng_steps.proofs.FunctionSound.{function_sound}
 use Rattle.ng_steps.proofs.functions.new_function.Goals as goal
 
 pub returns-clause-sound : goal.returns-clause-sound

@@ -4,7 +4,7 @@ use Rattle.ng_link.specs.Unlinking.{IsBodyAt}
 use Rattle.ng_instances.specs.declared.instances.Body.{Body}
 use Rattle.ng_instances.specs.declared.instances.OutletState.{OutletState}
 use Rattle.ng_link.proofs.HeldCut.{seen_at}
-use Rattle.ng_link.proofs.unlinking.find_body.Goals as goal
+use Rattle.ng_link.proofs.unlinking.look_for.Goals as goal
 
 pub returns-in-Some : goal.returns-in-Some
 returns-in-Some c =

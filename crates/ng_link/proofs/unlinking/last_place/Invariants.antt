@@ -1,7 +1,7 @@
 use Rattle.std.proofs.Common.{◌≡◌, ◌≤◌, length, map, drop}
 use Rattle.ng_link.specs.Standing.{body_count}
 use Rattle.ng_instances.specs.InstanceOf.{body_of}
-use Rattle.ng_link.proofs.unlinking.place_among.Given as goal
+use Rattle.ng_link.proofs.unlinking.last_place.Given as goal
 
 abbrev pub invariant-loop-i : goal.invariant-loop-i
 invariant-loop-i l = record {

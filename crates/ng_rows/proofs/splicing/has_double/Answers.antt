@@ -1,7 +1,7 @@
 use Rattle.std.proofs.Common.{arith, ap, sym, ◌∙◌, ◌<◌, length}
 use Rattle.ng_blocks.proofs.Doubles.{seen_before, still_all, still_differ}
 use Rattle.ng_blocks.specs.Plans.{has_double}
-use Rattle.ng_rows.proofs.rows.has_double.Goals as goal
+use Rattle.ng_rows.proofs.splicing.has_double.Goals as goal
 
 pub returns-then-not-branch : goal.returns-then-not-branch
 returns-then-not-branch c =
