@@ -88,23 +88,23 @@ fn data_fault(refused: JsonFault) -> AppFault
 }
 
 /// The core of the page of this data, a JSON object.
-fn begin(alloc: Global, data_member: &Json) -> Result<Core, AppFault>
-    ensures state { Gives is_app_want state_of (core_with (view data_member.now)) result }
+fn begin(alloc: Global, data_member: Json) -> Result<Core, AppFault>
+    ensures state { Gives is_app_want state_of (core_with (view data_member)) result }
     ensures fresh { IfOk result IsFresh }
 {
-    match Core::new(alloc, data_member) {
+    match Core::of_facts(alloc, data_member) {
         Ok(core) => Ok(core),
         Err(refused) => Err(data_fault(refused)),
     }
 }
 
 /// The core of the page whose data, if it is there, is this.
-fn read_core(alloc: Global, data_member: Option<&Json>) -> Result<Core, AppFault>
-    ensures state { Gives is_app_want state_of (core_with (data_given (option_map (λ v. view v.now) data_member.entry))) result }
+fn read_core(alloc: Global, data_member: Option<Json>) -> Result<Core, AppFault>
+    ensures state { Gives is_app_want state_of (core_with (data_given (option_map view data_member))) result }
     ensures fresh { IfOk result IsFresh }
 {
     match data_member {
-        None => begin(alloc, &Json::Object(Map::new(alloc))),
+        None => begin(alloc, Json::Object(Map::new(alloc))),
         Some(value) => begin(alloc, value),
     }
 }
@@ -153,10 +153,10 @@ fn read_entries(alloc: Global, members: &Map<String, Json>) -> Result<Written, A
 /// The data is read, then the definitions of directives, and then the templates and the programs, member by member.
 fn read_programs(
     alloc: Global,
-    data_member: Option<&Json>,
+    data_member: Option<Json>,
     entries: Written,
 ) -> Result<App, AppFault>
-    ensures { Gives is_app_want facts (facts_with (data_given (option_map (λ v. view v.now) data_member.entry)) (written_of entries)) result }
+    ensures { Gives is_app_want facts (facts_with (data_given (option_map view data_member)) (written_of entries)) result }
 {
     let Written {
         templates,
@@ -187,34 +187,40 @@ fn read_programs(
     })
 }
 
-/// The application with these members, which are known.
-fn read_known(alloc: Global, members: &Map<String, Json>) -> Result<App, AppFault>
-    ensures { Gives is_app_want facts (facts_of_format (members_view members.now.entries)) result }
+/// The data, which is taken out of the members; the others are dropped.
+fn data_of(mut members: Map<String, Json>) -> Option<Json>
+    ensures { option_map view result ≡ get_member (codes "data") (members_view members.entries) }
 {
-    if !has_format(members) {
+    members.remove("data")
+}
+
+/// The application with these members, which are known.
+fn read_known(alloc: Global, members: Map<String, Json>) -> Result<App, AppFault>
+    ensures { Gives is_app_want facts (facts_of_format (members_view members.entries)) result }
+{
+    if !has_format(&members) {
         return Err(fault(Member::Format, AppKind::Shape));
     }
-    let data_member = member(members, "data");
-    if !is_data(data_member) {
+    if !is_data(member(&members, "data")) {
         return Err(fault(Member::Facts, AppKind::Shape));
     }
-    let entries = read_entries(alloc, members)?;
-    read_programs(alloc, data_member, entries)
+    let entries = read_entries(alloc, &members)?;
+    read_programs(alloc, data_of(members), entries)
 }
 
 /// The application with these members.
-fn read_members_of(alloc: Global, members: &Map<String, Json>) -> Result<App, AppFault>
-    ensures { Gives is_app_want facts (facts_of_object (Some (members_view members.now.entries))) result }
+fn read_members_of(alloc: Global, members: Map<String, Json>) -> Result<App, AppFault>
+    ensures { Gives is_app_want facts (facts_of_object (Some (members_view members.entries))) result }
 {
-    if !all_known(members) {
+    if !all_known(&members) {
         return Err(fault(Member::File, AppKind::Shape));
     }
     read_known(alloc, members)
 }
 
-/// The application that is this JSON.
-fn read_json(alloc: Global, value: &Json) -> Result<App, AppFault>
-    ensures { Gives is_app_want facts (facts_of_object (as_object (view value.now))) result }
+/// The application that is this JSON, which is taken, so that the data is dropped as it is read.
+fn read_json(alloc: Global, value: Json) -> Result<App, AppFault>
+    ensures { Gives is_app_want facts (facts_of_object (as_object (view value))) result }
 {
     match value {
         Json::Object(members) => read_members_of(alloc, members),
@@ -240,6 +246,15 @@ fn parsed(alloc: Global, bytes: &[u8]) -> Result<Json, AppFault>
     }
 }
 
+/// The JSON of an application whose bytes are taken, and dropped once it is read.
+fn parsed_out_of(alloc: Global, bytes: Vec<u8>) -> Result<Json, AppFault>
+    ensures { MatchResult result
+        (λ v. facts_of bytes.items ≡ facts_of_object (as_object (view v)))
+        (λ e. Gives is_app_want facts (facts_of bytes.items) (Err e)) }
+{
+    parsed(alloc, bytes.as_slice())
+}
+
 impl App {
     /// Reads an application file. The refusals come in this order: JSON that is broken; no object, or a member of another name; a
     /// member that is not of its kind, in the order of the table; a number of the data that is not whole or out of range, and
@@ -251,7 +266,17 @@ impl App {
         ensures { Gives is_app_want facts (facts_of bytes.now) result }
     {
         match parsed(alloc, bytes) {
-            Ok(value) => read_json(alloc, &value),
+            Ok(value) => read_json(alloc, value),
+            Err(fault) => Err(fault),
+        }
+    }
+
+    /// The same of bytes that are taken: they are dropped before what they spell is read into a store.
+    pub fn take(alloc: Global, bytes: Vec<u8>) -> Result<App, AppFault>
+        ensures { Gives is_app_want facts (facts_of bytes.items) result }
+    {
+        match parsed_out_of(alloc, bytes) {
+            Ok(value) => read_json(alloc, value),
             Err(fault) => Err(fault),
         }
     }

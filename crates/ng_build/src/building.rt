@@ -158,7 +158,7 @@ fn build_bound(
     ensures builds { OnOk result (Builds (parent_name parent) (content_shape (keys_by keys.now) (next_name dom.old) unfilled (bound b)) 1 dom.old dom.new) }
     ensures faults { IfErr result (λ e. is_memory e ≡ true) }
 {
-    let mut drawn = Vec::new(alloc);
+    let mut drawn = Vec::with_capacity(alloc, 1)?;
     drawn.push(DrawnPiece::Hole(key_at(keys, b as u64)?))?;
     make(
         dom,

@@ -65,7 +65,7 @@ pub(crate) fn copied_pieces(
     ensures pieces { IfOk result (λ v. v.items ≡ linked_pieces (keys_by keys.now) (map seen_piece pieces.now)) }
     ensures faults { IfErr result (λ e. is_memory e ≡ true) }
 {
-    let mut copy = Vec::new(alloc);
+    let mut copy = Vec::with_capacity(alloc, pieces.len())?;
     for piece in pieces {
         copy.push(copied_piece(keys, piece)?)?;
     }
@@ -76,7 +76,7 @@ pub(crate) fn copied_pieces(
 fn copied_keys(alloc: Global, keys: &[Key], numbers: &[u32]) -> Result<Vec<Key>, Memory>
     ensures { IfOk result (λ v. v.items ≡ map (keys_by keys.now) numbers.now) }
 {
-    let mut all = Vec::new(alloc);
+    let mut all = Vec::with_capacity(alloc, numbers.len())?;
     for n in numbers {
         all.push(key_at(keys, *n as u64)?)?;
     }
@@ -101,7 +101,7 @@ fn copied_hidings(
 ) -> Result<Vec<Hiding>, Memory>
     ensures { IfOk result (λ v. map hiding_of v.items ≡ map (linked_hiding (keys_by keys.now)) (map seen_hiding hidings.now)) }
 {
-    let mut copy = Vec::new(alloc);
+    let mut copy = Vec::with_capacity(alloc, hidings.len())?;
     for hiding in hidings {
         copy.push(copied_hiding(keys, hiding)?)?;
     }
@@ -167,18 +167,20 @@ pub(crate) fn copied_attributes(
     ensures attributes { IfOk result (λ v. map drawn_of v.items ≡ linked_values (keys_by keys.now) (map attribute_of attributes.now)) }
     ensures faults { IfErr result (λ e. is_memory e ≡ true) }
 {
-    let mut copy = Vec::new(alloc);
+    let mut copy = Vec::with_capacity(alloc, attributes.len())?;
     for attribute in attributes {
         copy.push(copied_attribute(alloc, keys, attribute)?)?;
     }
     Ok(copy)
 }
 
-/// Adds words at the end. The first are shared.
+/// Adds words at the end. The first are shared, for as long as nothing is added to them.
 pub fn add_words(text: &mut Txt, words: &Txt) -> Result<(), AllocError>
     ensures { IfOk result (λ _. text.new ≡ text.old ++ words.now) }
 {
-    if text.is_empty() {
+    if words.is_empty() {
+        Ok(())
+    } else if text.is_empty() {
         *text = words.copied()?;
         Ok(())
     } else {

@@ -64,9 +64,9 @@ fn core_over(alloc: Global, store: Store, scopes: Scopes) -> Core
 }
 
 /// The members of the data become names of the root scope's object.
-fn enter(alloc: Global, store: &mut Store, facts: &Json) -> Result<(), JsonFault>
+fn enter(alloc: Global, store: &mut Store, facts: Json) -> Result<(), JsonFault>
     requires { 0 < length store.old }
-    ensures entered { Reads (facts_entered store.old 0 (members_in (view facts.now))) store.new result }
+    ensures entered { Reads (facts_entered store.old 0 (members_in (view facts))) store.new result }
     ensures grown { length store.old ≤ length store.new }
 {
     match facts {
@@ -77,10 +77,10 @@ fn enter(alloc: Global, store: &mut Store, facts: &Json) -> Result<(), JsonFault
 
 impl Core {
     /// The core of a page that begins with data, a JSON object: it is the root scope's own object (guide: Scopes, "Scope
-    /// Hierarchies"), which keeps its `$id`, `$parent` and `$root`.
+    /// Hierarchies"), which keeps its `$id`, `$parent` and `$root`. The data is taken, and dropped as it is read.
     #[tactic(auto, using(crate::proofs::FirstCore::first))]
-    pub fn new(alloc: Global, facts: &Json) -> Result<Core, JsonFault>
-        ensures data { BeginsWith (λ core. core.store) (first_objects (view facts.now)) result }
+    pub fn of_facts(alloc: Global, facts: Json) -> Result<Core, JsonFault>
+        ensures data { BeginsWith (λ core. core.store) (first_objects (view facts)) result }
         ensures state { IfOk result (λ core. state_of core ≡ first_state core.store) }
         ensures sound { IfOk result IsSound }
         ensures depth { IfOk result (λ core. core.depth ≡ 0) }
@@ -90,6 +90,16 @@ impl Core {
         scopes.name_root(&mut store)?;
         enter(alloc, &mut store, facts)?;
         Ok(core_over(alloc, store, scopes))
+    }
+
+    /// The same core, of data that is kept: of a copy of it.
+    pub fn new(alloc: Global, facts: &Json) -> Result<Core, JsonFault>
+        ensures data { BeginsWith (λ core. core.store) (first_objects (view facts.now)) result }
+        ensures state { IfOk result (λ core. state_of core ≡ first_state core.store) }
+        ensures sound { IfOk result IsSound }
+        ensures depth { IfOk result (λ core. core.depth ≡ 0) }
+    {
+        Core::of_facts(alloc, facts.clone()?)
     }
 
     /// The objects.

@@ -126,7 +126,7 @@ pub fn accept(alloc: Global, inputs: Inputs) -> Result<Accepted, Refusal>
     ensures sound { IfOk result (λ a. AreSound (entries_of a.commands)) }
 {
     let source = read(alloc, inputs.template.as_slice())?;
-    let app = App::read(alloc, inputs.application.as_slice())?;
+    let app = App::take(alloc, inputs.application)?;
     let template = compile(alloc, &source, app.registry(), false)?;
     let commands = read_commands(alloc, inputs.script.as_slice())?;
     Ok(Accepted {

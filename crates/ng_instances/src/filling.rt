@@ -41,7 +41,7 @@ pub fn copied_bodies(alloc: Global, bodies: &[SharedBody]) -> Result<Vec<SharedB
 pub fn copied_scopes(alloc: Global, scopes: &[ScopeId]) -> Result<Vec<ScopeId>, AllocError>
     ensures { IfOk result (λ v. v.items ≡ scopes.now) }
 {
-    let mut copies = Vec::new(alloc);
+    let mut copies = Vec::with_capacity(alloc, scopes.len())?;
     for scope in scopes {
         copies.push(*scope)?;
     }

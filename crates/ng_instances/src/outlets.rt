@@ -76,7 +76,7 @@ impl Ground<'_> {
     fn all_outside(&self, alloc: Global, outsides: &[Outside]) -> Result<Vec<ScopeId>, AllocError>
         ensures { IfOk result (λ v. map (λ s. s.0) v.items ≡ map (outside_in_ground (ground_of self.now)) (map outside_of outsides.now)) }
     {
-        let mut all = Vec::new(alloc);
+        let mut all = Vec::with_capacity(alloc, outsides.len())?;
         for outside in outsides {
             all.push(self.outside(*outside))?;
         }
@@ -175,9 +175,9 @@ fn outlets_at(
 ) -> Result<Vec<OutletState>, AllocError>
     ensures { IfOk result (λ v. map outlet_of v.items ≡ outlets_on origin.now (ground_of ground.now) serials.now (fragment_of fragment.now) names.now) }
 {
-    let mut made = Vec::new(alloc);
     let mut left = names;
     let outlets = fragment.outlets();
+    let mut made = Vec::with_capacity(alloc, outlets.len())?;
     for i in 0..outlets.len() {
         match left.split_first() {
             None => return Ok(made),

@@ -1,10 +1,11 @@
 //! The sites of an instance: where each is drawn, and that it is watched.
-ghost use Rattle.std.specs.Prelude.{◌≡◌, List, [], map, true, OnOk, IfErr, IfOk, option_map};
+ghost use Rattle.std.specs.Prelude.{◌≡◌, List, [], Some, map, true, OnOk, IfErr, IfOk, option_map};
 ghost use Rattle.ng_base.specs.Faults.{is_memory};
 ghost use Rattle.ng_compose.specs.Kept.{Named};
 ghost use Rattle.ng_parts.specs.SiteOf.{site_of};
 ghost use Rattle.ng_watch.specs.Seen.{watching_of};
-ghost use Rattle.ng_watch.specs.Table.{watchers_of};
+ghost use Rattle.ng_watch.specs.Table.{watchers_of, with_kept, with_watch};
+ghost use Rattle.ng_value.specs.Snaps.{snap_of};
 ghost use Rattle.ng_instances.specs.RowOf.{row_of};
 ghost use Rattle.ng_instances.specs.Rows.{watch_kind, kind_against, kind_with, watching_site, with_row, with_sites, spots_by};
 ghost use Rattle.ng_instances.specs.Instances.{is_site};
@@ -117,6 +118,17 @@ pub struct Row {
     pub kept: Option<Snap>,
 }
 
+/// A watcher is added that has kept a snapshot already.
+fn add_kept(watchers: &mut Watchers, key: Key, watch: Watch, kept: Snap) -> Result<(), Fault>
+    ensures added { OnOk result (watchers_of watchers.new ≡ with_kept key (Some (snap_of kept)) (with_watch key (watching_of watch) (watchers_of watchers.old))) }
+    ensures faults { IfErr result (λ e. is_memory e ≡ true) }
+{
+    let copy = copied_key(&key)?;
+    watchers.add(key, watch)?;
+    let _ = watchers.keep(&copy, kept);
+    Ok(())
+}
+
 /// A site is watched.
 fn watch_one(watchers: &mut Watchers, alloc: Global, row: Row, site: &Site) -> Result<(), Fault>
     ensures added { OnOk result (watchers_of watchers.new ≡ with_row (row_of row) (site_of site.now) (watchers_of watchers.old)) }
@@ -129,12 +141,10 @@ fn watch_one(watchers: &mut Watchers, alloc: Global, row: Row, site: &Site) -> R
         kept,
     } = row;
     let watch = watch_of(alloc, object, way, site)?;
-    let copy = copied_key(&key)?;
-    watchers.add(key, watch)?;
-    if let Some(kept) = kept {
-        let _ = watchers.keep(&copy, kept);
+    match kept {
+        None => Ok(watchers.add(key, watch)?),
+        Some(kept) => add_kept(watchers, key, watch, kept),
     }
-    Ok(())
 }
 
 /// Sites are watched, one after another.

@@ -129,7 +129,7 @@ pub(crate) fn site_keys(
     requires { IsGrounded (length core.now.scopes) (ground_of ground.now) }
     ensures { IfOk result (λ v. v.items ≡ keys_on core.now.scopes (fragment_of fragment.now) (ground_of ground.now) 0 serials.now) }
 {
-    let mut keys = Vec::new(alloc);
+    let mut keys = Vec::with_capacity(alloc, serials.len())?;
     for i in 0..serials.len() {
         keys.push(site_key(core, ground, fragment.mark(i), serials[i])?)?;
     }
@@ -172,7 +172,7 @@ fn rows_on(
     requires bounds { AllStand (length core.now.scopes) (registered_of made.now).bounds }
     ensures { IfOk result (λ v. map row_of v.items ≡ rows_from core.now.scopes (fragment_of fragment.now) (registered_of made.now) 0 serials.now) }
 {
-    let mut rows = Vec::new(alloc);
+    let mut rows = Vec::with_capacity(alloc, serials.len())?;
     for i in 0..serials.len() {
         rows.push(site_row(alloc, core, ground, fragment.mark(i), made, i, serials[i])?)?;
     }

@@ -1,3 +1,4 @@
 pub mod Places
 pub mod Stand
 pub mod Faults
+pub mod Indices

@@ -1,11 +1,12 @@
 //! What stands under a name of a value.
-ghost use Rattle.std.specs.Prelude.{◌≡◌, ◌<◌, ℕ, length, map, IfOk, Some, slice_get};
+ghost use Rattle.std.specs.Prelude.{◌≡◌, ◌<◌, ℕ, length, map, IfOk, IfSome, Ok, Some, slice_get, true};
 ghost use Rattle.std.specs.Map.{lookup};
 ghost use Rattle.std.specs.Str.{bytes_eq};
 ghost use Rattle.ng_base.specs.Faults.{is_memory};
 ghost use Rattle.ng_base.specs.Meets.{Gives};
-ghost use Rattle.ng_base.specs.Objects.{is_array};
-ghost use Rattle.ng_base.specs.Views.{views_list, fields_list};
+ghost use Rattle.ng_base.specs.Objects.{is_array, StandsAmong};
+ghost use Rattle.ng_base.specs.Views.{prim, views_list, fields_list};
+ghost use Rattle.ng_base.specs.declared.value.Value.TheVariants as value;
 ghost use Rattle.ng_base.specs.ViewOf.{view_of, views_of, fields_of, field_of};
 ghost use Rattle.ng_language.specs.Views.{ViewStands, ViewsStand, FieldsStand};
 ghost use Rattle.ng_members.specs.Members.{undefined, view_or_undefined, is_length, count, object_member, char_or_undefined, text_member, list_member, record_member, member, has_members, item};
@@ -153,6 +154,20 @@ fn record_member(alloc: Global, fields: &Fields, name: &Txt) -> Result<View, Mem
     field_under(alloc, fields.as_slice(), name)
 }
 
+/// What stands under a name of a value that is no fresh list or record.
+#[tactic(auto, unfolding(crate::specs::Members::member))]
+pub fn value_member(alloc: Global, store: &Store, v: &Value, name: &Txt) -> Result<View, Memory>
+    requires { ViewStands (length store.now) (prim v.now) }
+    ensures value { IfOk result (λ w. view_of w ≡ member store.now (prim v.now) name.now) }
+    ensures stands { IfOk result (λ w. ViewStands (length store.now) (view_of w)) }
+{
+    match v {
+        Value::Obj(o) => object_member(store, *o, name),
+        Value::Text(t) => text_member(alloc, t, name),
+        _ => Ok(undefined()),
+    }
+}
+
 /// What stands under a name of a value.
 #[tactic(auto, unfolding(crate::specs::Members::member))]
 pub fn member(alloc: Global, store: &Store, v: &View, name: &Txt) -> Result<View, Memory>
@@ -161,24 +176,78 @@ pub fn member(alloc: Global, store: &Store, v: &View, name: &Txt) -> Result<View
     ensures stands { IfOk result (λ w. ViewStands (length store.now) (view_of w)) }
 {
     match v {
-        View::Prim(Value::Obj(o)) => object_member(store, *o, name),
-        View::Prim(Value::Text(t)) => text_member(alloc, t, name),
-        View::Prim(_) => Ok(undefined()),
+        View::Prim(v) => value_member(alloc, store, v, name),
         View::List(views) => list_member(alloc, views, name),
         View::Rec(fields) => record_member(alloc, fields, name),
     }
 }
 
-fn has_members(v: &View) -> bool
-    ensures { result ≡ has_members (view_of v.now) }
+fn has_members(v: &Value) -> bool
+    ensures { result ≡ has_members (prim v.now) }
 {
     match v {
-        View::Prim(Value::Obj(_)) => true,
-        View::Prim(Value::Text(_)) => true,
-        View::Prim(_) => false,
-        View::List(_) => true,
-        View::Rec(_) => true,
+        Value::Obj(_) => true,
+        Value::Text(_) => true,
+        _ => false,
     }
+}
+
+/// The item of an array at a whole number.
+fn array_item(store: &Store, o: Oid, n: i64) -> Option<&Value>
+    requires { o.0 < length store.now }
+    ensures value { IfSome result (λ w. item store.now (prim (value.Obj o)) (prim (value.Int n)) ≡ Ok (prim w.now)) }
+    ensures stands { IfSome result (λ w. StandsAmong (length store.now) w.now) }
+{
+    if !is_array(store.kind(o)) {
+        return None;
+    }
+    match u32::try_from(n) {
+        Ok(i) if i < store.len(o) => Some(store.item(o, i)),
+        _ => None,
+    }
+}
+
+/// The item of a stored array at a whole number: it is read where it stands, and the number is not spelled.
+fn item_seen<'a>(store: &'a Store, v: &Value, index: &View) -> Option<&'a Value>
+    requires { ViewStands (length store.now) (prim v.now) }
+    ensures value { IfSome result (λ w. item store.now (prim v.now) (view_of index.now) ≡ Ok (prim w.now)) }
+    ensures stands { IfSome result (λ w. ViewStands (length store.now) (prim w.now)) }
+{
+    match (v, index) {
+        (Value::Obj(o), View::Prim(Value::Int(n))) => array_item(store, *o, *n),
+        _ => None,
+    }
+}
+
+/// A member by index of a value that is no fresh list or record: the name is the text of the index.
+#[tactic(auto, unfolding(crate::specs::Members::item))]
+pub fn value_item(alloc: Global, store: &Store, v: &Value, index: &View) -> Result<View, Fault>
+    requires value { ViewStands (length store.now) (prim v.now) }
+    requires index { ViewStands (length store.now) (view_of index.now) }
+    ensures exact { Gives is_memory view_of (item store.now (prim v.now) (view_of index.now)) result }
+    ensures stands { IfOk result (λ w. ViewStands (length store.now) (view_of w)) }
+{
+    if let Some(w) = item_seen(store, v, index) {
+        return Ok(View::of_value(w.copied()?));
+    }
+    if !has_members(v) {
+        return Ok(undefined());
+    }
+    let name = to_text(alloc, store, index)?;
+    Ok(value_member(alloc, store, v, &name)?)
+}
+
+/// A member by index of a fresh list or record.
+#[tactic(auto, unfolding(crate::specs::Members::item))]
+fn fresh_item(alloc: Global, store: &Store, v: &View, index: &View) -> Result<View, Fault>
+    requires value { ViewStands (length store.now) (view_of v.now) }
+    requires index { ViewStands (length store.now) (view_of index.now) }
+    requires fresh { has_members (view_of v.now) ≡ true }
+    ensures exact { Gives is_memory view_of (item store.now (view_of v.now) (view_of index.now)) result }
+    ensures stands { IfOk result (λ w. ViewStands (length store.now) (view_of w)) }
+{
+    let name = to_text(alloc, store, index)?;
+    Ok(member(alloc, store, v, &name)?)
 }
 
 /// A member by index: the name is the text of the index.
@@ -189,9 +258,9 @@ pub fn item(alloc: Global, store: &Store, v: &View, index: &View) -> Result<View
     ensures exact { Gives is_memory view_of (item store.now (view_of v.now) (view_of index.now)) result }
     ensures stands { IfOk result (λ w. ViewStands (length store.now) (view_of w)) }
 {
-    if !has_members(v) {
-        return Ok(undefined());
+    match v {
+        View::Prim(v) => value_item(alloc, store, v, index),
+        View::List(_) => fresh_item(alloc, store, v, index),
+        View::Rec(_) => fresh_item(alloc, store, v, index),
     }
-    let name = to_text(alloc, store, index)?;
-    Ok(member(alloc, store, v, &name)?)
 }

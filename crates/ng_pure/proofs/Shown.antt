@@ -101,10 +101,6 @@ items_seen n from now (view_then t ts) [] r = absurd r
 items_seen n from now no_views (v ∷ vs) r = absurd r
 items_seen n from now (view_then t ts) (v ∷ vs) r = (r.0, items_seen n from now ts vs r.1)
 
--- values that name objects of before show themselves
-pub old_shows : (n from : ℕ) (now : List Object) (v : Value) → StandsAmong n v → Seen n from now (prim v) (prim v)
-old_shows n from now v s = (refl, s)
-
 -- two lists one behind the other
 pub all_append : {A B : Type 0} (R : A → B → Type 0) (us : List A) (ts : List B) (xs : List A) (ys : List B) → AllBy R us ts → AllBy R xs ys → AllBy R (us ++ xs) (ts ++ ys)
 all_append R [] [] xs ys s r = r

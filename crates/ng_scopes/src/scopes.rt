@@ -9,7 +9,7 @@ ghost use Rattle.ng_scopes.specs.Others.{LeavesOthers};
 ghost use Rattle.ng_scopes.specs.Rows.{tree_of};
 
 use crate::index::first_ahead;
-use crate::objects::{make_object, name_scope};
+use crate::objects::{OwnNames, make_object, name_scope};
 use crate::rows::{Row, add, at_in, bury, children_in, of_object_in};
 use ng_base::fault::Memory;
 use ng_base::name::{Oid, ScopeId};
@@ -24,6 +24,7 @@ use std::marker::Model;
 #[derive(Drop)]
 pub struct Scopes {
     alloc: Global,
+    names: OwnNames,
     rows: Vec<Row>,
     /// The live scopes by path.
     index: BTreeMap<Path, u32>,
@@ -58,7 +59,13 @@ impl Scopes {
             live: true,
             children: Vec::new(alloc),
         })?;
-        Ok(Scopes { alloc, rows, index })
+        let names = OwnNames::new(alloc)?;
+        Ok(Scopes {
+            alloc,
+            names,
+            rows,
+            index,
+        })
     }
 
     /// A child of a scope: its object inherits from the parent's (guide: Scopes, "Scope Hierarchies").
@@ -136,7 +143,7 @@ impl Scopes {
         };
         let parent = self.object(container);
         let root = self.object(ScopeId(0));
-        let object = make_object(store, self.alloc, proto, id + 1, parent, root)?;
+        let object = make_object(store, &self.names, proto, id + 1, parent, root)?;
         self.add(container, object)?;
         Ok(ScopeId(id))
     }
@@ -181,9 +188,9 @@ impl Scopes {
         ensures len { length store.new ≡ length store.old }
         ensures refused { IfErr result (λ e. e ≡ Memory.Refused) }
     {
-        let alloc = self.alloc;
+        let names = &self.names;
         let root = self.object(ScopeId(0));
-        name_scope(store, alloc, root, 1, Value::Null, root)
+        name_scope(store, names, root, 1, Value::Null, root)
     }
 
     /// What holds of every tree of scopes: paths lead to their scopes, and no scope is live below one that is not.

@@ -6,9 +6,10 @@
 //! `set`, `push` and their kin every other object, and every other name, is as before, since the contract is one
 //! equation between the list before and the list after.
 //!
-//! Reading, writing a name that is there, and taking items out ask for no memory. `make` and `of_json` answer
-//! Full exactly where the 1,000,001st object would be made, and a refusal leaves the store as it was. `of_json`
-//! makes the objects inside a value before the value's own, and sets names in the order of their bytes.
+//! Reading, writing a name that is there, and taking items out ask for no memory. `make` and `take_json` answer
+//! Full exactly where the 1,000,001st object would be made, and a refusal leaves the store as it was. `take_json`
+//! makes the objects inside a value before the value's own, sets names in the order of their bytes, and drops what
+//! it has read at once; `of_json` does the same with a copy.
 //!
 //! `stored` is one object, `objects` and `arrays` are functions over the vector of them, `store` is the type that
 //! contracts see as a list, `heap` is the store as a list that is read, `json` and `placing` bring JSON in.

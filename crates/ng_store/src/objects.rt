@@ -7,7 +7,7 @@ ghost use Rattle.ng_language.specs.Objects.{AreObjects, look, set_name};
 ghost use Rattle.ng_store.specs.ObjectOf.{object_of, objects_of};
 
 use crate::names::names_of;
-use crate::stored::{Stored, put_property};
+use crate::stored::{Stored, property, put_property};
 use ng_base::fault::Memory;
 use ng_base::heap::ObjKind;
 use ng_base::index::index_of;
@@ -26,7 +26,7 @@ pub(crate) fn own_of<'a>(x: &'a Stored, name: &Txt) -> Option<&'a Value>
             None => None,
             Some(i) => x.items.get(i as usize),
         },
-        _ => x.properties.get(name),
+        _ => property(&x.properties, name),
     }
 }
 

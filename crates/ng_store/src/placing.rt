@@ -1,5 +1,5 @@
 //! JSON made into objects, which stand behind those that were there.
-ghost use Rattle.std.specs.Prelude.{◌≡◌, ◌+◌, ◌≤◌, ◌<◌, [], length, vec_len, nat_lt, IfOk, OnOk, OnErr, IfErr};
+ghost use Rattle.std.specs.Prelude.{◌≡◌, ◌+◌, ◌++◌, if◌then◌else◌, ◌≤◌, ◌<◌, [], length, vec_len, nat_lt, IfOk, OnOk, OnErr, IfErr};
 ghost use Rattle.std.specs.Str.{chars};
 ghost use Rattle.serde_json.specs.View.{view, items_view, members_view};
 ghost use Rattle.ng_base.specs.declared.fault.Memory.TheVariants.{Refused};
@@ -15,7 +15,7 @@ use ng_base::name::Oid;
 use ng_base::txt::Txt;
 use ng_base::value::Value;
 use serde_json::{Map, Number, Value as Json};
-use std::alloc::Global;
+use std::alloc::{AllocError, Global};
 
 /// How many names are kept to be shared.
 const SHARED_NAMES: usize = 1_000;
@@ -89,27 +89,27 @@ fn put_object(
     Ok(Value::Obj(o))
 }
 
-/// JSON as a value, with the objects that it wants.
+/// JSON as a value, with the objects that it wants. Each part is dropped as soon as its objects are made.
 #[cycle(place)]
 pub(crate) fn place(
     alloc: Global,
     base: usize,
     made: &mut Vec<Stored>,
     names: &mut IndexSet<Txt>,
-    v: &Json,
+    v: Json,
 ) -> Result<Value, Memory>
-    requires { base + vec_len made.old + objects_in (view v.now) ≤ 1000000 }
-    ensures placed { IfOk result (λ w. (w, objects_of made.new.items) ≡ placed base (view v.now) (objects_of made.old.items)) }
-    ensures count { OnOk result (vec_len made.new ≡ vec_len made.old + objects_in (view v.now)) }
+    requires { base + vec_len made.old + objects_in (view v) ≤ 1000000 }
+    ensures placed { IfOk result (λ w. (w, objects_of made.new.items) ≡ placed base (view v) (objects_of made.old.items)) }
+    ensures count { OnOk result (vec_len made.new ≡ vec_len made.old + objects_in (view v)) }
     ensures refused { IfErr result (λ e. e ≡ Refused) }
 {
     match v {
         Json::Null => Ok(Value::Null),
-        Json::Bool(b) => Ok(Value::Bool(*b)),
-        Json::Number(n) => Ok(number(n)),
+        Json::Bool(b) => Ok(Value::Bool(b)),
+        Json::Number(n) => Ok(number(&n)),
         Json::String(s) => Ok(Value::Text(Txt::from_str(alloc, s.as_str())?)),
         Json::Array(items) => {
-            let items = place_items(alloc, base, made, names, items.as_slice())?;
+            let items = place_items(alloc, base, made, names, items)?;
             put_array(alloc, base, made, items)
         }
         Json::Object(members) => {
@@ -125,11 +125,11 @@ fn place_items(
     base: usize,
     made: &mut Vec<Stored>,
     names: &mut IndexSet<Txt>,
-    items: &[Json],
+    items: Vec<Json>,
 ) -> Result<Vec<Value>, Memory>
-    requires { base + vec_len made.old + objects_in_items (items_view items.now) ≤ 1000000 }
-    ensures placed { IfOk result (λ w. (w.items, objects_of made.new.items) ≡ placed_items base (items_view items.now) (objects_of made.old.items) []) }
-    ensures count { OnOk result (vec_len made.new ≡ vec_len made.old + objects_in_items (items_view items.now)) }
+    requires { base + vec_len made.old + objects_in_items (items_view items.items) ≤ 1000000 }
+    ensures placed { IfOk result (λ w. (w.items, objects_of made.new.items) ≡ placed_items base (items_view items.items) (objects_of made.old.items) []) }
+    ensures count { OnOk result (vec_len made.new ≡ vec_len made.old + objects_in_items (items_view items.items)) }
     ensures refused { IfErr result (λ e. e ≡ Refused) }
 {
     let mut done = Vec::with_capacity(alloc, items.len())?;
@@ -145,11 +145,11 @@ fn place_members(
     base: usize,
     made: &mut Vec<Stored>,
     names: &mut IndexSet<Txt>,
-    members: &Map<String, Json>,
+    members: Map<String, Json>,
 ) -> Result<IndexMap<Txt, Value>, Memory>
-    requires { base + vec_len made.old + objects_in_members (members_view members.now.entries) ≤ 1000000 }
-    ensures placed { IfOk result (λ w. (w.entries, objects_of made.new.items) ≡ placed_members base (members_view members.now.entries) (objects_of made.old.items) []) }
-    ensures count { OnOk result (vec_len made.new ≡ vec_len made.old + objects_in_members (members_view members.now.entries)) }
+    requires { base + vec_len made.old + objects_in_members (members_view members.entries) ≤ 1000000 }
+    ensures placed { IfOk result (λ w. (w.entries, objects_of made.new.items) ≡ placed_members base (members_view members.entries) (objects_of made.old.items) []) }
+    ensures count { OnOk result (vec_len made.new ≡ vec_len made.old + objects_in_members (members_view members.entries)) }
     ensures refused { IfErr result (λ e. e ≡ Refused) }
 {
     let mut done = IndexMap::new(alloc);
@@ -170,17 +170,43 @@ pub(crate) fn overfills(count: usize, v: &Json) -> bool
     count + crate::json::count(v) as usize > 1_000_000
 }
 
+/// For how many objects there is to be room beside those that are made: for those that stand too, where they are fewer.
+fn room(stand: usize, made: usize) -> usize
+    requires { stand + made ≤ 1000000 }
+    ensures { result ≡ (if nat_lt stand made then stand + made else made) }
+{
+    if stand < made { stand + made } else { made }
+}
+
+/// Puts objects that were made behind those that stand. Where fewer stand than were made, those that stand are put in front of
+/// the others, so that no second room is taken for many.
+fn put_behind(objects: &mut Vec<Stored>, made: Vec<Stored>) -> Result<(), AllocError>
+    ensures put { OnOk result (objects.new.items ≡ objects.old.items ++ made.items) }
+    ensures unchanged { OnErr result (objects.new.items ≡ objects.old.items) }
+{
+    let mut made = made;
+    let count = made.len();
+    if count <= objects.len() {
+        return objects.append(&mut made);
+    }
+    made.append(objects)?;
+    made.rotate_left(count);
+    *objects = made;
+    Ok(())
+}
+
 /// Puts the objects of JSON behind those that stand.
-pub(crate) fn add(alloc: Global, objects: &mut Vec<Stored>, v: &Json) -> Result<Value, Memory>
-    requires { vec_len objects.old + objects_in (view v.now) ≤ 1000000 }
-    ensures value { IfOk result (λ w. w ≡ (placed (length (objects_of objects.old.items)) (view v.now) []).0) }
-    ensures made { OnOk result (objects_of objects.new.items ≡ with_json (objects_of objects.old.items) (view v.now)) }
+pub(crate) fn add(alloc: Global, objects: &mut Vec<Stored>, v: Json) -> Result<Value, Memory>
+    requires { vec_len objects.old + objects_in (view v) ≤ 1000000 }
+    ensures value { IfOk result (λ w. w ≡ (placed (length (objects_of objects.old.items)) (view v) []).0) }
+    ensures made { OnOk result (objects_of objects.new.items ≡ with_json (objects_of objects.old.items) (view v)) }
     ensures unchanged { OnErr result (objects.new.items ≡ objects.old.items) }
     ensures refused { IfErr result (λ e. e ≡ Refused) }
 {
-    let mut made = Vec::with_capacity(alloc, crate::json::count(v) as usize)?;
+    let room = room(objects.len(), crate::json::count(&v) as usize);
+    let mut made = Vec::with_capacity(alloc, room)?;
     let mut names = IndexSet::new(alloc);
     let value = place(alloc, objects.len(), &mut made, &mut names, v)?;
-    objects.append(&mut made)?;
+    put_behind(objects, made)?;
     Ok(value)
 }

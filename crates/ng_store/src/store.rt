@@ -1,5 +1,5 @@
 //! The store.
-ghost use Rattle.std.specs.Prelude.{◌≡◌, ◌<◌, ◌≤◌, ◌+◌, ◌-◌, take, drop, reverse, slice_set, slice_range, ◌++◌, ◌∷◌, [], length, slice_get, Some, true, is_some, option_copied, IfOk, option_map, OnOk, OnErr, IsOk, IfErr, IfSome, bytes_eq};
+ghost use Rattle.std.specs.Prelude.{◌≡◌, ◌<◌, ◌≤◌, ◌+◌, ◌-◌, take, drop, reverse, slice_set, slice_range, ◌++◌, ◌∷◌, [], length, slice_get, Some, true, is_some, option_copied, IfOk, option_map, OnOk, OnErr, IsOk, IfErr, IfSome, bytes_eq, nat_lt, Err, false};
 ghost use Rattle.std.specs.List.{splice, AllByRecursion};
 ghost use Rattle.std.specs.Map.{lookup};
 ghost use Rattle.ng_base.specs.Meets.{Meets};
@@ -7,15 +7,14 @@ ghost use Rattle.ng_base.specs.Objects.{own, object_at, names_of, StandsAmong};
 ghost use Rattle.ng_base.specs.declared.fault.Memory.TheVariants.{Refused};
 ghost use Rattle.ng_language.specs.Objects.{AreObjects, look, set_name, set_items, items_at, first_item, last_item, new_object};
 ghost use Rattle.serde_json.specs.View.{view};
-ghost use Rattle.ng_store.specs.Json.{is_json_want, json_value, with_json};
+ghost use Rattle.ng_store.specs.Json.{is_json_want, is_long, is_whole, json_value, objects_in, with_json};
 ghost use Rattle.ng_store.specs.Answers.{is_refused, is_want, next_name, where_short};
 ghost use Rattle.ng_store.specs.declared.store.StoreFault.TheVariants.{Memory as OfMemory};
 
 use crate::json::{JsonFault, is_long, is_whole};
 use crate::placing::{add, overfills};
-use crate::stored::Stored;
+use crate::stored::{Stored, no_properties};
 use crate::{arrays, objects};
-use indexmap::IndexMap;
 use ng_base::fault::Memory;
 use ng_base::heap::ObjKind;
 use ng_base::lists::{Names, Values};
@@ -111,11 +110,12 @@ impl Store {
         if count >= OBJECT_LIMIT {
             return Err(StoreFault::Full);
         }
+        let properties = no_properties(self.alloc, kind)?;
         self.objects.push(Stored {
             kind,
             proto,
             items: Vec::new(self.alloc),
-            properties: IndexMap::new(self.alloc),
+            properties,
         })?;
         Ok(Oid(count as u32))
     }
@@ -271,12 +271,12 @@ impl Store {
         Ok(taken)
     }
 
-    /// Puts JSON into the store: the objects in it behind those that stand, names in the order of their bytes.
-    pub fn of_json(&mut self, v: &serde_json::Value) -> Result<Value, JsonFault>
-        ensures value { Meets is_json_want (json_value self.old (view v.now)) result }
-        ensures made { OnOk result (self.new ≡ with_json self.old (view v.now)) }
-        ensures stands { IfOk result (λ w. StandsAmong (length self.new) w) }
-        ensures unchanged { OnErr result (self.new ≡ self.old) }
+    /// Whether JSON may be put into the store, or why not.
+    fn check(&self, v: &serde_json::Value) -> Result<(), JsonFault>
+        ensures whole { OnOk result (is_whole (view v.now) ≡ true) }
+        ensures room { OnOk result (nat_lt 1000000 (length self.now + objects_in (view v.now)) ≡ false) }
+        ensures short { OnOk result (is_long (view v.now) ≡ false) }
+        ensures refused { IfErr result (λ e. json_value self.now (view v.now) ≡ Err e) }
     {
         if !is_whole(v) {
             return Err(JsonFault::Number);
@@ -287,7 +287,43 @@ impl Store {
         if is_long(v) {
             return Err(JsonFault::Memory(Memory::Worn));
         }
+        Ok(())
+    }
+
+    /// Puts JSON that was checked into the store.
+    fn put_json(&mut self, v: serde_json::Value) -> Result<Value, JsonFault>
+        requires whole { is_whole (view v) ≡ true }
+        requires room { nat_lt 1000000 (length self.old + objects_in (view v)) ≡ false }
+        requires short { is_long (view v) ≡ false }
+        ensures value { Meets is_json_want (json_value self.old (view v)) result }
+        ensures made { OnOk result (self.new ≡ with_json self.old (view v)) }
+        ensures stands { IfOk result (λ w. StandsAmong (length self.new) w) }
+        ensures unchanged { OnErr result (self.new ≡ self.old) }
+    {
         let value = add(self.alloc, &mut self.objects, v)?;
         Ok(value)
+    }
+
+    /// Puts JSON into the store, which takes it: the objects in it behind those that stand, names in the order of their
+    /// bytes. What was read of it is dropped at once, so that a large one and its objects don't stand beside one another.
+    pub fn take_json(&mut self, v: serde_json::Value) -> Result<Value, JsonFault>
+        ensures value { Meets is_json_want (json_value self.old (view v)) result }
+        ensures made { OnOk result (self.new ≡ with_json self.old (view v)) }
+        ensures stands { IfOk result (λ w. StandsAmong (length self.new) w) }
+        ensures unchanged { OnErr result (self.new ≡ self.old) }
+    {
+        self.check(&v)?;
+        self.put_json(v)
+    }
+
+    /// Puts a copy of JSON into the store: the objects in it behind those that stand, names in the order of their bytes.
+    pub fn of_json(&mut self, v: &serde_json::Value) -> Result<Value, JsonFault>
+        ensures value { Meets is_json_want (json_value self.old (view v.now)) result }
+        ensures made { OnOk result (self.new ≡ with_json self.old (view v.now)) }
+        ensures stands { IfOk result (λ w. StandsAmong (length self.new) w) }
+        ensures unchanged { OnErr result (self.new ≡ self.old) }
+    {
+        self.check(v)?;
+        self.put_json(v.clone()?)
     }
 }

@@ -13,6 +13,7 @@ ghost use Rattle.ng_view.specs.Evaluation.{evaluated, receiver, evaluated_all, e
 ghost use Rattle.ng_members.specs.Leaves.{LocalsStand, Field, FieldsAllStand};
 
 use crate::applied::apply;
+use crate::paths::seen;
 use indexmap::IndexMap;
 use ng_base::fault::Fault;
 use ng_base::locals::Locals;
@@ -25,7 +26,7 @@ use ng_members::calls::{called_on, find_callee, is_nothing};
 use ng_members::fields::{put_field, record_of, record_view};
 use ng_members::lists::list_view;
 use ng_members::literals::{bare_name, constant, label_name, number, text};
-use ng_members::members::{item, member, undefined};
+use ng_members::members::{item, member, undefined, value_item, value_member};
 use ng_members::operators::{operator_value, sign_value};
 use ng_parse::{Expr, Pair};
 use ng_store::Store;
@@ -87,6 +88,9 @@ fn evaluated_member(
     ensures exact { Gives is_memory view_of (evaluated store.now scope.0 locals.now (member_of (tree t.now) name.now)) result }
     ensures stands { IfOk result (λ v. ViewStands (length store.now) (view_of v)) }
 {
+    if let Some(v) = seen(store, scope, locals, t) {
+        return Ok(value_member(alloc, store, v, name)?);
+    }
     let v = evaluated(alloc, store, scope, locals, t)?;
     Ok(member(alloc, store, &v, name)?)
 }
@@ -108,6 +112,10 @@ fn evaluated_item(
     ensures exact { Gives is_memory view_of (evaluated store.now scope.0 locals.now (item_of (tree t.now) (tree i.now))) result }
     ensures stands { IfOk result (λ v. ViewStands (length store.now) (view_of v)) }
 {
+    if let Some(v) = seen(store, scope, locals, t) {
+        let index = evaluated(alloc, store, scope, locals, i)?;
+        return value_item(alloc, store, v, &index);
+    }
     let v = evaluated(alloc, store, scope, locals, t)?;
     let index = evaluated(alloc, store, scope, locals, i)?;
     item(alloc, store, &v, &index)

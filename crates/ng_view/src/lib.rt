@@ -9,8 +9,8 @@
 //! which has no identity, and a stored array stays a name of an object until a method asks for its items. A store is
 //! read and never changed.
 //!
-//! In reading order: `purity` and `filters` are the two tests, `evaluation` is the walk over the tree, `program` the
-//! public call, and `laws` what a reader may take from all this.
+//! In reading order: `purity` and `filters` are the two tests, `paths` reads a dotted path where it stands, `evaluation`
+//! is the walk over the tree, `program` the public call, and `laws` what a reader may take from all this.
 //!
 //! It is not for actions, which assign and call functions, nor for what members, methods and filters are, which stand
 //! in ng_members and ng_filters.
@@ -20,6 +20,7 @@ pub mod applied;
 mod evaluation;
 mod filters;
 pub mod laws;
+mod paths;
 mod program;
 mod purity;
 

@@ -35,6 +35,9 @@ fn statements_value(
     ensures exact { Gives is_memory view_of (evaluated_program store.now scope.0 locals.now (trees_from (map tree statements.now))) result }
     ensures stands { IfOk result (λ v. ViewStands (length store.now) (view_of v)) }
 {
+    if let [statement] = statements {
+        return evaluated(alloc, store, scope, locals, statement);
+    }
     let mut value = undefined();
     for statement in statements {
         value = evaluated(alloc, store, scope, locals, statement)?;

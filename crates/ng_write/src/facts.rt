@@ -102,27 +102,27 @@ fn enter_member(
     store: &mut Store,
     o: Oid,
     name: &str,
-    v: &Json,
+    v: Json,
 ) -> Result<(), JsonFault>
     requires { o.0 < length store.old }
-    ensures entered { Reads (read_then (json_value store.old (view v.now)) store.old (λ w. (set_name (with_json store.old (view v.now)) o.0 (chars name.now) w, Ok tt))) store.new result }
+    ensures entered { Reads (read_then (json_value store.old (view v)) store.old (λ w. (set_name (with_json store.old (view v)) o.0 (chars name.now) w, Ok tt))) store.new result }
     ensures grown { length store.old ≤ length store.new }
 {
     let name = Txt::from_str(alloc, name)?;
-    let value = store.of_json(v)?;
+    let value = store.take_json(v)?;
     store.set(o, &name, value)?;
     Ok(())
 }
 
-/// Reads members as names of an object that stands.
+/// Reads members as names of an object that stands. Each is dropped as soon as it is read.
 fn enter_members(
     alloc: Global,
     store: &mut Store,
     o: Oid,
-    facts: &Map<String, Json>,
+    facts: Map<String, Json>,
 ) -> Result<(), JsonFault>
     requires { o.0 < length store.old }
-    ensures entered { Reads (members_entered store.old o.0 (members_view facts.now.entries)) store.new result }
+    ensures entered { Reads (members_entered store.old o.0 (members_view facts.entries)) store.new result }
     ensures grown { length store.old ≤ length store.new }
 {
     for (name, v) in facts {
@@ -133,19 +133,19 @@ fn enter_members(
     Ok(())
 }
 
-/// Reads the members of a JSON object as names of an object that stands, as the root scope's. The names that a scope keeps
-/// for itself are left out unread.
+/// Reads the members of a JSON object, which it takes, as names of an object that stands, as the root scope's. The names that
+/// a scope keeps for itself are left out unread.
 pub fn enter_facts(
     alloc: Global,
     store: &mut Store,
     o: Oid,
-    facts: &Map<String, Json>,
+    facts: Map<String, Json>,
 ) -> Result<(), JsonFault>
     requires { o.0 < length store.old }
-    ensures entered { Reads (facts_entered store.old o.0 (members_view facts.now.entries)) store.new result }
+    ensures entered { Reads (facts_entered store.old o.0 (members_view facts.entries)) store.new result }
     ensures grown { length store.old ≤ length store.new }
 {
-    if !facts_are_whole(facts) {
+    if !facts_are_whole(&facts) {
         return Err(JsonFault::Number);
     }
     enter_members(alloc, store, o, facts)
