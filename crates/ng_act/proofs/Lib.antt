@@ -3,5 +3,7 @@ pub mod Steps
 pub mod Opened
 pub mod Parts
 pub mod Others
+pub mod Keeping
+pub mod Arms
 pub mod Programs
 pub mod Values

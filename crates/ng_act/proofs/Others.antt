@@ -2,10 +2,9 @@
 use Rattle.std.proofs.Common.{◌≡◌, ◌∙◌, ℕ, List, Ok, refl, ap, sym}
 use Rattle.ng_base.specs.Views.{ViewTree}
 use Rattle.ng_language.specs.Trees.{Tree, PairTree, member_of, item_of}
-use Rattle.ng_parse.specs.TreeOf.{tree, pair_tree, tree_step, pair_step}
+use Rattle.ng_parse.specs.TreeOf.{tree, tree_step, pair_step}
 use Rattle.ng_parse.specs.declared.tree.Expr.{Expr}
 use Rattle.ng_parse.specs.declared.tree.Expr.TheVariants as exprs
-use Rattle.ng_parse.specs.declared.tree.Expr.TheOpen.{Expr-F}
 use Rattle.ng_parse.specs.declared.tree.Expr.TheViews.{out-Expr}
 use Rattle.ng_parse.specs.declared.tree.Expr.TheFolds.{fold_out-Expr}
 use Rattle.ng_act.specs.Asked.{Doing}

@@ -1,5 +1,5 @@
 -- Faults of parts end the whole, and what stands stands in a store that grew.
-use Rattle.std.proofs.Common.{◌≡◌, ◌<◌, ◌≤◌, ◌+◌, ◌-◌, ℕ, suc, Bool, true, false, List, [], ◌∷◌, ◌++◌, length, map, drop, get_or, Option, Some, None, Result, Ok, Err, refl, ap, sym, ◌∙◌, subst, arith, bytes_eq, max, if◌then◌else◌, IsErrAnd}
+use Rattle.std.proofs.Common.{◌≡◌, ◌<◌, ◌≤◌, ◌+◌, ◌-◌, ℕ, Bool, true, false, List, [], ◌∷◌, ◌++◌, length, map, drop, get_or, Option, Result, Ok, Err, refl, ap, sym, ◌∙◌, subst, arith, bytes_eq, if◌then◌else◌, IsErrAnd}
 use Rattle.std.specs.Prelude.{OnOk, nat_lt}
 use Rattle.std.proofs.lemmas.Bool.Decides.{nat_tests}
 use Rattle.std.specs.List.{AllByRecursion}
@@ -18,7 +18,7 @@ use Rattle.ng_store.proofs.Sound.{all_through, all_append}
 use Rattle.ng_members.specs.Leaves.{Field, FieldsAllStand}
 use Rattle.ng_write.proofs.More.{view_more}
 use Rattle.ng_core.specs.Keeping.{makes_member}
-use Rattle.ng_core.specs.Places.{Place, within, index_name}
+use Rattle.ng_core.specs.Places.{Place, index_name}
 use Rattle.ng_act.specs.Asked.{Doing}
 use Rattle.ng_act.specs.Expressions.{acted, acted_all, acted_pair, acted_pairs, reached, left, made}
 use Rattle.ng_act.specs.Actions.{does}
@@ -27,7 +27,7 @@ use Rattle.ng_chain.specs.declared.chain.Span.{Span}
 use Rattle.ng_events.specs.Stands.{walks_at, open_of}
 use Rattle.ng_core.specs.declared.core_state.Core.{Core}
 use Rattle.ng_core.specs.Frames.{Acts, Held, held}
-use Rattle.ng_core.specs.PlaceOf.{PlaceStands, TargetStands, place_of}
+use Rattle.ng_core.specs.PlaceOf.{PlaceStands, TargetStands}
 use Rattle.ng_core.specs.State.{State, Run}
 use Rattle.ng_core.specs.declared.called.Called.{Called}
 use Rattle.ng_core.specs.declared.called.Called.TheVariants as calls

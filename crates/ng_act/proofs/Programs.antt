@@ -1,5 +1,5 @@
 -- What each step keeps, every program keeps, whatever it opens.
-use Rattle.std.proofs.Common.{◌≡◌, ◌<◌, ◌≤◌, ◌+◌, ℕ, zero, suc, Bool, true, false, if◌then◌else◌, List, [], ◌∷◌, ◌++◌, length, map, drop, Option, Some, None, Result, Ok, Err, refl, arith}
+use Rattle.std.proofs.Common.{◌≡◌, ◌<◌, ◌≤◌, ℕ, zero, suc, Bool, true, false, if◌then◌else◌, List, [], ◌∷◌, ◌++◌, length, map, drop, Option, Some, None, Result, Ok, Err, refl, arith}
 use Rattle.std.specs.Prelude.{slice_get, nat_lt, codes, is_some}
 use Rattle.std.specs.Str.{bytes_eq}
 use Rattle.indexmap.specs.IndexMap.{insert_entry}
@@ -12,7 +12,7 @@ use Rattle.ng_base.specs.declared.value.Value.TheVariants as value
 use Rattle.ng_language.specs.Objects.{set_name}
 use Rattle.ng_write.specs.Assigning.{member_assigned}
 use Rattle.ng_write.specs.Events.{event_called}
-use Rattle.ng_behaviour.specs.Listeners.{Listener, Heard, heard_at, place_of, without_listener}
+use Rattle.ng_behaviour.specs.Listeners.{Listener, heard_at, place_of, without_listener}
 use Rattle.ng_behaviour.specs.Scopes.{Scope, live_at, object_at, parent_at, path_at, next_scope}
 use Rattle.ng_language.specs.declared.snapshots.SnapKind.{SnapKind}
 use Rattle.ng_language.specs.declared.snapshots.SnapKind.TheVariants as snaps

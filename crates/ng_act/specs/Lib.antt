@@ -5,3 +5,5 @@ pub mod Emitting
 pub mod Actions
 pub mod Turns
 pub mod Running
+pub mod Kept
+pub mod Worn

@@ -3,7 +3,7 @@
 //! All that opens bodies and events is one cycle, over this file and `reaching`, `series`, `calling`, `emitting` and
 //! `visiting`: one function a definition, in the same arms. An arm that holds values has a function of its own, so that a
 //! deep expression takes small frames.
-ghost use Rattle.std.specs.Prelude.{◌≡◌, ◌<◌, ◌≤◌, ◌-◌, length, map, IfOk};
+ghost use Rattle.std.specs.Prelude.{◌<◌, ◌≤◌, ◌-◌, length, map, IfOk};
 ghost use Rattle.ng_base.specs.ViewOf.{view_of};
 ghost use Rattle.ng_language.specs.Heights.{height, heights, pair_heights};
 ghost use Rattle.ng_language.specs.Trees.{trees_from, pairs_from, member_of, item_of, call_of, a_list, a_record, signed, combined, both_of, either_of, choice_of, assigned, filtered};
@@ -11,7 +11,8 @@ ghost use Rattle.ng_language.specs.Views.{ViewStands};
 ghost use Rattle.ng_parse.specs.TreeOf.{tree, pair_tree};
 ghost use Rattle.ng_act.specs.Expressions.{acted};
 ghost use Rattle.ng_act.specs.Actions.{does};
-ghost use Rattle.ng_core.specs.Frames.{state_of, held, IsSound, Acts};
+ghost use Rattle.ng_act.specs.Kept.{Kept};
+ghost use Rattle.ng_core.specs.Frames.{state_of, IsSound, Acts};
 
 use crate::calling::call;
 use crate::reaching::{left, reached};
@@ -41,11 +42,7 @@ pub(crate) fn acted(core: &mut Core, alloc: Global, scope: ScopeId, e: &Expr) ->
     requires scope { scope.0 < length core.old.scopes }
     requires low { height (tree e.now) ≤ 100 }
     ensures run { Acts view_of result (state_of core.new) (acted (does (64 - core.old.depth)) scope.0 (tree e.now) (state_of core.old)) }
-    ensures sound { IsSound core.new }
-    ensures held { held core.new ≡ held core.old }
-    ensures depth { core.new.depth ≡ core.old.depth }
-    ensures count { length core.new.scopes ≡ length core.old.scopes }
-    ensures grown { length core.old.store ≤ length core.new.store }
+    ensures kept { Kept core.old core.new }
     ensures stands { IfOk result (λ w. ViewStands (length core.new.store) (view_of w)) }
 {
     match e {
@@ -83,11 +80,7 @@ fn acted_member(
     requires scope { scope.0 < length core.old.scopes }
     requires low { height (tree t.now) ≤ 100 }
     ensures run { Acts view_of result (state_of core.new) (acted (does (64 - core.old.depth)) scope.0 (member_of (tree t.now) name.now) (state_of core.old)) }
-    ensures sound { IsSound core.new }
-    ensures held { held core.new ≡ held core.old }
-    ensures depth { core.new.depth ≡ core.old.depth }
-    ensures count { length core.new.scopes ≡ length core.old.scopes }
-    ensures grown { length core.old.store ≤ length core.new.store }
+    ensures kept { Kept core.old core.new }
     ensures stands { IfOk result (λ w. ViewStands (length core.new.store) (view_of w)) }
 {
     let v = acted(core, alloc, scope, t)?;
@@ -108,11 +101,7 @@ fn acted_item(
     requires low { height (tree t.now) ≤ 100 }
     requires low_index { height (tree i.now) ≤ 100 }
     ensures run { Acts view_of result (state_of core.new) (acted (does (64 - core.old.depth)) scope.0 (item_of (tree t.now) (tree i.now)) (state_of core.old)) }
-    ensures sound { IsSound core.new }
-    ensures held { held core.new ≡ held core.old }
-    ensures depth { core.new.depth ≡ core.old.depth }
-    ensures count { length core.new.scopes ≡ length core.old.scopes }
-    ensures grown { length core.old.store ≤ length core.new.store }
+    ensures kept { Kept core.old core.new }
     ensures stands { IfOk result (λ w. ViewStands (length core.new.store) (view_of w)) }
 {
     let v = acted(core, alloc, scope, t)?;
@@ -134,11 +123,7 @@ fn acted_call(
     requires low { height (tree t.now) ≤ 100 }
     requires low_args { heights (trees_from (map tree args.now)) ≤ 100 }
     ensures run { Acts view_of result (state_of core.new) (acted (does (64 - core.old.depth)) scope.0 (call_of (tree t.now) (trees_from (map tree args.now))) (state_of core.old)) }
-    ensures sound { IsSound core.new }
-    ensures held { held core.new ≡ held core.old }
-    ensures depth { core.new.depth ≡ core.old.depth }
-    ensures count { length core.new.scopes ≡ length core.old.scopes }
-    ensures grown { length core.old.store ≤ length core.new.store }
+    ensures kept { Kept core.old core.new }
     ensures stands { IfOk result (λ w. ViewStands (length core.new.store) (view_of w)) }
 {
     let (v, called) = reached(core, alloc, scope, t)?;
@@ -156,11 +141,7 @@ fn acted_list(core: &mut Core, alloc: Global, scope: ScopeId, items: &[Expr]) ->
     requires scope { scope.0 < length core.old.scopes }
     requires low { heights (trees_from (map tree items.now)) ≤ 100 }
     ensures run { Acts view_of result (state_of core.new) (acted (does (64 - core.old.depth)) scope.0 (a_list (trees_from (map tree items.now))) (state_of core.old)) }
-    ensures sound { IsSound core.new }
-    ensures held { held core.new ≡ held core.old }
-    ensures depth { core.new.depth ≡ core.old.depth }
-    ensures count { length core.new.scopes ≡ length core.old.scopes }
-    ensures grown { length core.old.store ≤ length core.new.store }
+    ensures kept { Kept core.old core.new }
     ensures stands { IfOk result (λ w. ViewStands (length core.new.store) (view_of w)) }
 {
     let views = acted_all(core, alloc, scope, items)?;
@@ -179,11 +160,7 @@ fn acted_record(
     requires scope { scope.0 < length core.old.scopes }
     requires low { pair_heights (pairs_from (map pair_tree pairs.now)) ≤ 100 }
     ensures run { Acts view_of result (state_of core.new) (acted (does (64 - core.old.depth)) scope.0 (a_record (pairs_from (map pair_tree pairs.now))) (state_of core.old)) }
-    ensures sound { IsSound core.new }
-    ensures held { held core.new ≡ held core.old }
-    ensures depth { core.new.depth ≡ core.old.depth }
-    ensures count { length core.new.scopes ≡ length core.old.scopes }
-    ensures grown { length core.old.store ≤ length core.new.store }
+    ensures kept { Kept core.old core.new }
     ensures stands { IfOk result (λ w. ViewStands (length core.new.store) (view_of w)) }
 {
     let fields = acted_pairs(core, alloc, scope, pairs)?;
@@ -203,11 +180,7 @@ fn acted_unary(
     requires scope { scope.0 < length core.old.scopes }
     requires low { height (tree t.now) ≤ 100 }
     ensures run { Acts view_of result (state_of core.new) (acted (does (64 - core.old.depth)) scope.0 (signed op (tree t.now)) (state_of core.old)) }
-    ensures sound { IsSound core.new }
-    ensures held { held core.new ≡ held core.old }
-    ensures depth { core.new.depth ≡ core.old.depth }
-    ensures count { length core.new.scopes ≡ length core.old.scopes }
-    ensures grown { length core.old.store ≤ length core.new.store }
+    ensures kept { Kept core.old core.new }
     ensures stands { IfOk result (λ w. ViewStands (length core.new.store) (view_of w)) }
 {
     let v = acted(core, alloc, scope, t)?;
@@ -229,11 +202,7 @@ fn acted_binary(
     requires low { height (tree a.now) ≤ 100 }
     requires low_right { height (tree b.now) ≤ 100 }
     ensures run { Acts view_of result (state_of core.new) (acted (does (64 - core.old.depth)) scope.0 (combined op (tree a.now) (tree b.now)) (state_of core.old)) }
-    ensures sound { IsSound core.new }
-    ensures held { held core.new ≡ held core.old }
-    ensures depth { core.new.depth ≡ core.old.depth }
-    ensures count { length core.new.scopes ≡ length core.old.scopes }
-    ensures grown { length core.old.store ≤ length core.new.store }
+    ensures kept { Kept core.old core.new }
     ensures stands { IfOk result (λ w. ViewStands (length core.new.store) (view_of w)) }
 {
     let left = acted(core, alloc, scope, a)?;
@@ -255,11 +224,7 @@ fn acted_both(
     requires low { height (tree a.now) ≤ 100 }
     requires low_right { height (tree b.now) ≤ 100 }
     ensures run { Acts view_of result (state_of core.new) (acted (does (64 - core.old.depth)) scope.0 (both_of (tree a.now) (tree b.now)) (state_of core.old)) }
-    ensures sound { IsSound core.new }
-    ensures held { held core.new ≡ held core.old }
-    ensures depth { core.new.depth ≡ core.old.depth }
-    ensures count { length core.new.scopes ≡ length core.old.scopes }
-    ensures grown { length core.old.store ≤ length core.new.store }
+    ensures kept { Kept core.old core.new }
     ensures stands { IfOk result (λ w. ViewStands (length core.new.store) (view_of w)) }
 {
     let v = acted(core, alloc, scope, a)?;
@@ -284,11 +249,7 @@ fn acted_either(
     requires low { height (tree a.now) ≤ 100 }
     requires low_right { height (tree b.now) ≤ 100 }
     ensures run { Acts view_of result (state_of core.new) (acted (does (64 - core.old.depth)) scope.0 (either_of (tree a.now) (tree b.now)) (state_of core.old)) }
-    ensures sound { IsSound core.new }
-    ensures held { held core.new ≡ held core.old }
-    ensures depth { core.new.depth ≡ core.old.depth }
-    ensures count { length core.new.scopes ≡ length core.old.scopes }
-    ensures grown { length core.old.store ≤ length core.new.store }
+    ensures kept { Kept core.old core.new }
     ensures stands { IfOk result (λ w. ViewStands (length core.new.store) (view_of w)) }
 {
     let v = acted(core, alloc, scope, a)?;
@@ -315,11 +276,7 @@ fn acted_choice(
     requires low_then { height (tree a.now) ≤ 100 }
     requires low_else { height (tree b.now) ≤ 100 }
     ensures run { Acts view_of result (state_of core.new) (acted (does (64 - core.old.depth)) scope.0 (choice_of (tree c.now) (tree a.now) (tree b.now)) (state_of core.old)) }
-    ensures sound { IsSound core.new }
-    ensures held { held core.new ≡ held core.old }
-    ensures depth { core.new.depth ≡ core.old.depth }
-    ensures count { length core.new.scopes ≡ length core.old.scopes }
-    ensures grown { length core.old.store ≤ length core.new.store }
+    ensures kept { Kept core.old core.new }
     ensures stands { IfOk result (λ w. ViewStands (length core.new.store) (view_of w)) }
 {
     let v = acted(core, alloc, scope, c)?;
@@ -344,11 +301,7 @@ fn acted_assign(
     requires low { height (tree a.now) ≤ 100 }
     requires low_right { height (tree b.now) ≤ 100 }
     ensures run { Acts view_of result (state_of core.new) (acted (does (64 - core.old.depth)) scope.0 (assigned (tree a.now) (tree b.now)) (state_of core.old)) }
-    ensures sound { IsSound core.new }
-    ensures held { held core.new ≡ held core.old }
-    ensures depth { core.new.depth ≡ core.old.depth }
-    ensures count { length core.new.scopes ≡ length core.old.scopes }
-    ensures grown { length core.old.store ≤ length core.new.store }
+    ensures kept { Kept core.old core.new }
     ensures stands { IfOk result (λ w. ViewStands (length core.new.store) (view_of w)) }
 {
     let place = left(core, alloc, scope, a)?;
@@ -371,11 +324,7 @@ fn acted_filter(
     requires low { height (tree t.now) ≤ 100 }
     requires low_args { heights (trees_from (map tree args.now)) ≤ 100 }
     ensures run { Acts view_of result (state_of core.new) (acted (does (64 - core.old.depth)) scope.0 (filtered (tree t.now) name.now (trees_from (map tree args.now))) (state_of core.old)) }
-    ensures sound { IsSound core.new }
-    ensures held { held core.new ≡ held core.old }
-    ensures depth { core.new.depth ≡ core.old.depth }
-    ensures count { length core.new.scopes ≡ length core.old.scopes }
-    ensures grown { length core.old.store ≤ length core.new.store }
+    ensures kept { Kept core.old core.new }
     ensures stands { IfOk result (λ w. ViewStands (length core.new.store) (view_of w)) }
 {
     let v = acted(core, alloc, scope, t)?;

@@ -1,5 +1,5 @@
 //! Calls with their arguments, and the bodies that they open.
-ghost use Rattle.std.specs.Prelude.{◌≡◌, ◌<◌, ◌≤◌, ◌-◌, length, map, slice_get, IfOk};
+ghost use Rattle.std.specs.Prelude.{◌<◌, ◌-◌, length, map, slice_get, IfOk};
 ghost use Rattle.std.specs.List.{AllByRecursion};
 ghost use Rattle.ng_base.specs.Views.{views_list};
 ghost use Rattle.ng_base.specs.ViewOf.{view_of, views_of};
@@ -9,7 +9,8 @@ ghost use Rattle.ng_members.specs.Leaves.{LocalsStand};
 ghost use Rattle.ng_act.specs.Asked.{a_body};
 ghost use Rattle.ng_act.specs.Calls.{runs, scope_run, method_run, function_run};
 ghost use Rattle.ng_act.specs.Actions.{does};
-ghost use Rattle.ng_core.specs.Frames.{state_of, held, IsSound, Acts, fun_of};
+ghost use Rattle.ng_act.specs.Kept.{Kept};
+ghost use Rattle.ng_core.specs.Frames.{state_of, IsSound, Acts, fun_of};
 ghost use Rattle.ng_core.specs.PlaceOf.{TargetStands};
 
 use crate::emitting::{broadcast_views, destroy, emit_views};
@@ -50,11 +51,7 @@ pub(crate) fn call(
     requires view { ViewStands (length core.old.store) (view_of v) }
     requires args { AllByRecursion (ViewStands (length core.old.store)) (views_list (views_of args)) }
     ensures run { Acts view_of result (state_of core.new) (runs (does (64 - core.old.depth)) called (view_of v) (views_list (views_of args)) (state_of core.old)) }
-    ensures sound { IsSound core.new }
-    ensures held { held core.new ≡ held core.old }
-    ensures depth { core.new.depth ≡ core.old.depth }
-    ensures count { length core.new.scopes ≡ length core.old.scopes }
-    ensures grown { length core.old.store ≤ length core.new.store }
+    ensures kept { Kept core.old core.new }
     ensures stands { IfOk result (λ w. ViewStands (length core.new.store) (view_of w)) }
 {
     match called {
@@ -74,11 +71,7 @@ fn call_function(core: &mut Core, alloc: Global, f: FunId, args: &Views) -> Resu
     requires sound { IsSound core.old }
     requires args { AllByRecursion (ViewStands (length core.old.store)) (views_list (views_of args.now)) }
     ensures run { Acts view_of result (state_of core.new) (function_run (does (64 - core.old.depth)) f.0 (slice_get (map fun_of core.old.funs.items) f.0) (views_list (views_of args.now)) (state_of core.old)) }
-    ensures sound { IsSound core.new }
-    ensures held { held core.new ≡ held core.old }
-    ensures depth { core.new.depth ≡ core.old.depth }
-    ensures count { length core.new.scopes ≡ length core.old.scopes }
-    ensures grown { length core.old.store ≤ length core.new.store }
+    ensures kept { Kept core.old core.new }
     ensures stands { IfOk result (λ w. ViewStands (length core.new.store) (view_of w)) }
 {
     match find_callee(core, alloc, f, args)? {
@@ -102,11 +95,7 @@ fn call_scope(
     requires scope { scope.0 < length core.old.scopes }
     requires args { AllByRecursion (ViewStands (length core.old.store)) (views_list (views_of args)) }
     ensures run { Acts view_of result (state_of core.new) (scope_run (does (64 - core.old.depth)) scope.0 method (views_list (views_of args)) (state_of core.old)) }
-    ensures sound { IsSound core.new }
-    ensures held { held core.new ≡ held core.old }
-    ensures depth { core.new.depth ≡ core.old.depth }
-    ensures count { length core.new.scopes ≡ length core.old.scopes }
-    ensures grown { length core.old.store ≤ length core.new.store }
+    ensures kept { Kept core.old core.new }
     ensures stands { IfOk result (λ w. ViewStands (length core.new.store) (view_of w)) }
 {
     if outlives(method) || core.scopes.is_live(scope) {
@@ -129,11 +118,7 @@ fn run_method(
     requires scope { scope.0 < length core.old.scopes }
     requires args { AllByRecursion (ViewStands (length core.old.store)) (views_list (views_of args.now)) }
     ensures run { Acts view_of result (state_of core.new) (method_run (does (64 - core.old.depth)) scope.0 method (views_list (views_of args.now)) (state_of core.old)) }
-    ensures sound { IsSound core.new }
-    ensures held { held core.new ≡ held core.old }
-    ensures depth { core.new.depth ≡ core.old.depth }
-    ensures count { length core.new.scopes ≡ length core.old.scopes }
-    ensures grown { length core.old.store ≤ length core.new.store }
+    ensures kept { Kept core.old core.new }
     ensures stands { IfOk result (λ w. ViewStands (length core.new.store) (view_of w)) }
 {
     let missing = undefined();
@@ -179,11 +164,7 @@ pub(crate) fn run_body(
     requires scope { scope.0 < length core.old.scopes }
     requires locals { LocalsStand (length core.old.store) locals }
     ensures run { Acts view_of result (state_of core.new) (does (64 - core.old.depth) (a_body scope.0 locals (program p.now)) (state_of core.old)) }
-    ensures sound { IsSound core.new }
-    ensures held { held core.new ≡ held core.old }
-    ensures depth { core.new.depth ≡ core.old.depth }
-    ensures count { length core.new.scopes ≡ length core.old.scopes }
-    ensures grown { length core.old.store ≤ length core.new.store }
+    ensures kept { Kept core.old core.new }
     ensures stands { IfOk result (λ w. ViewStands (length core.new.store) (view_of w)) }
 {
     if core.depth >= ROOM {

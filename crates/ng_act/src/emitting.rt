@@ -9,6 +9,7 @@ ghost use Rattle.ng_act.specs.Asked.{an_emit, a_broadcast};
 ghost use Rattle.ng_act.specs.Calls.{destroys};
 ghost use Rattle.ng_act.specs.Emitting.{rises, sweeps, visits};
 ghost use Rattle.ng_act.specs.Actions.{does, emitted, broadcasted};
+ghost use Rattle.ng_act.specs.Kept.{Kept};
 ghost use Rattle.ng_core.specs.EventOf.{event_of};
 ghost use Rattle.ng_core.specs.Frames.{state_of, held, IsSound, Acts};
 ghost use Rattle.ng_core.specs.State.{handed};
@@ -50,11 +51,7 @@ fn announce_death(core: &mut Core, alloc: Global, scope: ScopeId) -> Result<(), 
     requires sound { IsSound core.old }
     requires scope { scope.0 < length core.old.scopes }
     ensures run { OnOk result (state_of core.new ≡ handed (does (64 - core.old.depth) (a_broadcast scope.0 (codes "$destroy") []) (state_of core.old))) }
-    ensures sound { IsSound core.new }
-    ensures held { held core.new ≡ held core.old }
-    ensures depth { core.new.depth ≡ core.old.depth }
-    ensures count { length core.new.scopes ≡ length core.old.scopes }
-    ensures grown { length core.old.store ≤ length core.new.store }
+    ensures kept { Kept core.old core.new }
 {
     let mut name = Txt::new(alloc);
     name.push_word("$destroy")?;
@@ -81,11 +78,7 @@ pub(crate) fn emit_views(
     requires scope { scope.0 < length core.old.scopes }
     requires args { AllByRecursion (ViewStands (length core.old.store)) (views_list (views_of args)) }
     ensures run { Acts view_of result (state_of core.new) (does (64 - core.old.depth) (an_emit scope.0 name.now (views_list (views_of args))) (state_of core.old)) }
-    ensures sound { IsSound core.new }
-    ensures held { held core.new ≡ held core.old }
-    ensures depth { core.new.depth ≡ core.old.depth }
-    ensures count { length core.new.scopes ≡ length core.old.scopes }
-    ensures grown { length core.old.store ≤ length core.new.store }
+    ensures kept { Kept core.old core.new }
     ensures stands { IfOk result (λ w. ViewStands (length core.new.store) (view_of w)) }
 {
     if core.depth >= ROOM {
@@ -111,11 +104,7 @@ fn emit_open(
     requires inside { open_of core.old.listeners < core.old.depth }
     requires args { AllByRecursion (ViewStands (length core.old.store)) (views_list (views_of args)) }
     ensures run { Acts view_of result (state_of core.new) (emitted (does (64 - core.old.depth)) scope.0 name.now (views_list (views_of args)) (state_of core.old)) }
-    ensures sound { IsSound core.new }
-    ensures held { held core.new ≡ held core.old }
-    ensures depth { core.new.depth ≡ core.old.depth }
-    ensures count { length core.new.scopes ≡ length core.old.scopes }
-    ensures grown { length core.old.store ≤ length core.new.store }
+    ensures kept { Kept core.old core.new }
     ensures stands { IfOk result (λ w. ViewStands (length core.new.store) (view_of w)) }
 {
     let e = announce(core, alloc, scope, name, args)?;
@@ -136,11 +125,7 @@ pub(crate) fn broadcast_views(
     requires scope { scope.0 < length core.old.scopes }
     requires args { AllByRecursion (ViewStands (length core.old.store)) (views_list (views_of args)) }
     ensures run { Acts view_of result (state_of core.new) (does (64 - core.old.depth) (a_broadcast scope.0 name.now (views_list (views_of args))) (state_of core.old)) }
-    ensures sound { IsSound core.new }
-    ensures held { held core.new ≡ held core.old }
-    ensures depth { core.new.depth ≡ core.old.depth }
-    ensures count { length core.new.scopes ≡ length core.old.scopes }
-    ensures grown { length core.old.store ≤ length core.new.store }
+    ensures kept { Kept core.old core.new }
     ensures stands { IfOk result (λ w. ViewStands (length core.new.store) (view_of w)) }
 {
     if core.depth >= ROOM {
@@ -166,11 +151,7 @@ fn broadcast_open(
     requires inside { open_of core.old.listeners < core.old.depth }
     requires args { AllByRecursion (ViewStands (length core.old.store)) (views_list (views_of args)) }
     ensures run { Acts view_of result (state_of core.new) (broadcasted (does (64 - core.old.depth)) scope.0 name.now (views_list (views_of args)) (state_of core.old)) }
-    ensures sound { IsSound core.new }
-    ensures held { held core.new ≡ held core.old }
-    ensures depth { core.new.depth ≡ core.old.depth }
-    ensures count { length core.new.scopes ≡ length core.old.scopes }
-    ensures grown { length core.old.store ≤ length core.new.store }
+    ensures kept { Kept core.old core.new }
     ensures stands { IfOk result (λ w. ViewStands (length core.new.store) (view_of w)) }
 {
     let e = announce(core, alloc, scope, name, args)?;
@@ -187,11 +168,7 @@ fn rise(core: &mut Core, alloc: Global, scope: ScopeId, e: &Event) -> Result<(),
     requires object { e.now.object.0 < length core.old.store }
     requires args { ViewStands (length core.old.store) (view_of e.now.args) }
     ensures run { OnOk result (state_of core.new ≡ rises (many (state_of core.old)) (does (64 - core.old.depth)) (event_of e.now) (Some scope.0) (state_of core.old)) }
-    ensures sound { IsSound core.new }
-    ensures held { held core.new ≡ held core.old }
-    ensures depth { core.new.depth ≡ core.old.depth }
-    ensures count { length core.new.scopes ≡ length core.old.scopes }
-    ensures grown { length core.old.store ≤ length core.new.store }
+    ensures kept { Kept core.old core.new }
 {
     let mut next = Some(scope);
     for _i in 0..core.store.count() {
@@ -218,11 +195,7 @@ fn sweep(core: &mut Core, alloc: Global, scope: ScopeId, e: &Event) -> Result<()
     requires object { e.now.object.0 < length core.old.store }
     requires args { ViewStands (length core.old.store) (view_of e.now.args) }
     ensures run { OnOk result (state_of core.new ≡ sweeps (many (state_of core.old)) (does (64 - core.old.depth)) (event_of e.now) scope.0 scope.0 (visits (does (64 - core.old.depth)) (event_of e.now) scope.0 (state_of core.old))) }
-    ensures sound { IsSound core.new }
-    ensures held { held core.new ≡ held core.old }
-    ensures depth { core.new.depth ≡ core.old.depth }
-    ensures count { length core.new.scopes ≡ length core.old.scopes }
-    ensures grown { length core.old.store ≤ length core.new.store }
+    ensures kept { Kept core.old core.new }
 {
     let count = core.store.count();
     visit(core, alloc, scope, e)?;

@@ -9,8 +9,8 @@
 //!
 //! Each function of the code has its definition as its contract, as those of ng_core have. A command sets the count of bodies to 0.
 //!
-//! In reading order: `acting`, `reaching`, `series`, `calling`, `emitting` and `visiting` run programs and events, and `running`
-//! has what the crates above call.
+//! In reading order: `acting`, `reaching`, `series`, `calling`, `emitting` and `visiting` run programs and events, `wear` says
+//! whether a counter stands at its last value, and `running` has what the crates above call.
 //!
 //! The steps that open nothing are ng_core's; the digest, and what a fired watch does, are the page's.
 #![tactic(auto)]
@@ -22,3 +22,4 @@ mod reaching;
 pub mod running;
 mod series;
 mod visiting;
+pub mod wear;

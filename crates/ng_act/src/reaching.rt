@@ -1,12 +1,13 @@
 //! What is called, and what an assignment writes to.
-ghost use Rattle.std.specs.Prelude.{◌≡◌, ◌<◌, ◌≤◌, ◌-◌, length, IfOk};
+ghost use Rattle.std.specs.Prelude.{◌<◌, ◌≤◌, ◌-◌, length, IfOk};
 ghost use Rattle.ng_base.specs.ViewOf.{view_of};
 ghost use Rattle.ng_language.specs.Heights.{height};
 ghost use Rattle.ng_language.specs.Views.{ViewStands};
 ghost use Rattle.ng_parse.specs.TreeOf.{tree};
 ghost use Rattle.ng_act.specs.Expressions.{acted, reached, left, made};
 ghost use Rattle.ng_act.specs.Actions.{does};
-ghost use Rattle.ng_core.specs.Frames.{state_of, held, IsSound, Acts};
+ghost use Rattle.ng_act.specs.Kept.{Kept};
+ghost use Rattle.ng_core.specs.Frames.{state_of, IsSound, Acts};
 ghost use Rattle.ng_core.specs.PlaceOf.{place_of as place_seen, PlaceStands, TargetStands, reached_of};
 
 use crate::acting::acted;
@@ -33,11 +34,7 @@ pub(crate) fn reached(
     requires scope { scope.0 < length core.old.scopes }
     requires low { height (tree e.now) ≤ 100 }
     ensures run { Acts reached_of result (state_of core.new) (reached (does (64 - core.old.depth)) scope.0 (acted (does (64 - core.old.depth)) scope.0 (tree e.now)) (tree e.now) (state_of core.old)) }
-    ensures sound { IsSound core.new }
-    ensures held { held core.new ≡ held core.old }
-    ensures depth { core.new.depth ≡ core.old.depth }
-    ensures count { length core.new.scopes ≡ length core.old.scopes }
-    ensures grown { length core.old.store ≤ length core.new.store }
+    ensures kept { Kept core.old core.new }
     ensures stands { IfOk result (λ r. ViewStands (length core.new.store) (view_of r.0)) }
     ensures target { IfOk result (λ r. TargetStands (length core.new.store) (length core.new.scopes) r.1) }
 {
@@ -70,11 +67,7 @@ pub(crate) fn left(core: &mut Core, alloc: Global, scope: ScopeId, e: &Expr) -> 
     requires scope { scope.0 < length core.old.scopes }
     requires low { height (tree e.now) ≤ 100 }
     ensures run { Acts place_seen result (state_of core.new) (left (does (64 - core.old.depth)) scope.0 (tree e.now) (state_of core.old)) }
-    ensures sound { IsSound core.new }
-    ensures held { held core.new ≡ held core.old }
-    ensures depth { core.new.depth ≡ core.old.depth }
-    ensures count { length core.new.scopes ≡ length core.old.scopes }
-    ensures grown { length core.old.store ≤ length core.new.store }
+    ensures kept { Kept core.old core.new }
     ensures stands { IfOk result (λ p. PlaceStands (length core.new.store) p) }
 {
     match e {
@@ -100,11 +93,7 @@ fn made(core: &mut Core, alloc: Global, scope: ScopeId, e: &Expr) -> Result<View
     requires scope { scope.0 < length core.old.scopes }
     requires low { height (tree e.now) ≤ 100 }
     ensures run { Acts view_of result (state_of core.new) (made (does (64 - core.old.depth)) scope.0 (acted (does (64 - core.old.depth)) scope.0 (tree e.now)) (tree e.now) (state_of core.old)) }
-    ensures sound { IsSound core.new }
-    ensures held { held core.new ≡ held core.old }
-    ensures depth { core.new.depth ≡ core.old.depth }
-    ensures count { length core.new.scopes ≡ length core.old.scopes }
-    ensures grown { length core.old.store ≤ length core.new.store }
+    ensures kept { Kept core.old core.new }
     ensures stands { IfOk result (λ w. ViewStands (length core.new.store) (view_of w)) }
 {
     match e {

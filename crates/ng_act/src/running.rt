@@ -1,22 +1,26 @@
-//! What the crates above call: a program is run, an event is emitted or broadcast.
-ghost use Rattle.std.specs.Prelude.{◌≡◌, ◌<◌, ◌≤◌, ◌-◌, length, map, Ok, Err, IfOk, IfErr};
+//! What the crates above call: a program is run, an event is emitted or broadcast, a scope dies. Each tells that a counter stands
+//! at its last value only where one does.
+ghost use Rattle.std.specs.Prelude.{◌≡◌, ◌<◌, ◌≤◌, ◌-◌, ℕ, length, map, Ok, IfOk, IfErr, OnOk};
 ghost use Rattle.std.specs.List.{AllByRecursion};
 ghost use Rattle.ng_base.specs.Objects.{StandsAmong};
-ghost use Rattle.ng_base.specs.Views.{prim, views_list};
+ghost use Rattle.ng_base.specs.Views.{ViewTree, prim, views_list};
 ghost use Rattle.ng_base.specs.ViewOf.{view_of, views_of};
+ghost use Rattle.ng_language.specs.Views.{ViewStands};
 ghost use Rattle.ng_act.specs.Asked.{a_body, an_emit, a_broadcast};
 ghost use Rattle.ng_act.specs.Actions.{does};
+ghost use Rattle.ng_act.specs.Calls.{destroys};
 ghost use Rattle.ng_act.specs.Running.{act_run, as_value_run, same};
 ghost use Rattle.ng_core.specs.Frames.{state_of, held, IsSound, Acts};
-ghost use Rattle.ng_core.specs.State.{with_locals};
+ghost use Rattle.ng_core.specs.State.{State, Run, with_locals};
+ghost use Rattle.ng_act.specs.Worn.{is_worn, HasCause, FaultHasCause};
 ghost use Rattle.ng_parse.specs.ProgramOf.{program};
 ghost use Rattle.ng_members.specs.Leaves.{LocalsStand};
 ghost use Rattle.ng_write.specs.Making.{value_in};
 
 use crate::calling::run_body;
-pub use crate::emitting::destroy;
-use crate::emitting::{broadcast_views, emit_views};
+use crate::emitting::{broadcast_views, destroy as end_scope, emit_views};
 use crate::series::programmed;
+use crate::wear::{is_worn, told, told_fault};
 use ng_base::fault::{Fault, Memory};
 use ng_base::lists::Values;
 use ng_base::locals::Locals;
@@ -42,12 +46,36 @@ fn views_from(alloc: Global, values: &Values) -> Result<Views, Memory>
     Ok(views)
 }
 
-/// The value of a view.
-fn as_value(end: Result<View, Fault>) -> Result<Value, Fault>
+/// What a public call answers: the value of a view, or the fault, whose want of memory has its cause.
+#[tactic(auto, using(crate::proofs::Values::told_acts))]
+fn answered(core: &Core, end: Result<View, Fault>) -> Result<Value, Fault>
     ensures ok { IfOk end (λ v. result ≡ Ok (value_in (view_of v))) }
-    ensures err { IfErr end (λ e. result ≡ Err e) }
+    ensures run { (s : State) (r : Run ViewTree) → Acts view_of end s r → Acts same result s (as_value_run r) }
+    ensures stands { (n : ℕ) → IfOk end (λ v. ViewStands n (view_of v)) → IfOk result (StandsAmong n) }
+    ensures worn { IfErr result (FaultHasCause (is_worn (state_of core.now))) }
 {
-    Ok(value_in(end?))
+    match end {
+        Ok(view) => Ok(value_in(view)),
+        Err(fault) => Err(told_fault(is_worn(core), fault)),
+    }
+}
+
+/// A scope and all below it die (API: `$rootScope.Scope`, `$destroy`).
+pub fn destroy(core: &mut Core, alloc: Global, scope: ScopeId) -> Result<(), Memory>
+    requires sound { IsSound core.old }
+    requires scope { scope.0 < length core.old.scopes }
+    ensures run { OnOk result (state_of core.new ≡ destroys (does (64 - core.old.depth)) scope.0 (state_of core.old)) }
+    ensures sound { IsSound core.new }
+    ensures held { held core.new ≡ held core.old }
+    ensures depth { core.new.depth ≡ core.old.depth }
+    ensures count { length core.new.scopes ≡ length core.old.scopes }
+    ensures grown { length core.old.store ≤ length core.new.store }
+    ensures worn { IfErr result (HasCause (is_worn (state_of core.new))) }
+{
+    match end_scope(core, alloc, scope) {
+        Ok(()) => Ok(()),
+        Err(memory) => Err(told(is_worn(core), memory)),
+    }
 }
 
 /// Runs a program on a scope, with locals of its own, which it may change (guide: Expressions). The first fault stands, and
@@ -71,11 +99,12 @@ pub fn act(
     ensures count { length core.new.scopes ≡ length core.old.scopes }
     ensures grown { length core.old.store ≤ length core.new.store }
     ensures stands { IfOk result (StandsAmong (length core.new.store)) }
+    ensures worn { IfErr result (FaultHasCause (is_worn (state_of core.new))) }
 {
     exchange(core, locals);
     let end = programmed(core, alloc, scope, p.statements());
     exchange(core, locals);
-    as_value(end)
+    answered(core, end)
 }
 
 /// The locals of the core and others change places.
@@ -112,9 +141,10 @@ pub fn act_body(
     ensures count { length core.new.scopes ≡ length core.old.scopes }
     ensures grown { length core.old.store ≤ length core.new.store }
     ensures stands { IfOk result (StandsAmong (length core.new.store)) }
+    ensures worn { IfErr result (FaultHasCause (is_worn (state_of core.new))) }
 {
     let end = run_body(core, alloc, scope, locals, p);
-    as_value(end)
+    answered(core, end)
 }
 
 /// Emits an event from a scope upwards (API: `$rootScope.Scope`, `$emit`): the value is the event's object.
@@ -135,10 +165,14 @@ pub fn emit(
     ensures count { length core.new.scopes ≡ length core.old.scopes }
     ensures grown { length core.old.store ≤ length core.new.store }
     ensures stands { IfOk result (StandsAmong (length core.new.store)) }
+    ensures worn { IfErr result (FaultHasCause (is_worn (state_of core.new))) }
 {
-    let args = views_from(alloc, args)?;
+    let args = match views_from(alloc, args) {
+        Ok(args) => args,
+        Err(memory) => return Err(Fault::Memory(told(is_worn(core), memory))),
+    };
     let end = emit_views(core, alloc, scope, name, args);
-    as_value(end)
+    answered(core, end)
 }
 
 /// Broadcasts an event from a scope downwards (API: `$rootScope.Scope`, `$broadcast`): the value is the event's object.
@@ -159,8 +193,12 @@ pub fn broadcast(
     ensures count { length core.new.scopes ≡ length core.old.scopes }
     ensures grown { length core.old.store ≤ length core.new.store }
     ensures stands { IfOk result (StandsAmong (length core.new.store)) }
+    ensures worn { IfErr result (FaultHasCause (is_worn (state_of core.new))) }
 {
-    let args = views_from(alloc, args)?;
+    let args = match views_from(alloc, args) {
+        Ok(args) => args,
+        Err(memory) => return Err(Fault::Memory(told(is_worn(core), memory))),
+    };
     let end = broadcast_views(core, alloc, scope, name, args);
-    as_value(end)
+    answered(core, end)
 }

@@ -1,5 +1,5 @@
 //! Expressions one after the other: items, pairs and statements.
-ghost use Rattle.std.specs.Prelude.{◌≡◌, ◌<◌, ◌≤◌, ◌-◌, [], length, map, IfOk};
+ghost use Rattle.std.specs.Prelude.{◌<◌, ◌≤◌, ◌-◌, [], length, map, IfOk};
 ghost use Rattle.std.specs.List.{AllByRecursion};
 ghost use Rattle.ng_base.specs.Views.{views_list};
 ghost use Rattle.ng_base.specs.ViewOf.{view_of, views_of, field_of};
@@ -10,7 +10,8 @@ ghost use Rattle.ng_parse.specs.TreeOf.{tree, pair_tree};
 ghost use Rattle.ng_members.specs.Leaves.{FieldsAllStand};
 ghost use Rattle.ng_act.specs.Expressions.{acted_all, acted_pair, acted_pairs, programmed};
 ghost use Rattle.ng_act.specs.Actions.{does};
-ghost use Rattle.ng_core.specs.Frames.{state_of, held, IsSound, Acts};
+ghost use Rattle.ng_act.specs.Kept.{Kept};
+ghost use Rattle.ng_core.specs.Frames.{state_of, IsSound, Acts};
 
 use crate::acting::acted;
 use indexmap::IndexMap;
@@ -38,11 +39,7 @@ pub(crate) fn acted_all(
     requires scope { scope.0 < length core.old.scopes }
     requires low { heights (trees_from (map tree items.now)) ≤ 100 }
     ensures run { Acts (λ vs. views_list (views_of vs)) result (state_of core.new) (acted_all (does (64 - core.old.depth)) scope.0 [] (trees_from (map tree items.now)) (state_of core.old)) }
-    ensures sound { IsSound core.new }
-    ensures held { held core.new ≡ held core.old }
-    ensures depth { core.new.depth ≡ core.old.depth }
-    ensures count { length core.new.scopes ≡ length core.old.scopes }
-    ensures grown { length core.old.store ≤ length core.new.store }
+    ensures kept { Kept core.old core.new }
     ensures stands { IfOk result (λ vs. AllByRecursion (ViewStands (length core.new.store)) (views_list (views_of vs))) }
 {
     let mut views = Views::new(alloc);
@@ -65,11 +62,7 @@ fn acted_pair(
     requires scope { scope.0 < length core.old.scopes }
     requires low { pair_height (pair_tree pair.now) ≤ 100 }
     ensures run { Acts field_of result (state_of core.new) (acted_pair (does (64 - core.old.depth)) scope.0 (pair_tree pair.now) (state_of core.old)) }
-    ensures sound { IsSound core.new }
-    ensures held { held core.new ≡ held core.old }
-    ensures depth { core.new.depth ≡ core.old.depth }
-    ensures count { length core.new.scopes ≡ length core.old.scopes }
-    ensures grown { length core.old.store ≤ length core.new.store }
+    ensures kept { Kept core.old core.new }
     ensures stands { IfOk result (λ f. ViewStands (length core.new.store) (view_of f.1)) }
 {
     match pair {
@@ -102,11 +95,7 @@ pub(crate) fn acted_pairs(
     requires scope { scope.0 < length core.old.scopes }
     requires low { pair_heights (pairs_from (map pair_tree pairs.now)) ≤ 100 }
     ensures run { Acts (λ m. map field_of m.entries) result (state_of core.new) (acted_pairs (does (64 - core.old.depth)) scope.0 [] (pairs_from (map pair_tree pairs.now)) (state_of core.old)) }
-    ensures sound { IsSound core.new }
-    ensures held { held core.new ≡ held core.old }
-    ensures depth { core.new.depth ≡ core.old.depth }
-    ensures count { length core.new.scopes ≡ length core.old.scopes }
-    ensures grown { length core.old.store ≤ length core.new.store }
+    ensures kept { Kept core.old core.new }
     ensures stands { IfOk result (λ m. FieldsAllStand (length core.new.store) (map field_of m.entries)) }
 {
     let mut fields = IndexMap::new(alloc);
@@ -129,11 +118,7 @@ pub(crate) fn programmed(
     requires scope { scope.0 < length core.old.scopes }
     requires low { heights (trees_from (map tree items.now)) ≤ 100 }
     ensures run { Acts view_of result (state_of core.new) (programmed (does (64 - core.old.depth)) scope.0 (trees_from (map tree items.now)) (state_of core.old)) }
-    ensures sound { IsSound core.new }
-    ensures held { held core.new ≡ held core.old }
-    ensures depth { core.new.depth ≡ core.old.depth }
-    ensures count { length core.new.scopes ≡ length core.old.scopes }
-    ensures grown { length core.old.store ≤ length core.new.store }
+    ensures kept { Kept core.old core.new }
     ensures stands { IfOk result (λ w. ViewStands (length core.new.store) (view_of w)) }
 {
     let mut value = undefined();

@@ -4,8 +4,9 @@ ghost use Rattle.ng_base.specs.ViewOf.{view_of};
 ghost use Rattle.ng_language.specs.Views.{ViewStands};
 ghost use Rattle.ng_act.specs.Emitting.{visits, visited, turned};
 ghost use Rattle.ng_act.specs.Actions.{does};
+ghost use Rattle.ng_act.specs.Kept.{Kept};
 ghost use Rattle.ng_core.specs.EventOf.{event_of};
-ghost use Rattle.ng_core.specs.Frames.{state_of, held, IsSound};
+ghost use Rattle.ng_core.specs.Frames.{state_of, IsSound};
 ghost use Rattle.ng_act.specs.Turns.{closed, walk_turns};
 ghost use Rattle.ng_behaviour.specs.Listeners.{called, place_of};
 ghost use Rattle.ng_behaviour.specs.Scopes.{live_at};
@@ -30,11 +31,7 @@ pub(crate) fn visit(core: &mut Core, alloc: Global, scope: ScopeId, e: &Event) -
     requires object { e.now.object.0 < length core.old.store }
     requires args { ViewStands (length core.old.store) (view_of e.now.args) }
     ensures run { OnOk result (state_of core.new ≡ visits (does (64 - core.old.depth)) (event_of e.now) scope.0 (state_of core.old)) }
-    ensures sound { IsSound core.new }
-    ensures held { held core.new ≡ held core.old }
-    ensures depth { core.new.depth ≡ core.old.depth }
-    ensures count { length core.new.scopes ≡ length core.old.scopes }
-    ensures grown { length core.old.store ≤ length core.new.store }
+    ensures kept { Kept core.old core.new }
 {
     if !core.scopes.is_live(scope) {
         return Ok(());
@@ -53,11 +50,7 @@ fn hear(core: &mut Core, alloc: Global, scope: ScopeId, e: &Event) -> Result<(),
     requires object { e.now.object.0 < length core.old.store }
     requires args { ViewStands (length core.old.store) (view_of e.now.args) }
     ensures run { OnOk result (state_of core.new ≡ visited (does (64 - core.old.depth)) (event_of e.now) scope.0 (place_of (state_of core.old).heard scope.0 e.now.name) (state_of core.old)) }
-    ensures sound { IsSound core.new }
-    ensures held { held core.new ≡ held core.old }
-    ensures depth { core.new.depth ≡ core.old.depth }
-    ensures count { length core.new.scopes ≡ length core.old.scopes }
-    ensures grown { length core.old.store ≤ length core.new.store }
+    ensures kept { Kept core.old core.new }
 {
     let mut walk = begin_walk(core, scope, &e.name);
     let end = take_turns(core, alloc, scope, e, &mut walk);
@@ -110,11 +103,7 @@ fn take_turn(
     requires object { e.now.object.0 < length core.old.store }
     requires args { ViewStands (length core.old.store) (view_of e.now.args) }
     ensures run { OnOk result (state_of core.new ≡ turned (does (64 - core.old.depth)) (event_of e.now) scope.0 (live_at core.old.scopes scope.0) (called (lists_of core.old.listeners) id.0) (state_of core.old)) }
-    ensures sound { IsSound core.new }
-    ensures held { held core.new ≡ held core.old }
-    ensures depth { core.new.depth ≡ core.old.depth }
-    ensures count { length core.new.scopes ≡ length core.old.scopes }
-    ensures grown { length core.old.store ≤ length core.new.store }
+    ensures kept { Kept core.old core.new }
 {
     let body = match core.listeners.body(id) {
         None => return Ok(()),

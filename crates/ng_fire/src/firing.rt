@@ -1,5 +1,6 @@
 //! The fire of a watcher.
-ghost use Rattle.std.specs.Prelude.{◌≡◌, ◌<◌, [], length, map, false, true, None, Some, option_map, IsSome, IfOk, OnOk};
+ghost use Rattle.std.specs.Prelude.{◌≡◌, ◌<◌, [], length, map, false, true, None, Some, option_map, IsSome, IfErr, IfOk, OnOk};
+ghost use Rattle.ng_act.specs.Worn.{HasCause};
 ghost use Rattle.ng_base.specs.Faults.{is_memory};
 ghost use Rattle.ng_base.specs.Meets.{Gives};
 ghost use Rattle.ng_base.specs.ViewOf.{view_of};
@@ -14,6 +15,7 @@ ghost use Rattle.ng_link.specs.Calls.{keeping_at};
 ghost use Rattle.ng_link.specs.State.{state_of, templates_of, listening_of};
 ghost use Rattle.ng_instances.specs.Due.{due_of, all_due};
 ghost use Rattle.ng_instances.specs.Instances.{bound_for, linked_for, is_site};
+ghost use Rattle.ng_steps.specs.Worn.{is_worn};
 ghost use Rattle.ng_value.specs.Snaps.{snap_of};
 ghost use Rattle.ng_watch.specs.Now.{value_now};
 ghost use Rattle.ng_watch.specs.Seen.{watching_of};
@@ -21,6 +23,7 @@ ghost use Rattle.ng_watch.specs.Table.{found, kept_at};
 
 use crate::blocks::fire_outlets;
 use crate::bound_fires::{bound_of, fire_bound};
+use ng_act::wear::told;
 use ng_base::fault::{Fault, Memory};
 use ng_base::locals::Locals;
 use ng_base::path::Key;
@@ -30,6 +33,7 @@ use ng_changes::listening::run_listener;
 use ng_instances::filling::Due;
 use ng_instances::instances::Listener;
 use ng_link::works::Works;
+use ng_steps::wear::is_worn;
 use ng_store::store::Store;
 use ng_value::copies::copied;
 use ng_value::snapshot::Snap;
@@ -262,9 +266,13 @@ fn quiet() -> Followed
     }
 }
 
-/// The fire of a watcher whose test was dirty: it keeps the snapshot of now, which the site of a template then shows; a declared
-/// watch runs its program (guide: Scopes, "Scope `$watch` Depths").
-pub fn fire(works: &mut Works, alloc: Global, key: &Key, snapshot: Snap) -> Result<Followed, Memory>
+/// The fire of a watcher whose test was dirty.
+fn fire_watcher(
+    works: &mut Works,
+    alloc: Global,
+    key: &Key,
+    snapshot: Snap,
+) -> Result<Followed, Memory>
     requires whole { IsWhole works.old }
     requires there { IsSome (found key.now (state_of works.old).watchers) }
     requires dirty { IsDirtyWith (snap_of snapshot) (state_of works.old) key.now }
@@ -277,4 +285,22 @@ pub fn fire(works: &mut Works, alloc: Global, key: &Key, snapshot: Snap) -> Resu
         return fire_drawn(works, alloc, key, snapshot);
     }
     fire_declared(works, alloc, key, snapshot)
+}
+
+/// The fire of a watcher whose test was dirty: it keeps the snapshot of now, which the site of a template then shows; a declared
+/// watch runs its program (guide: Scopes, "Scope `$watch` Depths").
+pub fn fire(works: &mut Works, alloc: Global, key: &Key, snapshot: Snap) -> Result<Followed, Memory>
+    requires whole { IsWhole works.old }
+    requires there { IsSome (found key.now (state_of works.old).watchers) }
+    requires dirty { IsDirtyWith (snap_of snapshot) (state_of works.old) key.now }
+    ensures state { IfOk result (λ f. (state_of works.new, f.faulted) ≡ fired key.now (snap_of snapshot) (state_of works.old)) }
+    ensures added { IfOk result (λ f. f.added ≡ fire_adds key.now (snap_of snapshot) (state_of works.old)) }
+    ensures whole { OnOk result (IsWhole works.new) }
+    ensures templates { templates_of works.new ≡ templates_of works.old }
+    ensures worn { IfErr result (HasCause (is_worn (state_of works.new))) }
+{
+    match fire_watcher(works, alloc, key, snapshot) {
+        Ok(followed) => Ok(followed),
+        Err(memory) => Err(told(is_worn(works), memory)),
+    }
 }

@@ -39,7 +39,7 @@ use ng_instances::linking::Place;
 use ng_link::works::Works;
 use ng_parts::Repeated;
 use ng_rows::rows::{Ground, Row, ground_for, kept_rows, plan_rows, role_for, rows_from, tell_row};
-use ng_rows::tracking::{Item, make_items, track_keys};
+use ng_rows::tracking::{Item, make_items, place_of, track_keys};
 use std::alloc::Global;
 
 /// An outlet of an instance, the fragment that its rows are made of, the scope round them, and the scopes outside what the slots in them are given.
@@ -215,16 +215,6 @@ fn make_row(
     }
 }
 
-/// A place as a number of 32 bits.
-fn place_at(i: usize) -> Result<u32, Memory>
-    ensures { IfOk result (λ n. n ≡ i) }
-{
-    match u32::try_from(i) {
-        Ok(n) => Ok(n),
-        Err(_) => Err(Memory::Worn),
-    }
-}
-
 /// The row of an entry is kept, or made unless one before it could not be made. The answer is how many rows stand then before the next.
 fn fire_row(
     works: &mut Works,
@@ -253,7 +243,7 @@ fn fire_row(
     match &row.from {
         Some(body) => {
             keep_row(works, ground, i, body, row)?;
-            place_at(at as usize + 1)
+            place_of(at as usize + 1)
         }
         None => {
             if told.faulted {
@@ -263,7 +253,7 @@ fn fire_row(
             if told.faulted {
                 Ok(at)
             } else {
-                place_at(at as usize + 1)
+                place_of(at as usize + 1)
             }
         }
     }
@@ -292,7 +282,7 @@ fn fire_rows(
 {
     let mut at = 0;
     for i in 0..rows.len() {
-        let place = place_at(i)?;
+        let place = place_of(i)?;
         at = fire_row(works, alloc, spot, ground, place, at, &rows[i], told)?;
     }
     Ok(())

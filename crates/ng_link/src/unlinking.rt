@@ -1,9 +1,10 @@
 //! Unlinking: a body goes, with those in it (API: ngIf, ngSwitch, ngRepeat).
-ghost use Rattle.std.specs.Prelude.{List, Some, ◌≡◌, true, map, not, OnOk, IfOk, IfSome, MatchOption, option_and_then, slice_get};
+ghost use Rattle.std.specs.Prelude.{List, Some, ◌≡◌, true, map, not, OnOk, IfOk, IfErr, IfSome, MatchOption, option_and_then, slice_get};
 ghost use Rattle.std.specs.BTreeMap.{is_at};
 ghost use Rattle.std.specs.List.{filter};
 ghost use Rattle.std.specs.Map.{lookup, lookup_key, remove_entry};
 ghost use Rattle.std.specs.Ordering.{nat_cmp};
+ghost use Rattle.ng_base.specs.declared.fault.Memory.TheVariants.{Refused};
 ghost use Rattle.ng_base.specs.declared.path.Key.{Key as KeyOf};
 ghost use Rattle.ng_dom.specs.Lists.{without_at};
 ghost use Rattle.ng_compose.specs.Kept.{Named};
@@ -246,9 +247,8 @@ impl Works {
         Ok(())
     }
 
-    /// A body that an instance holds goes, with those in it. Its place among the bodies of its outlet may be guessed. It costs what it takes and
-    /// a move of the bodies behind it by one, and where the guess is wrong a look at each body of the instance.
-    pub fn unlink(&mut self, holder: &Path, p: &Path, guess: usize) -> Result<(), Memory>
+    /// A body that an instance holds goes, with those in it.
+    fn take_out(&mut self, holder: &Path, p: &Path, guess: usize) -> Result<(), Memory>
         requires stands { IsStanding self.old }
         requires held { IsHeld holder.now p.now (state_of self.old) }
         ensures state { OnOk result (state_of self.new ≡ unlinked_at holder.now p.now (state_of self.old)) }
@@ -259,5 +259,23 @@ impl Works {
         self.leave(p)?;
         self.cut(holder, p, guess)?;
         Ok(())
+    }
+
+    /// A body that an instance holds goes, with those in it. Its place among the bodies of its outlet may be guessed. It costs what it takes and
+    /// a move of the bodies behind it by one, and where the guess is wrong a look at each body of the instance. It draws
+    /// from no counter, so it never tells that one stands at its last value.
+    pub fn unlink(&mut self, holder: &Path, p: &Path, guess: usize) -> Result<(), Memory>
+        requires stands { IsStanding self.old }
+        requires held { IsHeld holder.now p.now (state_of self.old) }
+        ensures state { OnOk result (state_of self.new ≡ unlinked_at holder.now p.now (state_of self.old)) }
+        ensures stands { OnOk result (IsStanding self.new) }
+        ensures core { self.new.core ≡ self.old.core }
+        ensures templates { templates_of self.new ≡ templates_of self.old }
+        ensures refused { IfErr result (λ e. e ≡ Refused) }
+    {
+        match self.take_out(holder, p, guess) {
+            Ok(()) => Ok(()),
+            Err(_) => Err(Memory::Refused),
+        }
     }
 }

@@ -7,6 +7,7 @@ use Rattle.ng_drawing.specs.Drawing.{shown_as}
 use Rattle.ng_link.specs.State.{shown, rendering}
 use Rattle.ng_page.specs.Answered.{WhenOk}
 use Rattle.ng_commands.specs.Handling.{Happening}
+use Rattle.ng_page.specs.Causes.{HasCause}
 use Rattle.ng_page.specs.Dispatch.{Dispatches, last_digest}
 use Rattle.ng_page.specs.Dispatched.{told_all, Dispatched}
 use Rattle.ng_page.specs.PageOf.{state_of, IsPage}
@@ -44,6 +45,7 @@ dispatched_spent x n p s h = record {
   settled = tt;
   renders = tt;
   page = h;
+  worn = tt;
 }
 
 -- no handler ran
@@ -58,6 +60,7 @@ dispatched_idle x n p s d h = record {
   settled = tt;
   renders = tt;
   page = h;
+  worn = tt;
 }
 
 pub dispatched_none : (x : Happening) (n : ℕ) (p : Page) (e : Engine) (os : List Outcome) → p.spent ≡ false → (length os == 0) ≡ true → (os ≡ [] → e ≡ p.engine) → Dispatches x n (state_of p) (told_all os) (state_of (record p { engine = e })) → IsPage p
@@ -81,11 +84,12 @@ dispatched_some x n p new os s t z d settled h = record {
   settled = settled;
   renders = when_done (IsSettled (state_of new)) (rendering (state_of new) ≡ shown_as (shown (state_of new))) (last_digest (told_all os)) settled (λ y. settled_renders (state_of new) y h.watched h.works.whole.standing.1.inner h.fits);
   page = λ _. h;
+  worn = tt;
 }
 
 -- memory was wanted
-pub dispatched_wanting : (x : Happening) (n : ℕ) (p : Page) (m : Wanted) (new : Page) → p.spent ≡ false → new.spent ≡ true → Dispatched x n p (Err (Memory m)) new
-dispatched_wanting x n p m new s t = record {
+pub dispatched_wanting : (x : Happening) (n : ℕ) (p : Page) (m : Wanted) (new : Page) → p.spent ≡ false → new.spent ≡ true → HasCause new (Memory m) → Dispatched x n p (Err (Memory m)) new
+dispatched_wanting x n p m new s t w = record {
   spent = (λ e. cc, λ e. absurd (not_both p.spent s e));
   idle = λ e. cc;
   ran = tt;
@@ -95,4 +99,5 @@ dispatched_wanting x n p m new s t = record {
   settled = tt;
   renders = tt;
   page = λ f. absurd (not_both new.spent f t);
+  worn = w;
 }

@@ -23,6 +23,7 @@ commanded_spent a p s h = record {
   settled = tt;
   renders = tt;
   page = h;
+  worn = tt;
 }
 
 commanded_idle : (a : Asked) (p : Page) → p.spent ≡ false → is_idle a (state_of p) ≡ true → IsPage p → Commanded a p (Err Idle) p
@@ -36,6 +37,7 @@ commanded_idle a p f i h = record {
   settled = tt;
   renders = tt;
   page = h;
+  worn = tt;
 }
 
 pub commanded_refused : (a : Asked) (p : Page) (f : PageFault) → Some f ≡ refusal p.spent (is_idle a (state_of p)) → IsPage p → Commanded a p (Err f) p
@@ -93,6 +95,7 @@ commanded_ended a old new s ran r n e h =
       settled = h.settled;
       renders = h.renders;
       page = h.page;
+      worn = h.worn;
     }
 
 -- a call was not refused

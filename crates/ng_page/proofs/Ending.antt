@@ -30,4 +30,5 @@ ended_well s o new spent step report settled h = record {
   settled = settled;
   renders = page_renders (state_of new) o new refl h settled;
   page = λ f. h;
+  worn = tt;
 }

@@ -1,10 +1,11 @@
 -- What a call of a command answers, and what it leaves of a page.
-use Rattle.std.specs.Prelude.{◌≡◌, ◌↔◌, Bool, true, false, Option, Some, None, Result, Ok, Err, IsOk, IfOk}
+use Rattle.std.specs.Prelude.{◌≡◌, ◌↔◌, Bool, true, false, Option, Some, None, Result, Ok, Err, IsOk, IfOk, IfErr}
 use Rattle.ng_drawing.specs.Drawing.{shown_as}
 use Rattle.ng_base.specs.declared.fault.Memory.{Memory as Wanted}
 use Rattle.ng_link.specs.State as link
 use Rattle.ng_link.specs.State.{shown, rendering}
 use Rattle.ng_page.specs.Answered.{WhenOk}
+use Rattle.ng_page.specs.Causes.{HasCause}
 use Rattle.ng_commands.specs.Commands.{Asked, is_idle}
 use Rattle.ng_page.specs.OutcomeOf.{outcome_of}
 use Rattle.ng_page.specs.PageOf.{state_of, IsPage, Displays}
@@ -44,6 +45,7 @@ pub record Ended (ran : Result (Unit {0}) Wanted) (s : link.State) (result : Res
   pub settled : IfOk result (λ o. WhenOk o.digest (IsSettled (state_of new)))
   pub renders : IfOk result (λ o. WhenOk o.digest (rendering (state_of new) ≡ shown_as (shown (state_of new))))
   pub page : IsPage new
+  pub worn : IfErr result (HasCause new)
 
 pub record Commanded (a : Asked) (old : Page) (result : Result Outcome PageFault) (new : Page) : Type 0 where
   -- Spent exactly where an earlier call wanted memory
@@ -60,3 +62,5 @@ pub record Commanded (a : Asked) (old : Page) (result : Result Outcome PageFault
   pub settled : IfOk result (λ o. WhenOk o.digest (IsSettled (state_of new)))
   pub renders : IfOk result (λ o. WhenOk o.digest (rendering (state_of new) ≡ shown_as (shown (state_of new))))
   pub page : IsPage new
+  -- that a counter stands at its last value is told only where one does
+  pub worn : IfErr result (HasCause new)

@@ -1,11 +1,12 @@
 -- What the call that dispatches an event answers, and what it leaves of a page.
-use Rattle.std.specs.Prelude.{ℕ, ◌≡◌, ◌<◌, ◌↔◌, true, false, List, [], length, map, Option, None, Some, Result, Ok, Err, IfOk}
+use Rattle.std.specs.Prelude.{ℕ, ◌≡◌, ◌<◌, ◌↔◌, true, false, List, [], length, map, Option, None, Some, Result, Ok, Err, IfOk, IfErr}
 use Rattle.ng_digest.specs.declared.log.Report.{Report}
 use Rattle.ng_digest.specs.declared.rounds.DigestFault.{DigestFault}
 use Rattle.ng_drawing.specs.Drawing.{shown_as}
 use Rattle.ng_link.specs.State.{shown, rendering}
 use Rattle.ng_page.specs.Answered.{WhenOk}
 use Rattle.ng_commands.specs.Handling.{Happening}
+use Rattle.ng_page.specs.Causes.{HasCause}
 use Rattle.ng_page.specs.Dispatch.{Told, Dispatches, last_digest}
 use Rattle.ng_page.specs.PageOf.{state_of, IsPage, Displays}
 use Rattle.ng_commands.specs.Settled.{IsSettled}
@@ -42,6 +43,8 @@ pub record Dispatched (x : Happening) (n : ℕ) (old : Page) (result : Result (L
   pub settled : IfOk result (λ os. WhenOk (last_digest (told_all os)) (IsSettled (state_of new)))
   pub renders : IfOk result (λ os. WhenOk (last_digest (told_all os)) (rendering (state_of new) ≡ shown_as (shown (state_of new))))
   pub page : IsPage new
+  -- that a counter stands at its last value is told only where one does
+  pub worn : IfErr result (HasCause new)
 
 -- what holds unless a digest was made that failed
 abbrev pub UnlessFailed : Option (Result Report DigestFault) → Type 0 → Type 0

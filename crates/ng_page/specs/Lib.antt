@@ -8,6 +8,7 @@ pub mod Targets
 pub mod Dispatch
 pub mod PageOf
 pub mod OutcomeOf
+pub mod Causes
 pub mod Commanded
 pub mod Dispatched
 pub mod EventSeen

@@ -82,6 +82,6 @@ pub record Holds (e : Engine) : Type 0 where
   pub works : WorksAre e.works
   pub stage : IsAtStage e.progress.stage e
 
--- which counter of a page stands at its last value isn't told yet: the calls that run programs answer so without it
+-- which counter of a page stands at its last value is told by the commands on it, and not by each call of a digest
 abbrev pub engine_moves : Moves Engine
 engine_moves = record { State = State; Key = Key; machine = page_machine; at = place_of; Holds = Holds; Rests = λ e. WorksAre e.works; IsWorn = λ e. Unit {0} }

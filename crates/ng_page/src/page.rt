@@ -28,6 +28,7 @@ ghost use Rattle.ng_page.specs.OutcomeOf.{outcome_of};
 ghost use Rattle.ng_commands.specs.BetweenSteps.{PageIs};
 ghost use Rattle.ng_commands.specs.Settled.{IsSettled};
 ghost use Rattle.ng_page.specs.Steps.{Opens, OpensShort};
+ghost use Rattle.ng_steps.specs.Worn.{is_worn};
 ghost use Rattle.ng_page.specs.Targets.{element_name};
 
 use crate::digesting::conclude;
@@ -35,6 +36,7 @@ use crate::dispatching::dispatch_at;
 use crate::engine::Engine;
 use crate::opening::open;
 use crate::outcome::{Outcome, Outcomes, PageFault};
+use ng_act::wear;
 use ng_app::App;
 use ng_base::fault::{Fault, Memory};
 use ng_base::name::{NodeId, ScopeId};
@@ -50,6 +52,7 @@ use ng_link::works::Works;
 use ng_parse::Program;
 use ng_parts::Tpl;
 use ng_render::render;
+use ng_steps::wear::is_worn;
 use serde_json::Value as Json;
 use std::alloc::Global;
 
@@ -89,6 +92,8 @@ fn element_at(dom: &Dom, path: &Path) -> Option<NodeId>
 impl Page {
     ghost use Rattle.ng_dom.specs.Paths.{StandsIn};
     ghost use Rattle.ng_link.specs.Events.{named, scope_of, state_by, control_at, kind_at};
+    ghost use Rattle.ng_act.specs.Worn.{told};
+    ghost use Rattle.ng_page.specs.Causes.{HasCause};
     ghost use Rattle.ng_page.specs.Commanded.{Commanded, Ended, refusal};
     ghost use Rattle.ng_page.specs.Dispatched.{Dispatched};
     ghost use Rattle.ng_page.specs.PageOf.{state_of, fragments_of, IsPage, Displays, Names};
@@ -109,17 +114,24 @@ impl Page {
         ensures rendering { IfOk result (λ r. WhenOk r.1.digest (rendering (state_of r.0) ≡ shown_as (shown (state_of r.0)))) }
         ensures page { IfOk result (λ r. IsPage r.0) }
         ensures fresh { IfOk result (λ r. r.0.spent ≡ false) }
+        // No page is there whose counters could be looked at.
+        ensures refused { IfErr result (λ e. e ≡ Memory.Refused) }
     {
-        let works = open(alloc, t, app)?;
+        let works = match open(alloc, t, app) {
+            Ok(works) => works,
+            Err(_) => return Err(Memory::Refused),
+        };
         let mut engine = Engine::new(alloc, works);
-        let outcome = conclude(&mut engine)?;
-        Ok((
-            Page {
-                engine,
-                spent: false,
-            },
-            outcome,
-        ))
+        match conclude(&mut engine) {
+            Ok(outcome) => Ok((
+                Page {
+                    engine,
+                    spent: false,
+                },
+                outcome,
+            )),
+            Err(_) => Err(Memory::Refused),
+        }
     }
 
     /// Whether a scope does not live.
@@ -159,13 +171,15 @@ impl Page {
         None
     }
 
-    /// Want of memory, after which nothing is said of the page any more.
+    /// Want of memory, after which nothing is said of the page any more, but that a counter of it does stand at its last value
+    /// where that is told.
     fn wanting(&mut self, memory: Memory) -> PageFault
-        ensures answer { result ≡ PageFault.Memory memory }
+        ensures answer { result ≡ PageFault.Memory (told (is_worn (state_of self.new)) memory) }
         ensures spent { self.new.spent ≡ true }
+        ensures worn { HasCause self.new result }
     {
         self.spent = true;
-        PageFault::Memory(memory)
+        PageFault::Memory(wear::told(is_worn(&self.engine.works), memory))
     }
 
     /// Ends a command whose program has run.

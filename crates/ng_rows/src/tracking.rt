@@ -260,7 +260,7 @@ fn track_key(
 }
 
 /// The place of an entry as a number of 32 bits.
-pub(crate) fn place_of(i: usize) -> Result<u32, Memory>
+pub fn place_of(i: usize) -> Result<u32, Memory>
     ensures { IfOk result (λ n. n ≡ i) }
 {
     if i < 4_294_967_295 {

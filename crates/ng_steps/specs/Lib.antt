@@ -3,3 +3,4 @@ pub mod LinkingOf
 pub mod Attending
 pub mod AttendingOf
 pub mod LinkBindings
+pub mod Worn

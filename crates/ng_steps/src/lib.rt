@@ -8,7 +8,8 @@
 //! Each call leaves the state that its definition says, want of memory alone apart, and holds what `IsWhole` says.
 //!
 //! In reading order: `linking` links a fragment by the steps of `stepping`, with `binding` and `binding_texts` for isolate scopes,
-//! `attending` for what directives do on theirs, and `functions` for those that are installed; `progress` is how far a linking has come.
+//! `attending` for what directives do on theirs, and `functions` for those that are installed; `progress` is how far a linking has come;
+//! `wear` tells whether a counter of a page stands at its last value.
 //!
 //! Not here: in which order things are linked (ng_build), and when a fragment is linked (ng_fire, ng_page).
 #![tactic(auto)]
@@ -20,3 +21,4 @@ pub mod functions;
 pub mod linking;
 pub mod progress;
 pub mod stepping;
+pub mod wear;

@@ -2,6 +2,7 @@
 ghost use Rattle.std.specs.Prelude.{◌≡◌, ◌<◌, ◌≤◌, ◌-◌, length, map, drop, Ok, Some, None, true, IfErr, IfOk, IsSome, OnOk};
 ghost use Rattle.ng_base.specs.Faults.{is_memory};
 ghost use Rattle.ng_behaviour.specs.Scopes.{path_at};
+ghost use Rattle.ng_act.specs.Worn.{HasCause};
 ghost use Rattle.ng_core.specs.Frames as cores;
 ghost use Rattle.ng_core.specs.Frames.{IsSound};
 ghost use Rattle.ng_drawing.specs.Nodes.{node_limit};
@@ -9,6 +10,7 @@ ghost use Rattle.ng_drawing.specs.Template.{Fragment};
 ghost use Rattle.ng_changes.specs.Changes.{changed};
 ghost use Rattle.ng_steps.specs.Links.{rested_on, rested_on_all, all_buried, given_up, placed, first_of, link_at as linked_at_place};
 ghost use Rattle.ng_steps.specs.LinkingOf.{linking, AreBelow, IsGrounded};
+ghost use Rattle.ng_steps.specs.Worn.{is_worn};
 ghost use Rattle.ng_changes.specs.Whole.{IsWhole};
 ghost use Rattle.ng_instances.specs.BoundOf.{registered_of};
 ghost use Rattle.ng_link.specs.Calls.{with_core};
@@ -23,6 +25,8 @@ ghost use Rattle.ng_compose.specs.Kept.{fragment_for};
 
 use crate::progress::Progress;
 use crate::stepping::link_steps;
+use crate::wear::is_worn;
+use ng_act::wear::told;
 use ng_base::fault::{Fault, Memory};
 use ng_base::name::ScopeId;
 use ng_build::ordering::LinkStep;
@@ -200,11 +204,8 @@ fn stand(
     })
 }
 
-/// A fragment is linked at a place on a scope, where the slots in it are given something by directives of which these are the scopes outside (guide:
-/// HTML Compiler, "How directives are compiled"): its steps are done in link order; then its sites are watched, and its nodes stand. The nodes are
-/// counted before the first is made: where they find no room nothing stands, and what the programs of the elements that did have done stays. So it is
-/// where a directive is inside too many others, and where a scope can't be made.
-pub fn link_at(
+/// A fragment is linked at a place on a scope: its steps are done, as many as find room.
+fn link_fragment(
     works: &mut Works,
     alloc: Global,
     place: &Place,
@@ -231,6 +232,35 @@ pub fn link_at(
     match met {
         Some(fault) => given_up(works, alloc, done, fault),
         None => stand(works, alloc, place, origin, scope, done),
+    }
+}
+
+/// A fragment is linked at a place on a scope, where the slots in it are given something by directives of which these are the scopes outside (guide:
+/// HTML Compiler, "How directives are compiled"): its steps are done in link order; then its sites are watched, and its nodes stand. The nodes are
+/// counted before the first is made: where they find no room nothing stands, and what the programs of the elements that did have done stays. So it is
+/// where a directive is inside too many others, and where a scope can't be made.
+pub fn link_at(
+    works: &mut Works,
+    alloc: Global,
+    place: &Place,
+    origin: &Origin,
+    scope: ScopeId,
+    outsides: Vec<ScopeId>,
+) -> Result<Built, Memory>
+    requires whole { IsWhole works.old }
+    requires template { IsSome (fragment_for (templates_of works.old) origin.now) }
+    requires scope { scope.0 < length works.old.core.scopes }
+    requires outsides { AreBelow (length works.old.core.scopes) (map (λ s. s.0) outsides.items) }
+    requires free { IsFree (place_of place.now) (path_at works.old.core.scopes scope.0) (state_of works.old) }
+    ensures linked { IfOk result (λ b. (f : Fragment) → fragment_for (templates_of works.old) origin.now ≡ Some f → (state_of works.new ≡ (linked_at_place (place_of place.now) origin.now scope.0 (map (λ s. s.0) outsides.items) f (state_of works.old)).state) × (b.added ≡ (linked_at_place (place_of place.now) origin.now scope.0 (map (λ s. s.0) outsides.items) f (state_of works.old)).added) × (b.fault ≡ (linked_at_place (place_of place.now) origin.now scope.0 (map (λ s. s.0) outsides.items) f (state_of works.old)).fault)) }
+    ensures grown { OnOk result (length works.old.core.store ≤ length works.new.core.store) }
+    ensures whole { OnOk result (IsWhole works.new) }
+    ensures templates { templates_of works.new ≡ templates_of works.old }
+    ensures worn { IfErr result (HasCause (is_worn (state_of works.new))) }
+{
+    match link_fragment(works, alloc, place, origin, scope, outsides) {
+        Ok(built) => Ok(built),
+        Err(memory) => Err(told(is_worn(works), memory)),
     }
 }
 

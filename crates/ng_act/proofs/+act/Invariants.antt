@@ -1,4 +1,4 @@
-use Rattle.std.proofs.Common.{◌≡◌, ◌<◌, ◌≤◌, ◌+◌, ◌-◌, ◌*◌, [], length, map, drop, max, IsSome, option_map}
+use Rattle.std.proofs.Common.{◌≡◌, ◌<◌, ◌≤◌, ◌+◌, ◌-◌, ◌*◌, [], length, map, drop, max, option_map}
 use Rattle.std.specs.Prelude.{IfSome}
 use Rattle.std.specs.List.{AllByRecursion}
 use Rattle.ng_base.specs.Views.{views_list}
@@ -9,12 +9,12 @@ use Rattle.ng_language.specs.Views.{ViewStands}
 use Rattle.ng_parse.specs.TreeOf.{tree, pair_tree}
 use Rattle.ng_members.specs.Leaves.{FieldsAllStand}
 use Rattle.ng_events.specs.Stands.{open_of, IsOpen}
-use Rattle.ng_core.specs.Burying.{many}
 use Rattle.ng_act.specs.Expressions.{acted_all, acted_pairs, statements, programmed}
 use Rattle.ng_act.specs.Emitting.{rises, sweeps}
 use Rattle.ng_act.specs.Actions.{does}
 use Rattle.ng_core.specs.EventOf.{event_of}
-use Rattle.ng_core.specs.Frames.{state_of, held, IsSound}
+use Rattle.ng_core.specs.Frames.{state_of, IsSound}
+use Rattle.ng_act.specs.Kept.{Kept}
 use Rattle.ng_act.specs.Turns.{closed, walk_turns, ahead_of}
 use Rattle.ng_act.proofs.+act.Given as goal
 
@@ -132,11 +132,7 @@ decreases-visiting::take_turn l = (64 - l.core.now.depth) * 2000 + 20
 abbrev pub invariant-series::acted_all-loop-item : goal.invariant-series::acted_all-loop-item
 invariant-series::acted_all-loop-item l = record {
   low : heights (trees_from (map tree (drop l.item-index l.items))) ≤ heights (trees_from (map tree l.items));
-  sound : IsSound l.core;
-  held : held l.core ≡ held l.initial.core;
-  depth : l.core.depth ≡ l.initial.core.depth;
-  count : length l.core.scopes ≡ length l.initial.core.scopes;
-  grown : length l.initial.core.store ≤ length l.core.store;
+  kept : Kept l.initial.core l.core;
   stands : AllByRecursion (ViewStands (length l.core.store)) (views_list (views_of l.views));
   same : acted_all (does (64 - l.initial.core.depth)) l.scope.0 (views_list (views_of l.views)) (trees_from (map tree (drop l.item-index l.items))) (state_of l.core)
       ≡ acted_all (does (64 - l.initial.core.depth)) l.scope.0 [] (trees_from (map tree l.items)) (state_of l.initial.core);
@@ -145,11 +141,7 @@ invariant-series::acted_all-loop-item l = record {
 abbrev pub invariant-series::programmed-loop-item : goal.invariant-series::programmed-loop-item
 invariant-series::programmed-loop-item l = record {
   low : heights (trees_from (map tree (drop l.item-index l.items))) ≤ heights (trees_from (map tree l.items));
-  sound : IsSound l.core;
-  held : held l.core ≡ held l.initial.core;
-  depth : l.core.depth ≡ l.initial.core.depth;
-  count : length l.core.scopes ≡ length l.initial.core.scopes;
-  grown : length l.initial.core.store ≤ length l.core.store;
+  kept : Kept l.initial.core l.core;
   stands : ViewStands (length l.core.store) (view_of l.value);
   same : statements (does (64 - l.initial.core.depth)) l.scope.0 (view_of l.value) (trees_from (map tree (drop l.item-index l.items))) (state_of l.core)
       ≡ programmed (does (64 - l.initial.core.depth)) l.scope.0 (trees_from (map tree l.items)) (state_of l.initial.core);
@@ -158,11 +150,7 @@ invariant-series::programmed-loop-item l = record {
 abbrev pub invariant-series::acted_pairs-loop-pair : goal.invariant-series::acted_pairs-loop-pair
 invariant-series::acted_pairs-loop-pair l = record {
   low : pair_heights (pairs_from (map pair_tree (drop l.pair-index l.pairs))) ≤ pair_heights (pairs_from (map pair_tree l.pairs));
-  sound : IsSound l.core;
-  held : held l.core ≡ held l.initial.core;
-  depth : l.core.depth ≡ l.initial.core.depth;
-  count : length l.core.scopes ≡ length l.initial.core.scopes;
-  grown : length l.initial.core.store ≤ length l.core.store;
+  kept : Kept l.initial.core l.core;
   stands : FieldsAllStand (length l.core.store) (map field_of l.fields.entries);
   same : acted_pairs (does (64 - l.initial.core.depth)) l.scope.0 (map field_of l.fields.entries) (pairs_from (map pair_tree (drop l.pair-index l.pairs))) (state_of l.core)
       ≡ acted_pairs (does (64 - l.initial.core.depth)) l.scope.0 [] (pairs_from (map pair_tree l.pairs)) (state_of l.initial.core);
@@ -170,11 +158,7 @@ invariant-series::acted_pairs-loop-pair l = record {
 
 abbrev pub invariant-emitting::rise-loop-i : goal.invariant-emitting::rise-loop-i
 invariant-emitting::rise-loop-i l = record {
-  sound : IsSound l.core;
-  held : held l.core ≡ held l.initial.core;
-  depth : l.core.depth ≡ l.initial.core.depth;
-  count : length l.core.scopes ≡ length l.initial.core.scopes;
-  grown : length l.initial.core.store ≤ length l.core.store;
+  kept : Kept l.initial.core l.core;
   inside : open_of l.core.listeners < l.core.depth;
   within : IfSome l.next (λ s. s.0 < length l.core.scopes);
   object : l.e.object.0 < length l.core.store;
@@ -184,11 +168,7 @@ invariant-emitting::rise-loop-i l = record {
 
 abbrev pub invariant-emitting::sweep-loop-i : goal.invariant-emitting::sweep-loop-i
 invariant-emitting::sweep-loop-i l = record {
-  sound : IsSound l.core;
-  held : held l.core ≡ held l.initial.core;
-  depth : l.core.depth ≡ l.initial.core.depth;
-  count : length l.core.scopes ≡ length l.initial.core.scopes;
-  grown : length l.initial.core.store ≤ length l.core.store;
+  kept : Kept l.initial.core l.core;
   inside : open_of l.core.listeners < l.core.depth;
   within : l.last.0 < length l.core.scopes;
   top : l.scope.0 < length l.core.scopes;

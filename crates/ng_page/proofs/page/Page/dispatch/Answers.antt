@@ -1,7 +1,11 @@
 use Rattle.std.proofs.Common.{◌∙◌, Err, sym, subst}
 use Rattle.serde_json.specs.View.{view}
 use Rattle.ng_commands.specs.Handling.{Happening}
+use Rattle.ng_act.specs.Worn.{told}
+use Rattle.ng_page.specs.Causes.{HasCause}
 use Rattle.ng_page.specs.Dispatched.{Dispatched}
+use Rattle.ng_page.specs.PageOf.{state_of}
+use Rattle.ng_steps.specs.Worn.{is_worn}
 use Rattle.ng_page.proofs.Answering.{dispatched_spent, dispatched_none, dispatched_some, dispatched_wanting}
 use Rattle.ng_page.proofs.page.Page.dispatch.Goals as goal
 
@@ -24,4 +28,5 @@ pub returns-in-Err : goal.returns-in-Err
 returns-in-Err c =
     let x : Happening = record { type = c.args.event.now; extra = view c.args.extra.now } in
     subst (λ f. Dispatched x c.args.n.made.0 c.args.self.now (Err f) c.wanting.new.self) (sym c.wanting.ensures.answer)
-    (dispatched_wanting x c.args.n.made.0 c.args.self.now c.in-Err.memory c.wanting.new.self c.if-self.false c.wanting.ensures.spent)
+    (dispatched_wanting x c.args.n.made.0 c.args.self.now (told (is_worn (state_of c.wanting.new.self)) c.in-Err.memory) c.wanting.new.self c.if-self.false c.wanting.ensures.spent
+    (subst (λ f. HasCause c.wanting.new.self f) c.wanting.ensures.answer c.wanting.ensures.worn))

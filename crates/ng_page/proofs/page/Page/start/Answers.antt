@@ -6,10 +6,10 @@ use Rattle.ng_page.proofs.Rendering.{settled_renders, when_done}
 use Rattle.ng_commands.proofs.Wholes.{works_display}
 use Rattle.ng_page.proofs.page.Page.start.Goals as goal
 
-pub returns-clause-shown : goal.returns-clause-shown
-returns-clause-shown c = works_display c.conclude.new.engine.works c.in_ok-outcome.ensures.page.works
+pub returns-in-Ok-conclude-clause-shown : goal.returns-in-Ok-conclude-clause-shown
+returns-in-Ok-conclude-clause-shown c = works_display c.conclude.new.engine.works c.in-Ok-conclude.ensures.page.works
 
-pub returns-clause-rendering : goal.returns-clause-rendering
-returns-clause-rendering c =
+pub returns-in-Ok-conclude-clause-rendering : goal.returns-in-Ok-conclude-clause-rendering
+returns-in-Ok-conclude-clause-rendering c =
     let s = state_of c.conclude.new.engine.works in
-    when_done (IsSettled s) (rendering s ≡ shown_as (shown s)) c.in_ok-outcome.outcome.digest c.in_ok-outcome.ensures.settled (λ x. settled_renders s x c.in_ok-outcome.ensures.page.watched c.in_ok-outcome.ensures.page.works.whole.standing.1.inner c.in_ok-outcome.ensures.page.fits)
+    when_done (IsSettled s) (rendering s ≡ shown_as (shown s)) c.in-Ok-conclude.outcome.digest c.in-Ok-conclude.ensures.settled (λ x. settled_renders s x c.in-Ok-conclude.ensures.page.watched c.in-Ok-conclude.ensures.page.works.whole.standing.1.inner c.in-Ok-conclude.ensures.page.fits)

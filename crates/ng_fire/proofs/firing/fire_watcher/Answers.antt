@@ -5,7 +5,7 @@ use Rattle.ng_fire.specs.FireOf.{firing}
 use Rattle.ng_instances.specs.Instances.{is_site}
 use Rattle.ng_link.specs.State.{state_of}
 use Rattle.ng_value.specs.Snaps.{snap_of}
-use Rattle.ng_fire.proofs.firing.fire.Goals as goal
+use Rattle.ng_fire.proofs.firing.fire_watcher.Goals as goal
 
 pub returns-then-is_site-clause-state : goal.returns-then-is_site-clause-state
 returns-then-is_site-clause-state c =

@@ -2,7 +2,7 @@ use Rattle.std.proofs.Common.{ap, ◌∙◌, subst, sym}
 use Rattle.ng_link.specs.Calls.{cut_at}
 use Rattle.ng_link.specs.Standing.{IsHeldIn}
 use Rattle.ng_link.specs.State.{State}
-use Rattle.ng_link.proofs.works.Works.unlink.Goals as goal
+use Rattle.ng_link.proofs.works.Works.take_out.Goals as goal
 
 pub cut-requires-clause-stands : goal.cut-requires-clause-stands
 cut-requires-clause-stands c = (c.requires.stands.0, c.in_ok-leave.ensures.stands c.requires.stands.0 c.requires.stands.1)
