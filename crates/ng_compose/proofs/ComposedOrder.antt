@@ -10,7 +10,8 @@ use Rattle.ng_drawing.specs.declared.origin.Home.{Home}
 use Rattle.ng_compose.specs.Composing.{Composed, composed_in, fuel_for, region_of, nothing_composed, fragment_by, is_directed, composed}
 use Rattle.ng_parts.specs.Numbering.{is_apart, parts_draw, is_body, is_outlet, is_undrawn, HasOrder}
 use Rattle.ng_compose.proofs.Composable.{drawable, drawable_below, is_filled, is_sound}
-use Rattle.ng_compose.proofs.ComposedParts.{Made, composed_made}
+use Rattle.ng_compose.proofs.ComposedLeaves.{Made}
+use Rattle.ng_compose.proofs.ComposedParts.{composed_made}
 use Rattle.ng_parts.proofs.Within.{apart_make}
 use Rattle.ng_parts.proofs.More.{parts_more}
 use Rattle.ng_parts.proofs.WholeFrom.{whole_from}

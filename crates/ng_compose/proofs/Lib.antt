@@ -2,6 +2,7 @@ pub mod KeptWhole
 pub mod Renumbered
 pub mod Movers
 pub mod Composable
+pub mod ComposedLeaves
 pub mod ComposedParts
 pub mod ComposedOrder
 pub mod ComposingTurns

@@ -1,13 +1,12 @@
 -- Nodes are taken away one after another.
-use Rattle.std.proofs.Common.{◌≡◌, ℕ, Bool, true, false, List, [], ◌∷◌, ◌++◌, Option, Some, None, refl, ap, ◌∙◌, sym, cond, inl, inr, ◌+◌, ◌<◌, ◌≤◌, length, drop, get_or, drop-cons, add-one, append_assoc}
-use Rattle.std.specs.Prelude.{◌==◌, ◌⊎◌, is_some}
+use Rattle.std.proofs.Common.{◌≡◌, ℕ, Bool, true, false, List, [], ◌∷◌, ◌++◌, Some, None, refl, ap, ◌∙◌, sym, cond, inl, inr, ◌+◌, ◌<◌, length, drop, get_or, drop-cons, add-one, append_assoc}
+use Rattle.std.specs.Prelude.{◌==◌, ◌⊎◌}
 use Rattle.std.proofs.lemmas.Bool.{eqb-true, eq-eqb}
-use Rattle.ng_dom.specs.Records.{Runs, node_at}
+use Rattle.ng_dom.specs.Records.{Runs}
 use Rattle.ng_dom.specs.Lists.{among}
 use Rattle.ng_dom.specs.Rooms.{Shape, Room, Rooms, text_shape, comment_shape, element_shape, anchor_shape}
-use Rattle.ng_dom.specs.Removal.{all_of, one_if, chosen, chosen_groups, chosen_held, held, is_under, has_parent, room_gone, IsDoomed, Takes, Taking}
+use Rattle.ng_dom.specs.Removal.{all_of, one_if, chosen, chosen_groups, chosen_held, held, is_under, has_parent, room_gone, IsDoomed, Taking}
 use Rattle.ng_dom.specs.Kept.{Loses}
-use Rattle.ng_dom.specs.declared.record.Record.{Record}
 
 pub either : {A B C : Type 0} → (A → C) → (B → C) → A ⊎ B → C
 either f g (inl a) = f a
@@ -100,18 +99,6 @@ taking_start names r = record {
   roots = λ q e. inr e;
   closed = λ p q x is gone among under. absurd (let two : Some x ≡ None = sym is ∙ gone in cc);
 }
-
--- none is left
-pub taking_end : (names : List ℕ) (r s : Rooms) → Taking names r s [] → Takes names r s
-taking_end names r s t = record {
-  each = t.each;
-  gone = λ q e. settled (s q ≡ None) (t.roots q e);
-  closed = λ p q x is gone among under. settled (s q ≡ None) (t.closed p q x is gone among under);
-}
-  where
-    settled : (P : Type 0) → P ⊎ (false ≡ true) → P
-    settled P (inl h) = h
-    settled P (inr e) = absurd (cc)
 
 -- the next name is taken
 module _ (names : List ℕ) (r a b : Rooms) (n : ℕ) (left : List ℕ) (was : Taking names r a (left ++ n ∷ [])) (rooms : (q : ℕ) → b q ≡ room_gone n a q) where
@@ -227,26 +214,3 @@ module _ (names : List ℕ) (r a b : Rooms) (n : ℕ) (left : List ℕ) (was : T
 -- each node is as it was, or no longer there
 pub loses_none : (m : Runs) → Loses m m
 loses_none m = record { each = λ q. inl refl }
-
-pub loses_then : (l m n : Runs) → Loses l m → Loses m n → Loses l n
-loses_then l m n h k = record { each = λ q. both q (h.each q) (k.each q) }
-  where
-    both : (q : ℕ) → (node_at m q ≡ node_at l q) ⊎ (node_at m q ≡ None) → (node_at n q ≡ node_at m q) ⊎ (node_at n q ≡ None) → (node_at n q ≡ node_at l q) ⊎ (node_at n q ≡ None)
-    both q a (inr e) = inr e
-    both q (inl d) (inl e) = inl (e ∙ d)
-    both q (inr d) (inl e) = inr (e ∙ d)
-
-pub loses_one : (l m : Runs) (k : ℕ) → ((q : ℕ) → node_at m q ≡ cond (q == k) None (node_at l q)) → Loses l m
-loses_one l m k is = record { each = λ q. by_test (q == k) (node_at m q) (node_at l q) (is q) }
-  where
-    by_test : (b : Bool) (x y : Option Record) → x ≡ cond b None y → (x ≡ y) ⊎ (x ≡ None)
-    by_test true x y e = inr e
-    by_test false x y e = inl e
-
--- names from here on stay free
-pub free_after : (l m : Runs) (next : ℕ) → Loses l m → ((q : ℕ) → next ≤ q → is_some (node_at l q) ≡ false) → (q : ℕ) → next ≤ q → is_some (node_at m q) ≡ false
-free_after l m next h fresh q le = by_each (h.each q)
-  where
-    by_each : (node_at m q ≡ node_at l q) ⊎ (node_at m q ≡ None) → is_some (node_at m q) ≡ false
-    by_each (inl e) = ap is_some e ∙ fresh q le
-    by_each (inr e) = ap is_some e

@@ -1,9 +1,8 @@
 -- What is seen of a site is that of what stands behind references.
 use Rattle.std.proofs.Common.{◌≡◌, Bor, Option, None, Some, refl, ap, ◌∙◌}
 use Rattle.std.specs.Prelude.{option_map, option_copied}
-use Rattle.ng_base.specs.Views.{ViewTree}
 use Rattle.ng_control.specs.State.{ControlState}
-use Rattle.ng_drawing.specs.Looks.{Seen, seen_by}
+use Rattle.ng_drawing.specs.Looks.{seen_by}
 use Rattle.ng_value.specs.Snaps.{snap_of}
 use Rattle.ng_value.specs.declared.snapshot.Snap.{Snap}
 

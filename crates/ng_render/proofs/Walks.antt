@@ -97,11 +97,6 @@ module _ {X Y : Type 0} (one : Y → Rendered Forest) (all : List Y → Rendered
   pub walk_last : (f : Forest) → length xs ≤ i → behind followed_by f (all (map seen (drop i xs))) ≡ shown_as f
   walk_last f l = ap (λ zs. behind followed_by f (all (map seen zs))) (drop_all i xs l) ∙ (ap (behind followed_by f) walk.none ∙ ap shown_as (followed-none f))
 
-pub behind-none : (r : Rendered Forest) → behind followed_by no_nodes r ≡ r
-behind-none (Ok (Some f)) = refl
-behind-none (Ok None) = refl
-behind-none (Err e) = refl
-
 -- ---- parts
 
 abbrev pub render_list : Now → GroupsNow → List Part → Rendered Forest

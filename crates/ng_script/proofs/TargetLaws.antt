@@ -151,11 +151,6 @@ pub target_solid : (t : Target) (cs : List ℕ) → IsTarget t cs → has_no_bla
 target_solid (target.Id n) cs h = ap has_no_blank h.0 ∙ h.2
 target_solid (target.Path ns) cs h = path_solid ns cs h.1
 
-pub target_filled : (t : Target) (cs : List ℕ) → IsTarget t cs → 0 < length cs
-target_filled (target.Id n) cs h = omega (arith, ap length h.0)
-target_filled (target.Path []) cs h = absurd (omega (arith, h.0))
-target_filled (target.Path (n ∷ ns)) cs h = omega (arith, ap length h.1.2)
-
 same_ok : {A E : Type 0} (x y : A) → (let r : Result A E = Ok x in r) ≡ Ok y → x ≡ y
 same_ok x y e = cc
 

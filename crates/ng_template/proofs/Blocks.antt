@@ -1,6 +1,6 @@
 -- The blocks round an element, stage by stage.
-use Rattle.std.proofs.Common.{◌≡◌, ◌<◌, ◌≤◌, ◌+◌, ℕ, suc, ℤ, Bool, true, false, cond, List, [], ◌∷◌, ◌++◌, map, drop, get_or, length, Option, None, Some, Result, Ok, Err, refl, ap, sym, ◌∙◌, append_assoc, append-nil}
-use Rattle.std.proofs.lemmas.List.{at_drop_more, drop_all}
+use Rattle.std.proofs.Common.{◌≡◌, ◌<◌, ◌+◌, ℕ, suc, ℤ, Bool, true, false, cond, List, [], ◌∷◌, ◌++◌, map, drop, get_or, length, Option, None, Some, Result, Ok, Err, refl, ap, sym, ◌∙◌, append_assoc, append-nil}
+use Rattle.std.proofs.lemmas.List.{at_drop_more}
 use Rattle.std.proofs.lemmas.List.Folds.{list_any-append}
 use Rattle.std.specs.List.{list_any}
 use Rattle.std.specs.Prelude.{◌||◌, is_none, unwrap_or, IsErrAnd}
@@ -9,12 +9,12 @@ use Rattle.ng_collect.specs.Collected.{collected}
 use Rattle.ng_collect.specs.declared.definition.DirectiveDef.{DirectiveDef}
 use Rattle.ng_collect.specs.declared.pick.Pick.{Pick}
 use Rattle.ng_drawing.specs.Cases.{Case}
-use Rattle.ng_drawing.specs.Template.{Site, Repeated, Outlet, Part}
+use Rattle.ng_drawing.specs.Template.{Site, Repeated, Part}
 use Rattle.ng_interp.specs.Parts.{Piece}
 use Rattle.ng_interp.specs.declared.pieces.InterpFault.{InterpFault}
 use Rattle.ng_language.specs.Trees.{Trees}
 use Rattle.ng_markup.specs.Forest.{Node}
-use Rattle.ng_template.specs.Around.{attributes_in, picks_in, at_place, checked_as, checked, block_priority, Inside, is_plain, has_picks, has_template, Block, block_for, block_with, kind_of_block, names_template, templated, inside_in, Heads, checked_program, whole_heads, for_heads, start_heads, a_case, a_start, a_repeat, a_block, before_of, head_by, head_at, heads_from, head_onto, heads_onto, starts_in, Around, case_at, cases_in, switched, heads_of, Found, first_case, found_after, with_found, bare_around, around_these, is_orphan, around_picks, around_below, block_room, around_node}
+use Rattle.ng_template.specs.Around.{attributes_in, picks_in, at_place, checked_as, checked, block_priority, Inside, is_plain, has_picks, has_template, Block, block_for, block_with, kind_of_block, names_template, templated, inside_in, Heads, checked_program, whole_heads, for_heads, start_heads, a_case, a_start, a_repeat, a_block, before_of, head_by, head_at, heads_from, head_onto, heads_onto, starts_in, Around, cases_in, switched, heads_of, Found, first_case, found_after, with_found, bare_around, around_these, is_orphan, around_picks, around_below, block_room, around_node}
 use Rattle.ng_elements.specs.Elements.{Made, Switch}
 use Rattle.ng_template.specs.Compiles.{Outermost, rounds, begun_body, wrapped, in_rounds, node_made}
 use Rattle.ng_directives.specs.Directives.{text_on, whole}
@@ -81,9 +81,6 @@ module _ (place : ℕ) (xs : List Pick) (i : ℕ) (x : Pick) (l : i < length xs)
   heads-refused f made =
       at_drop_more with_starts xs i x l
       ∙ onto-refused place before (head_at starts (get_or xs i x)) (λ h. heads_from h.0 (drop (i + 1) xs) >>= λ hs. Ok (h.1 ++ hs)) f (sym here ∙ made)
-
-pub heads-end : (place : ℕ) (xs : List Pick) (i : ℕ) (starts : List Trees) (before : List Block) → length xs ≤ i → at_place place (heads_onto before (heads_from starts (drop i xs))) ≡ Ok before
-heads-end place xs i starts before l = ap (λ zs. at_place place (heads_onto before (heads_from starts zs))) (drop_all i xs l) ∙ ap Ok (append-nil before)
 
 -- the block whose text is an expression as a whole, from what was judged of that
 module _ (place : ℕ) (named : Bool) (starts : List Trees) (before : List Block) (t : List ℕ) where

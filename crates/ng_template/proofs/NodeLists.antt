@@ -44,17 +44,5 @@ compiled-turn defs slots o xs i x ps m n p l is made =
     ∙ (sym (ap (λ (r : Result (Part × Made) TplFault). onto ps (r >>= λ q. compiled_list defs slots o (map node_of (drop (i + 1) xs)) q.1 >>= λ s. Ok (part_then q.0 s.0, s.1))) here)
     ∙ sym (at_drop_more (λ zs. onto ps (compiled_list defs slots o (map node_of zs) m)) xs i x l))
 
--- a node that is refused
-pub compiled-refused : (defs : List DirectiveDef) (slots : Bool) (o : Switch) (xs : List code_node.Node) (i : ℕ) (x : code_node.Node) (ps : Parts) (m : Made) (e : TplFault) → i < length xs → x ≡ get_or xs i x
-    → compiled_node defs slots o (node_of x) m ≡ Err e
-    → onto ps (compiled_list defs slots o (map node_of (drop i xs)) m) ≡ Err e
-compiled-refused defs slots o xs i x ps m e l is made =
-    let here = ap (λ y. compiled_node defs slots o (node_of y) m) (sym is) ∙ made in
-    at_drop_more (λ zs. onto ps (compiled_list defs slots o (map node_of zs) m)) xs i x l
-    ∙ ap (λ (r : Result (Part × Made) TplFault). onto ps (r >>= λ q. compiled_list defs slots o (map node_of (drop (i + 1) xs)) q.1 >>= λ s. Ok (part_then q.0 s.0, s.1))) here
-
 pub compiled-end : (defs : List DirectiveDef) (slots : Bool) (o : Switch) (xs : List code_node.Node) (i : ℕ) (ps : Parts) (m : Made) → length xs ≤ i → onto ps (compiled_list defs slots o (map node_of (drop i xs)) m) ≡ Ok (ps, m)
 compiled-end defs slots o xs i ps m l = ap (λ zs. onto ps (compiled_list defs slots o (map node_of zs) m)) (drop_all i xs l) ∙ ap (λ x. Ok (x, m)) (joined-none ps)
-
-pub compiled-all : (defs : List DirectiveDef) (slots : Bool) (o : Switch) (ns : List Node) (m : Made) → onto no_parts (compiled_list defs slots o ns m) ≡ compiled_list defs slots o ns m
-compiled-all defs slots o ns m = onto-none (compiled_list defs slots o ns m)

@@ -1,6 +1,6 @@
 use Rattle.std.proofs.Common.{◌≡◌, ◌∙◌, None, Some, ap, sym}
 use Rattle.std.specs.Prelude.{option_map}
-use Rattle.ng_drawing.specs.Included.{opened, included}
+use Rattle.ng_drawing.specs.Included.{opened}
 use Rattle.ng_drawing.specs.Template.{Fragment}
 use Rattle.ng_parts.specs.FragmentOf.{fragment_of}
 use Rattle.ng_copies.specs.WholeOf.{opened_of}

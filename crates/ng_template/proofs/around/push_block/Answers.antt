@@ -1,7 +1,6 @@
-use Rattle.std.proofs.Common.{◌≡◌, ◌∙◌, ◌∷◌, ◌++◌, [], List, ap, sym}
+use Rattle.std.proofs.Common.{◌∙◌, ◌∷◌, ◌++◌, [], List, ap}
 use Rattle.std.proofs.lemmas.List.{map-append}
 use Rattle.std.specs.Option.{option_to_list}
-use Rattle.ng_interp.specs.declared.pieces.Part.{Part}
 use Rattle.ng_parse.specs.ProgramOf.{program}
 use Rattle.ng_template.specs.Around.{Block, block_with}
 use Rattle.ng_template.specs.AroundOf.{block_of, blocks_of, programs_of}

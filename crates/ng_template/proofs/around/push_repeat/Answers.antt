@@ -1,4 +1,4 @@
-use Rattle.std.proofs.Common.{◌∙◌, ◌++◌, ◌∷◌, [], Ok, ap, sym}
+use Rattle.std.proofs.Common.{◌∙◌, ◌∷◌, [], Ok, ap, sym}
 use Rattle.std.proofs.lemmas.List.{map-append}
 use Rattle.ng_template.specs.Around.{at_place, for_heads, head_onto}
 use Rattle.ng_template.specs.AroundOf.{block_of, blocks_of, programs_of}

@@ -1,4 +1,4 @@
-use Rattle.std.proofs.Common.{◌∙◌, ◌++◌, ◌∷◌, [], Ok, ap, sym}
+use Rattle.std.proofs.Common.{◌∙◌, ◌∷◌, [], Ok, ap, sym}
 use Rattle.std.proofs.lemmas.List.{map-append}
 use Rattle.ng_parse.specs.ProgramOf.{program}
 use Rattle.ng_template.specs.Around.{at_place, start_heads, starts_in}
