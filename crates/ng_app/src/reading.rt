@@ -1,12 +1,12 @@
 //! The application file: JSON whose members are read in the one format that there is.
-ghost use Rattle.std.specs.Prelude.{◌≡◌, codes, Some, None, option_map, IfOk, Err, MatchResult, true};
+ghost use Rattle.std.specs.Prelude.{◌≡◌, codes, Some, None, option_map, IfOk, Err, MatchResult, true, false};
 ghost use Rattle.serde_json.specs.Find.{as_object, get_member};
 ghost use Rattle.serde_json.specs.View.{view, members_view};
 ghost use Rattle.ng_core.specs.Frames.{state_of};
 ghost use Rattle.ng_base.specs.Meets.{Gives};
 ghost use Rattle.ng_app.specs.App.{member_named, are_known, is_one as is_one_of, is_format, is_data as is_data_of, data_given, data_fault as data_refused, core_with, written as written_in, facts_with, facts_of_format, facts_of_object, facts_of};
 ghost use Rattle.ng_app.specs.AppOf.{facts};
-ghost use Rattle.ng_entries.specs.Free.{is_app_want};
+ghost use Rattle.ng_entries.specs.Free.{is_app_want, is_app_refused};
 ghost use Rattle.ng_app.specs.Fresh.{IsFresh};
 ghost use Rattle.ng_app.specs.WrittenOf.{written_of};
 
@@ -255,6 +255,38 @@ fn parsed_out_of(alloc: Global, bytes: Vec<u8>) -> Result<Json, AppFault>
     parsed(alloc, bytes.as_slice())
 }
 
+/// Why an application is not read, told from what a step of its reading said: want of memory is told as refused, since nothing that
+/// counts stands behind an application that was not read.
+fn told(refusal: AppFault) -> AppFault
+    ensures want { is_app_want refusal ≡ true → is_app_refused result ≡ true }
+    ensures other { is_app_refused result ≡ false → result ≡ refusal }
+{
+    match refusal.kind {
+        AppKind::Memory(_) => fault(Member::File, AppKind::Memory(Memory::Refused)),
+        _ => refusal,
+    }
+}
+
+/// The application that these bytes spell.
+fn read_lent(alloc: Global, bytes: &[u8]) -> Result<App, AppFault>
+    ensures { Gives is_app_want facts (facts_of bytes.now) result }
+{
+    match parsed(alloc, bytes) {
+        Ok(value) => read_json(alloc, value),
+        Err(fault) => Err(fault),
+    }
+}
+
+/// The application that these bytes spell, which are dropped before what they spell is read into a store.
+fn read_taken(alloc: Global, bytes: Vec<u8>) -> Result<App, AppFault>
+    ensures { Gives is_app_want facts (facts_of bytes.items) result }
+{
+    match parsed_out_of(alloc, bytes) {
+        Ok(value) => read_json(alloc, value),
+        Err(fault) => Err(fault),
+    }
+}
+
 impl App {
     /// Reads an application file. The refusals come in this order: JSON that is broken; no object, or a member of another name; a
     /// member that is not of its kind, in the order of the table; a number of the data that is not whole or out of range, and
@@ -263,21 +295,21 @@ impl App {
     /// `directives`, and then their programs; then of `functions`, `run`, `watch` and `on`, entry by entry, a program that is
     /// none, and of what is watched one that is not pure.
     pub fn read(alloc: Global, bytes: &[u8]) -> Result<App, AppFault>
-        ensures { Gives is_app_want facts (facts_of bytes.now) result }
+        ensures { Gives is_app_refused facts (facts_of bytes.now) result }
     {
-        match parsed(alloc, bytes) {
-            Ok(value) => read_json(alloc, value),
-            Err(fault) => Err(fault),
+        match read_lent(alloc, bytes) {
+            Ok(app) => Ok(app),
+            Err(refusal) => Err(told(refusal)),
         }
     }
 
     /// The same of bytes that are taken: they are dropped before what they spell is read into a store.
     pub fn take(alloc: Global, bytes: Vec<u8>) -> Result<App, AppFault>
-        ensures { Gives is_app_want facts (facts_of bytes.items) result }
+        ensures { Gives is_app_refused facts (facts_of bytes.items) result }
     {
-        match parsed_out_of(alloc, bytes) {
-            Ok(value) => read_json(alloc, value),
-            Err(fault) => Err(fault),
+        match read_taken(alloc, bytes) {
+            Ok(app) => Ok(app),
+            Err(refusal) => Err(told(refusal)),
         }
     }
 }

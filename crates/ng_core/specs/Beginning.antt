@@ -7,8 +7,9 @@ use Rattle.ng_base.specs.declared.value.Value.TheVariants as value
 use Rattle.ng_behaviour.specs.ScopeObjects.{named}
 use Rattle.ng_behaviour.specs.Scopes.{root_of}
 use Rattle.ng_language.specs.Objects.{new_object}
+use Rattle.ng_store.specs.Json.{is_json_want}
 use Rattle.ng_store.specs.declared.json.JsonFault.{JsonFault}
-use Rattle.ng_write.specs.Facts.{Read, facts_entered, is_memory_fault}
+use Rattle.ng_write.specs.Facts.{Read, facts_entered}
 use Rattle.ng_core.specs.State.{State}
 
 -- the members of a JSON object
@@ -45,7 +46,7 @@ first_state objects = record {
   serial = 0;
 }
 
--- a call gave the objects that a page begins with, or said why there are none, unless memory ran out
+-- a call gave the objects that a page begins with, or said why there are none, unless memory was refused
 abbrev pub BeginsWith : {A : Type 0} → (A → List Object) → Read → Result A JsonFault → Type 0
 BeginsWith objects asked (Ok c) = asked ≡ (objects c, Ok tt)
-BeginsWith objects asked (Err e) = is_memory_fault e ≡ false → asked.1 ≡ Err e
+BeginsWith objects asked (Err e) = is_json_want e ≡ false → asked.1 ≡ Err e

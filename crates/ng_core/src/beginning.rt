@@ -1,5 +1,5 @@
 //! The core that a page begins with, and what may be read of a core.
-ghost use Rattle.std.specs.Prelude.{◌≡◌, ◌<◌, ◌≤◌, ◌∷◌, [], length, IfOk, None};
+ghost use Rattle.std.specs.Prelude.{◌≡◌, ◌<◌, ◌≤◌, ◌∷◌, [], length, IfOk, IfErr, None};
 ghost use Rattle.serde_json.specs.View.{view};
 ghost use Rattle.ng_base.specs.declared.heap.ObjKind.TheVariants.{Scope as a_scope};
 ghost use Rattle.ng_language.specs.Objects.{new_object};
@@ -16,7 +16,7 @@ use ng_base::locals::Locals;
 use ng_base::name::{Oid, ScopeId, Serial};
 use ng_events::listeners::Listeners;
 use ng_scopes::scopes::Scopes;
-use ng_store::{JsonFault, Store, StoreFault};
+use ng_store::{JsonFault, Store};
 use ng_write::facts::enter_facts;
 use serde_json::Value as Json;
 use std::alloc::Global;
@@ -24,13 +24,13 @@ use std::collections::VecDeque;
 
 /// The object of the root scope, in a store of its own.
 fn root_store(alloc: Global) -> Result<Store, Memory>
-    ensures { IfOk result (λ store. store ≡ new_object a_scope None ∷ []) }
+    ensures made { IfOk result (λ store. store ≡ new_object a_scope None ∷ []) }
+    ensures refused { IfErr result (λ e. e ≡ Memory.Refused) }
 {
     let mut store = Store::new(alloc);
     match store.make(ObjKind::Scope, None) {
         Ok(_) => Ok(store),
-        Err(StoreFault::Full) => Err(Memory::Worn),
-        Err(StoreFault::Memory(memory)) => Err(memory),
+        Err(_) => Err(Memory::Refused),
     }
 }
 

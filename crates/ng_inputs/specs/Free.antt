@@ -6,7 +6,7 @@ use Rattle.ng_tags.specs.declared.fault.HtmlKind.TheVariants as html
 use Rattle.ng_html.specs.Free.{is_free}
 use Rattle.ng_entries.specs.declared.fault.AppKind.{AppKind}
 use Rattle.ng_entries.specs.declared.fault.AppKind.TheVariants as app
-use Rattle.ng_entries.specs.Free.{is_app_want}
+use Rattle.ng_entries.specs.Free.{is_app_refused}
 use Rattle.ng_script.specs.declared.fault.ScriptKind.{ScriptKind}
 use Rattle.ng_script.specs.declared.fault.ScriptKind.TheVariants as commands
 use Rattle.ng_script.specs.Free as script
@@ -18,7 +18,7 @@ use Rattle.ng_inputs.specs.declared.refusal.Refusal.TheVariants.{Document, Appli
 
 abbrev pub is_want : Refusal → Bool
 is_want (Document f) = is_free f
-is_want (Application f) = is_app_want f
+is_want (Application f) = is_app_refused f
 is_want (Template f) = is_tpl_want f
 is_want (Script f) = script.is_free f
 

@@ -1,13 +1,15 @@
 //! What stands under a name of a value.
-ghost use Rattle.std.specs.Prelude.{◌≡◌, ◌<◌, ℕ, length, map, IfOk, IfSome, Ok, Some, slice_get, true};
+ghost use Rattle.std.specs.Prelude.{◌≡◌, ◌<◌, ℕ, pos, length, map, IfOk, IfSome, IsSome, Ok, Some, slice_get, true};
 ghost use Rattle.std.specs.Map.{lookup};
 ghost use Rattle.std.specs.Str.{bytes_eq};
 ghost use Rattle.ng_base.specs.Faults.{is_memory};
 ghost use Rattle.ng_base.specs.Meets.{Gives};
-ghost use Rattle.ng_base.specs.Objects.{is_array, StandsAmong};
+ghost use Rattle.ng_base.specs.Objects.{object_at, is_array, StandsAmong};
 ghost use Rattle.ng_base.specs.Views.{prim, views_list, fields_list};
 ghost use Rattle.ng_base.specs.declared.value.Value.TheVariants as value;
 ghost use Rattle.ng_base.specs.ViewOf.{view_of, views_of, fields_of, field_of};
+ghost use Rattle.ng_base.specs.declared.name.Oid.{Oid};
+ghost use Rattle.ng_language.specs.Objects.{items_at};
 ghost use Rattle.ng_language.specs.Views.{ViewStands, ViewsStand, FieldsStand};
 ghost use Rattle.ng_members.specs.Members.{undefined, view_or_undefined, is_length, count, object_member, char_or_undefined, text_member, list_member, record_member, member, has_members, item};
 
@@ -197,12 +199,14 @@ fn array_item(store: &Store, o: Oid, n: i64) -> Option<&Value>
     requires { o.0 < length store.now }
     ensures value { IfSome result (λ w. item store.now (prim (value.Obj o)) (prim (value.Int n)) ≡ Ok (prim w.now)) }
     ensures stands { IfSome result (λ w. StandsAmong (length store.now) w.now) }
+    ensures there { (i : ℕ) → is_array (object_at store.now o.0).kind ≡ true → n ≡ pos i → i < length (items_at store.now o.0) → IsSome result }
 {
     if !is_array(store.kind(o)) {
         return None;
     }
+    let count = store.len(o);
     match u32::try_from(n) {
-        Ok(i) if i < store.len(o) => Some(store.item(o, i)),
+        Ok(i) if i < count => Some(store.item(o, i)),
         _ => None,
     }
 }
@@ -212,6 +216,7 @@ fn item_seen<'a>(store: &'a Store, v: &Value, index: &View) -> Option<&'a Value>
     requires { ViewStands (length store.now) (prim v.now) }
     ensures value { IfSome result (λ w. item store.now (prim v.now) (view_of index.now) ≡ Ok (prim w.now)) }
     ensures stands { IfSome result (λ w. ViewStands (length store.now) (prim w.now)) }
+    ensures there { (o : Oid) (i : ℕ) → v.now ≡ value.Obj o → view_of index.now ≡ prim (value.Int (pos i)) → is_array (object_at store.now o.0).kind ≡ true → i < length (items_at store.now o.0) → IsSome result }
 {
     match (v, index) {
         (Value::Obj(o), View::Prim(Value::Int(n))) => array_item(store, *o, *n),

@@ -5,7 +5,6 @@ ghost use Rattle.serde_json.specs.Find.{as_array};
 ghost use Rattle.serde_json.specs.View.{view};
 ghost use Rattle.ng_core.specs.Frames.{state_of as core_state};
 ghost use Rattle.ng_app.specs.AppOf.{facts};
-ghost use Rattle.ng_base.specs.Faults.{is_memory};
 ghost use Rattle.ng_base.specs.Meets.{Gives};
 ghost use Rattle.ng_dom.specs.Document.{Shows};
 ghost use Rattle.ng_dom.specs.Nodes.{NamedForest};
@@ -20,6 +19,7 @@ ghost use Rattle.ng_parse.specs.ProgramOf.{program};
 ghost use Rattle.ng_compose.specs.Kept.{fragments_in};
 ghost use Rattle.ng_parts.specs.TemplateOf.{template_of};
 ghost use Rattle.ng_view.specs.Purity.{are_pure, all_filters_known};
+ghost use Rattle.ng_render.specs.Free.{is_want};
 ghost use Rattle.ng_page.specs.Answered.{WhenOk};
 ghost use Rattle.ng_control.specs.Typed.{TakesText, IsCheckbox};
 ghost use Rattle.ng_build.specs.Controls.{IsOfKind};
@@ -67,7 +67,7 @@ pub struct Page {
 fn rendered(alloc: Global, works: &Works, i: &Instance) -> Result<Option<Forest>, Fault>
     requires page { PageIs works.now }
     requires instance { Some (instance_of (fragments_in (link.templates_of works.now)) i.now) ≡ instance (link.state_of works.now) }
-    ensures { Gives is_memory (option_map forest_of) (rendering (link.state_of works.now)) result }
+    ensures { Gives is_want (option_map forest_of) (rendering (link.state_of works.now)) result }
 {
     render(
         alloc,
@@ -385,9 +385,14 @@ impl Page {
 
     /// What stands of the template: for each site its key, its scope and what it has kept.
     pub fn instance(&self) -> Result<Option<Instance>, Memory>
-        ensures { IfOk result (λ i. option_map (instance_of (fragments_of self.now)) i ≡ instance (state_of self.now)) }
+        ensures instance { IfOk result (λ i. option_map (instance_of (fragments_of self.now)) i ≡ instance (state_of self.now)) }
+        ensures refused { IfErr result (λ e. e ≡ Memory.Refused) }
     {
-        self.engine.works.instance()
+        match self.engine.works.instance() {
+            Ok(i) => Ok(i),
+            // Nothing that counts stands behind an instance that is read off the tables.
+            Err(_) => Err(Memory::Refused),
+        }
     }
 
     /// The rendering: the document computed afresh over data and scopes, while no watcher and no node is asked (guide: Templates).
@@ -395,9 +400,9 @@ impl Page {
     pub fn rendered(&self) -> Result<Option<Forest>, Fault>
         requires page { IsPage self.now }
         requires unspent { self.now.spent ≡ false }
-        ensures { Gives is_memory (option_map forest_of) (rendering (state_of self.now)) result }
+        ensures { Gives is_want (option_map forest_of) (rendering (state_of self.now)) result }
     {
-        match self.engine.works.instance()? {
+        match self.instance()? {
             None => Ok(Some(Forest::new(self.engine.alloc))),
             Some(i) => rendered(self.engine.alloc, &self.engine.works, &i),
         }

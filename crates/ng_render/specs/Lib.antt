@@ -1,1 +1,2 @@
 pub mod OverOf
+pub mod Free

@@ -15,6 +15,7 @@ ghost use Rattle.ng_html.specs.Seen.{forest_of};
 ghost use Rattle.ng_compose.specs.Kept.{templates_of, fragments_in};
 ghost use Rattle.ng_parts.specs.FragmentOf.{outlet_of, outlets_of, filling_of};
 ghost use Rattle.ng_value.specs.Snaps.{snap_of};
+ghost use Rattle.ng_render.specs.Free.{is_want};
 ghost use Rattle.ng_render.specs.OverOf.{group_of, kept_over, Stands, InstanceStands, InstancesStand, OutletsStand};
 
 use crate::groups::{append, group_from};
@@ -333,7 +334,7 @@ pub fn render(
     i: &Instance,
 ) -> Result<Option<Forest>, Fault>
     requires { InstanceStands store.now scopes.now (instance_of (fragments_in (templates_of all.now)) i.now) }
-    ensures { Gives is_memory (option_map forest_of) (rendering store.now scopes.now (instance_of (fragments_in (templates_of all.now)) i.now)) result }
+    ensures { Gives is_want (option_map forest_of) (rendering store.now scopes.now (instance_of (fragments_in (templates_of all.now)) i.now)) result }
 {
     let ground = Ground {
         alloc,
@@ -341,5 +342,10 @@ pub fn render(
         store,
         scopes,
     };
-    rendered_instance(&ground, i)
+    match rendered_instance(&ground, i) {
+        Ok(document) => Ok(document),
+        // Nothing that counts stands behind a document that is computed afresh.
+        Err(Fault::Memory(_)) => Err(Fault::Memory(Memory::Refused)),
+        Err(fault) => Err(fault),
+    }
 }

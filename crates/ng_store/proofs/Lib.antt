@@ -9,3 +9,4 @@ pub mod ArraySound
 pub mod Kept
 pub mod Indices
 pub mod SharedNames
+pub mod Sizes

@@ -1,5 +1,6 @@
 //! JSON made into objects, which stand behind those that were there.
-ghost use Rattle.std.specs.Prelude.{◌≡◌, ◌+◌, ◌++◌, if◌then◌else◌, ◌≤◌, ◌<◌, [], length, vec_len, nat_lt, IfOk, OnOk, OnErr, IfErr};
+ghost use Rattle.std.specs.Prelude.{◌≡◌, ◌+◌, ◌++◌, ◌↔◌, if◌then◌else◌, ◌≤◌, ◌<◌, [], length, option_to_list, vec_len, nat_lt, IfOk, OnOk, OnErr, IfErr, IsSome};
+ghost use Rattle.std.specs.VecDeque.{deque_len};
 ghost use Rattle.std.specs.Str.{chars};
 ghost use Rattle.serde_json.specs.View.{view, items_view, members_view};
 ghost use Rattle.ng_base.specs.declared.fault.Memory.TheVariants.{Refused};
@@ -16,9 +17,13 @@ use ng_base::txt::Txt;
 use ng_base::value::Value;
 use serde_json::{Map, Number, Value as Json};
 use std::alloc::{AllocError, Global};
+use std::collections::VecDeque;
 
 /// How many names are kept to be shared.
 const SHARED_NAMES: usize = 1_000;
+
+/// A list of JSON with room for more items than these gives room back while it empties.
+const MUCH_ROOM: usize = 65_536;
 
 /// A number that is whole.
 fn number(n: &Number) -> Value
@@ -89,6 +94,21 @@ fn put_object(
     Ok(Value::Obj(o))
 }
 
+/// The next item of those that are left. The room of a long list is given back once less than half of it is used, so that the
+/// items that were placed take none beside their objects.
+fn next_item(left: &mut VecDeque<Json>) -> Option<Json>
+    ensures items { left.old.items ≡ option_to_list result ++ left.new.items }
+    ensures some { IsSome result ↔ (0 < deque_len left.old) }
+    ensures count { deque_len left.new + length (option_to_list result) ≡ deque_len left.old }
+{
+    let next = left.pop_front();
+    let room = left.capacity();
+    if room > MUCH_ROOM && left.len() < room / 2 {
+        left.shrink_to_fit();
+    }
+    next
+}
+
 /// JSON as a value, with the objects that it wants. Each part is dropped as soon as its objects are made.
 #[cycle(place)]
 pub(crate) fn place(
@@ -133,7 +153,8 @@ fn place_items(
     ensures refused { IfErr result (λ e. e ≡ Refused) }
 {
     let mut done = Vec::with_capacity(alloc, items.len())?;
-    for item in items {
+    let mut left = VecDeque::from(items);
+    while let Some(item) = next_item(&mut left) {
         done.push(place(alloc, base, made, names, item)?)?;
     }
     Ok(done)

@@ -1,4 +1,5 @@
 pub mod Applied
 pub mod Purity
 pub mod Evaluation
+pub mod Paths
 pub mod Calls

@@ -1,11 +1,12 @@
 //! The value of a dotted path of names, which is read where it stands, so that no value on its way is copied.
-ghost use Rattle.std.specs.Prelude.{◌≡◌, ◌<◌, length, IfSome, Ok};
+ghost use Rattle.std.specs.Prelude.{◌≡◌, ◌<◌, length, option_copied, IfSome, Ok};
 ghost use Rattle.ng_base.specs.Views.{prim};
 ghost use Rattle.ng_language.specs.Views.{ViewStands};
 ghost use Rattle.ng_parse.specs.TreeOf.{tree};
 ghost use Rattle.ng_members.specs.Leaves.{named, LocalsStand};
 ghost use Rattle.ng_members.specs.Members.{member};
 ghost use Rattle.ng_view.specs.Evaluation.{evaluated};
+ghost use Rattle.ng_view.specs.Paths.{stored_name, stored_member, stored_path};
 
 use ng_base::heap::Heap;
 use ng_base::locals::Locals;
@@ -24,6 +25,7 @@ fn named_seen<'a>(store: &'a Store, scope: Oid, locals: &'a Locals, name: &Txt) 
     requires locals { LocalsStand (length store.now) locals.now }
     ensures value { IfSome result (λ v. named store.now scope.0 locals.now name.now ≡ prim v.now) }
     ensures stands { IfSome result (λ v. ViewStands (length store.now) (prim v.now)) }
+    ensures there { option_copied result ≡ stored_name store.now scope.0 locals.now name.now }
 {
     if let Some(v) = local(locals, name) {
         return Some(v);
@@ -37,6 +39,7 @@ fn member_seen<'a>(store: &'a Store, v: &Value, name: &Txt) -> Option<&'a Value>
     requires { ViewStands (length store.now) (prim v.now) }
     ensures value { IfSome result (λ w. member store.now (prim v.now) name.now ≡ prim w.now) }
     ensures stands { IfSome result (λ w. ViewStands (length store.now) (prim w.now)) }
+    ensures there { option_copied result ≡ stored_member store.now v.now name.now }
 {
     match v {
         Value::Obj(o) => {
@@ -60,6 +63,7 @@ pub(crate) fn seen<'a>(
     requires locals { LocalsStand (length store.now) locals.now }
     ensures value { IfSome result (λ v. evaluated store.now scope.0 locals.now (tree e.now) ≡ Ok (prim v.now)) }
     ensures stands { IfSome result (λ v. ViewStands (length store.now) (prim v.now)) }
+    ensures there { option_copied result ≡ stored_path store.now scope.0 locals.now (tree e.now) }
 {
     match e {
         Expr::Name(n) => named_seen(store, scope, locals, n),

@@ -5,7 +5,7 @@ use Rattle.serde_json.specs.Data.{Members, no_members, member}
 use Rattle.ng_base.specs.Objects.{Object}
 use Rattle.ng_base.specs.declared.value.Value.{Value}
 use Rattle.ng_language.specs.Objects.{set_name}
-use Rattle.ng_store.specs.Json.{is_whole, json_value, with_json}
+use Rattle.ng_store.specs.Json.{is_json_want, is_whole, json_value, with_json}
 use Rattle.ng_store.specs.declared.json.JsonFault.{JsonFault}
 use Rattle.ng_store.specs.declared.json.JsonFault.TheVariants as faults
 use Rattle.ng_write.specs.Assigning.{is_kept_name}
@@ -35,13 +35,7 @@ members_entered objects o (member k d ms) =
 abbrev pub facts_entered : List Object → ℕ → Members → Read
 facts_entered objects o ms = if facts_are_whole ms then members_entered objects o ms else (objects, Err faults.Number)
 
--- want of memory is free
-abbrev pub is_memory_fault : JsonFault → Bool
-is_memory_fault (faults.Memory m) = true
-is_memory_fault faults.Number = false
-is_memory_fault faults.Full = false
-
--- a call left and answered what a definition says, unless memory ran out
+-- a call left and answered what a definition says, unless memory was refused
 abbrev pub Reads : Read → List Object → Result (Unit {0}) JsonFault → Type 0
 Reads asked objects (Ok u) = asked ≡ (objects, Ok u)
-Reads asked objects (Err e) = is_memory_fault e ≡ false → asked ≡ (objects, Err e)
+Reads asked objects (Err e) = is_json_want e ≡ false → asked ≡ (objects, Err e)

@@ -10,4 +10,4 @@ use Rattle.ng_page.proofs.page.Page.rendered.Goals as goal
 pub returns-in-None : goal.returns-in-None
 returns-in-None c =
     let p = c.args.self.now in
-    none_rendered (state_of p) (sym (ap (option_map (instance_of (fragments_of p))) c.in-None.is) ∙ c.in_ok-instance.ensures) ∙ ap (λ (f : Forest). shown_as f) (sym c.new.ensures)
+    none_rendered (state_of p) (sym (ap (option_map (instance_of (fragments_of p))) c.in-None.is) ∙ c.in_ok-instance.ensures.instance) ∙ ap (λ (f : Forest). shown_as f) (sym c.new.ensures)
