@@ -10,3 +10,5 @@ pub mod Kept
 pub mod Indices
 pub mod SharedNames
 pub mod Sizes
+pub mod Turned
+pub mod Places

@@ -7,7 +7,7 @@ ghost use Rattle.ng_language.specs.Objects.{AreObjects, look, set_name};
 ghost use Rattle.ng_store.specs.ObjectOf.{object_of, objects_of};
 
 use crate::names::names_of;
-use crate::stored::{Stored, property, put_property};
+use crate::stored::{Stored, property, put_next};
 use ng_base::fault::Memory;
 use ng_base::heap::ObjKind;
 use ng_base::index::index_of;
@@ -96,7 +96,13 @@ pub(crate) fn look<'a>(objects: &'a [Stored], o: Oid, name: &Txt) -> Option<&'a 
 }
 
 /// Sets a name of an object.
-pub(crate) fn set(objects: &mut Vec<Stored>, o: Oid, name: &Txt, v: Value) -> Result<(), Memory>
+pub(crate) fn set(
+    objects: &mut Vec<Stored>,
+    next: &mut usize,
+    o: Oid,
+    name: &Txt,
+    v: Value,
+) -> Result<(), Memory>
     requires { o.0 < vec_len objects.old }
     ensures ok { OnOk result (objects_of objects.new.items ≡ set_name (objects_of objects.old.items) o.0 name.now v) }
     ensures err { OnErr result (objects_of objects.new.items ≡ objects_of objects.old.items) }
@@ -104,6 +110,6 @@ pub(crate) fn set(objects: &mut Vec<Stored>, o: Oid, name: &Txt, v: Value) -> Re
     ensures refused { IfErr result (λ e. e ≡ Refused) }
 {
     let stored = &mut objects[o.0 as usize];
-    put_property(&mut stored.properties, name, v)?;
+    put_next(&mut stored.properties, next, name, v)?;
     Ok(())
 }

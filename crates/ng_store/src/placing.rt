@@ -8,7 +8,7 @@ ghost use Rattle.ng_store.specs.Json.{objects_in, objects_in_items, objects_in_m
 ghost use Rattle.ng_store.specs.ObjectOf.{objects_of};
 
 use crate::json::whole;
-use crate::stored::{Stored, put_property};
+use crate::stored::Stored;
 use indexmap::{IndexMap, IndexSet};
 use ng_base::fault::Memory;
 use ng_base::heap::ObjKind;

@@ -58,6 +58,8 @@ const OBJECT_LIMIT: usize = 1_000_000;
 pub struct Store {
     alloc: Global,
     objects: Vec<Stored>,
+    /// The place behind the property that was set last.
+    next: usize,
 }
 
 impl Model for Store {
@@ -82,6 +84,7 @@ impl Store {
         Store {
             alloc,
             objects: Vec::new(alloc),
+            next: 0,
         }
     }
 
@@ -191,7 +194,7 @@ impl Store {
         ensures there { is_some (lookup (bytes_eq name.now) (object_at self.old o.0).properties) ≡ true → IsOk result }
         ensures refused { IfErr result (λ e. e ≡ Refused) }
     {
-        objects::set(&mut self.objects, o, name, v)?;
+        objects::set(&mut self.objects, &mut self.next, o, name, v)?;
         Ok(())
     }
 

@@ -1,7 +1,8 @@
 //! One object as it is stored.
-ghost use Rattle.std.specs.Prelude.{◌≡◌, [], is_some, true, IfOk, OnOk, OnErr, IsOk, IfErr, bytes_eq, option_copied};
+ghost use Rattle.std.specs.Prelude.{◌≡◌, ◌<◌, [], length, is_some, IsTrue, true, IfOk, OnOk, OnErr, IsOk, IfErr, bytes_eq, option_copied};
 ghost use Rattle.std.specs.Map.{lookup};
-ghost use Rattle.indexmap.specs.IndexMap.{insert_entry, IsUnique};
+ghost use Rattle.indexmap.specs.IndexMap.{insert_entry, set_value_at, IsUnique};
+ghost use Rattle.ng_base.specs.declared.value.Value.{Value as ValueOf};
 ghost use Rattle.ng_base.specs.declared.fault.Memory.TheVariants.{Refused};
 
 use indexmap::IndexMap;
@@ -41,11 +42,13 @@ pub(crate) fn no_properties(
 const FEW: usize = 12;
 
 /// The value of a property, by a look at one name after another.
+#[tactic(auto, using(crate::proofs::Turned::turned))]
 fn property_among<'a>(properties: &'a IndexMap<Txt, Value>, name: &Txt) -> Option<&'a Value>
     ensures { option_copied result ≡ lookup (bytes_eq name.now) properties.now.entries }
 {
+    let text = name.as_str();
     for (key, value) in properties.iter() {
-        if name.same(key) {
+        if key.is(text) {
             return Some(value);
         }
     }
@@ -60,6 +63,29 @@ pub(crate) fn property<'a>(properties: &'a IndexMap<Txt, Value>, name: &Txt) -> 
         property_among(properties, name)
     } else {
         properties.get(name)
+    }
+}
+
+/// Whether the property at a place has this name.
+fn is_at(properties: &IndexMap<Txt, Value>, place: usize, name: &Txt) -> bool
+    ensures within { IsTrue result → place < length properties.now.entries }
+    ensures there { IsTrue result → is_some (lookup (bytes_eq name.now) properties.now.entries) ≡ true }
+    ensures written { IsTrue result → (v : ValueOf) → insert_entry bytes_eq properties.now.entries name.now v ≡ set_value_at properties.now.entries place v }
+{
+    let _ = properties.len();
+    match properties.get_index(place) {
+        None => false,
+        Some((key, _)) => name.same(key),
+    }
+}
+
+/// Writes the property at a place.
+fn write_at(properties: &mut IndexMap<Txt, Value>, place: usize, v: Value)
+    requires { place < length properties.old.entries }
+    ensures { properties.new.entries ≡ set_value_at properties.old.entries place v }
+{
+    if let Some(slot) = properties.get_index_mut(place) {
+        *slot = v;
     }
 }
 
@@ -111,16 +137,25 @@ fn put_new(properties: &mut IndexMap<Txt, Value>, name: &Txt, v: Value) -> Resul
     }
 }
 
-/// Sets a property that is most likely there: its name is copied where it isn't.
-fn put_known(properties: &mut IndexMap<Txt, Value>, name: &Txt, v: Value) -> Result<(), Memory>
+/// Sets a property that is most likely there: its name is copied where it isn't. The place behind it is told.
+fn put_known(
+    properties: &mut IndexMap<Txt, Value>,
+    next: &mut usize,
+    name: &Txt,
+    v: Value,
+) -> Result<(), Memory>
     ensures ok { OnOk result (properties.new.entries ≡ insert_entry bytes_eq properties.old.entries name.now v) }
     ensures err { OnErr result (properties.new.entries ≡ properties.old.entries) }
     ensures there { is_some (lookup (bytes_eq name.now) properties.old.entries) ≡ true → IsOk result }
     ensures refused { IfErr result (λ e. e ≡ Refused) }
 {
-    match replace_property(properties, name, v) {
-        Ok(()) => Ok(()),
-        Err(v) => {
+    match properties.get_index_of(name) {
+        Some(place) => {
+            write_at(properties, place, v);
+            *next = place.saturating_add(1);
+            Ok(())
+        }
+        None => {
             let name = name.copied()?;
             properties.insert(name, v)?;
             Ok(())
@@ -129,8 +164,9 @@ fn put_known(properties: &mut IndexMap<Txt, Value>, name: &Txt, v: Value) -> Res
 }
 
 /// Sets a property, in its place or at the end. One that is there takes no memory.
-pub(crate) fn put_property(
+fn put_property(
     properties: &mut IndexMap<Txt, Value>,
+    next: &mut usize,
     name: &Txt,
     v: Value,
 ) -> Result<(), Memory>
@@ -142,6 +178,27 @@ pub(crate) fn put_property(
     if properties.len() < SCOPE_ROOM {
         put_new(properties, name, v)
     } else {
-        put_known(properties, name, v)
+        put_known(properties, next, name, v)
     }
+}
+
+/// Sets a property: the one behind that which was set last is looked at first, since rows are told the same names in the same order.
+pub(crate) fn put_next(
+    properties: &mut IndexMap<Txt, Value>,
+    next: &mut usize,
+    name: &Txt,
+    v: Value,
+) -> Result<(), Memory>
+    ensures ok { OnOk result (properties.new.entries ≡ insert_entry bytes_eq properties.old.entries name.now v) }
+    ensures err { OnErr result (properties.new.entries ≡ properties.old.entries) }
+    ensures there { is_some (lookup (bytes_eq name.now) properties.old.entries) ≡ true → IsOk result }
+    ensures refused { IfErr result (λ e. e ≡ Refused) }
+{
+    let place = *next;
+    if is_at(properties, place, name) {
+        write_at(properties, place, v);
+        *next = place.saturating_add(1);
+        return Ok(());
+    }
+    put_property(properties, next, name, v)
 }
