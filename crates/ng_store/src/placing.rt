@@ -1,5 +1,5 @@
 //! JSON made into objects, which stand behind those that were there.
-ghost use Rattle.std.specs.Prelude.{◌≡◌, ◌+◌, ◌++◌, ◌↔◌, if◌then◌else◌, ◌≤◌, ◌<◌, [], length, option_to_list, vec_len, nat_lt, IfOk, OnOk, OnErr, IfErr, IsSome};
+ghost use Rattle.std.specs.Prelude.{◌≡◌, ◌+◌, ◌++◌, ◌↔◌, if◌then◌else◌, ◌≤◌, ◌<◌, [], length, option_to_list, vec_len, nat_lt, IfOk, IfSome, OnOk, OnErr, IfErr, IsSome};
 ghost use Rattle.std.specs.VecDeque.{deque_len};
 ghost use Rattle.std.specs.Str.{chars};
 ghost use Rattle.serde_json.specs.View.{view, items_view, members_view};
@@ -22,6 +22,9 @@ use std::collections::VecDeque;
 /// How many names are kept to be shared.
 const SHARED_NAMES: usize = 1_000;
 
+/// So many shared names are looked through one after another, which takes no text of the one that is sought.
+const FEW_NAMES: usize = 12;
+
 /// A list of JSON with room for more items than these gives room back while it empties.
 const MUCH_ROOM: usize = 65_536;
 
@@ -35,8 +38,24 @@ fn number(n: &Number) -> Value
     }
 }
 
-/// The text of a name, which objects share, so that records with the same names take no memory for them.
-fn shared_name(alloc: Global, names: &mut IndexSet<Txt>, name: &str) -> Result<Txt, Memory>
+/// The name among those that are shared, by a look at one after another where they are few.
+fn known_name(names: &IndexSet<Txt>, name: &str) -> Result<Option<Txt>, Memory>
+    ensures name { IfOk result (λ found. IfSome found (λ t. t ≡ chars name.now)) }
+    ensures refused { IfErr result (λ e. e ≡ Refused) }
+{
+    if names.len() > FEW_NAMES {
+        return Ok(None);
+    }
+    for known in names.iter() {
+        if known.is(name) {
+            return Ok(Some(known.copied()?));
+        }
+    }
+    Ok(None)
+}
+
+/// The text of a name that is not among the few, and is shared from now on where there is room.
+fn added_name(alloc: Global, names: &mut IndexSet<Txt>, name: &str) -> Result<Txt, Memory>
     ensures name { IfOk result (λ t. t ≡ chars name.now) }
     ensures refused { IfErr result (λ e. e ≡ Refused) }
 {
@@ -48,6 +67,17 @@ fn shared_name(alloc: Global, names: &mut IndexSet<Txt>, name: &str) -> Result<T
         names.insert(name.copied()?)?;
     }
     Ok(name)
+}
+
+/// The text of a name, which objects share, so that records with the same names take no memory for them.
+fn shared_name(alloc: Global, names: &mut IndexSet<Txt>, name: &str) -> Result<Txt, Memory>
+    ensures name { IfOk result (λ t. t ≡ chars name.now) }
+    ensures refused { IfErr result (λ e. e ≡ Refused) }
+{
+    match known_name(names, name)? {
+        Some(known) => Ok(known),
+        None => added_name(alloc, names, name),
+    }
 }
 
 /// An array behind the objects that were made.
@@ -173,13 +203,12 @@ fn place_members(
     ensures count { OnOk result (vec_len made.new ≡ vec_len made.old + objects_in_members (members_view members.entries)) }
     ensures refused { IfErr result (λ e. e ≡ Refused) }
 {
-    let mut done = IndexMap::new(alloc);
+    let mut done = IndexMap::with_capacity(alloc, members.len())?;
     for (key, v) in members {
         let value = place(alloc, base, made, names, v)?;
         let name = shared_name(alloc, names, key.as_str())?;
         done.insert(name, value)?;
     }
-    done.shrink_to_fit();
     Ok(done)
 }
 
