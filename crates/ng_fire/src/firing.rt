@@ -41,6 +41,14 @@ use ng_view::view;
 use ng_watch::watch::Watch;
 use std::alloc::Global;
 
+/// What a fire did: what the programs that ran came to, and whether it was quiet. A quiet fire ran no program, and neither made nor took away a
+/// body: its watcher keeps another snapshot, which is drawn.
+#[derive(Clone, Copy, Debug, PartialEq, Eq)]
+pub struct FireResult {
+    pub followed: Followed,
+    pub quiet: bool,
+}
+
 /// The value of a watch's program over its scope.
 #[tactic(auto, using(ng_view::proofs::Pure::pure_are, ng_view::proofs::Pure::known_are), unfolding(ng_watch::specs::Now::value_now))]
 fn value_now(alloc: Global, store: &Store, watch: &Watch) -> Result<View, Fault>
@@ -155,6 +163,7 @@ fn fire_shown(works: &mut Works, key: &Key, snapshot: Snap) -> Result<Followed, 
     requires none { all_due key.now (linked_for (state_of works.old).inner key.now.path (state_of works.old).instances) ≡ [] }
     requires unbound { bound_for (state_of works.old).inner (state_of works.old).instances key.now ≡ None }
     ensures fired { IfOk result (λ f. firing works.new f ≡ site_fired key.now (snap_of snapshot) (value_at (state_of works.old) key.now) (kept_at key.now (state_of works.old).watchers) (keeping_at key.now (snap_of snapshot) (state_of works.old))) }
+    ensures kept { OnOk result (state_of works.new ≡ keeping_at key.now (snap_of snapshot) (state_of works.old)) }
     ensures whole { OnOk result (IsWhole works.new) }
     ensures templates { templates_of works.new ≡ templates_of works.old }
 {
@@ -168,21 +177,30 @@ fn fire_unbound(
     alloc: Global,
     key: &Key,
     snapshot: Snap,
-) -> Result<Followed, Memory>
+) -> Result<FireResult, Memory>
     requires whole { IsWhole works.old }
     requires there { IsSome (found key.now (state_of works.old).watchers) }
     requires dirty { IsDirtyWith (snap_of snapshot) (state_of works.old) key.now }
     requires site { is_site (state_of works.old).inner (state_of works.old).instances key.now ≡ true }
     requires unbound { bound_for (state_of works.old).inner (state_of works.old).instances key.now ≡ None }
-    ensures fired { IfOk result (λ f. firing works.new f ≡ site_fired key.now (snap_of snapshot) (value_at (state_of works.old) key.now) (kept_at key.now (state_of works.old).watchers) (keeping_at key.now (snap_of snapshot) (state_of works.old))) }
+    ensures fired { IfOk result (λ f. firing works.new f.followed ≡ site_fired key.now (snap_of snapshot) (value_at (state_of works.old) key.now) (kept_at key.now (state_of works.old).watchers) (keeping_at key.now (snap_of snapshot) (state_of works.old))) }
+    ensures quiet { IfOk result (λ f. f.quiet ≡ true → state_of works.new ≡ keeping_at key.now (snap_of snapshot) (state_of works.old)) }
     ensures whole { OnOk result (IsWhole works.new) }
     ensures templates { templates_of works.new ≡ templates_of works.old }
 {
     let all = works.filled_outlets(key)?;
     if all.is_empty() {
-        fire_shown(works, key, snapshot)
+        let followed = fire_shown(works, key, snapshot)?;
+        Ok(FireResult {
+            followed,
+            quiet: true,
+        })
     } else {
-        fire_filling(works, alloc, key, snapshot, all.as_slice())
+        let followed = fire_filling(works, alloc, key, snapshot, all.as_slice())?;
+        Ok(FireResult {
+            followed,
+            quiet: false,
+        })
     }
 }
 
@@ -193,19 +211,26 @@ fn fire_drawn(
     alloc: Global,
     key: &Key,
     snapshot: Snap,
-) -> Result<Followed, Memory>
+) -> Result<FireResult, Memory>
     requires whole { IsWhole works.old }
     requires there { IsSome (found key.now (state_of works.old).watchers) }
     requires dirty { IsDirtyWith (snap_of snapshot) (state_of works.old) key.now }
     requires site { is_site (state_of works.old).inner (state_of works.old).instances key.now ≡ true }
-    ensures fired { IfOk result (λ f. firing works.new f ≡ site_fired key.now (snap_of snapshot) (value_at (state_of works.old) key.now) (kept_at key.now (state_of works.old).watchers) (keeping_at key.now (snap_of snapshot) (state_of works.old))) }
+    ensures fired { IfOk result (λ f. firing works.new f.followed ≡ site_fired key.now (snap_of snapshot) (value_at (state_of works.old) key.now) (kept_at key.now (state_of works.old).watchers) (keeping_at key.now (snap_of snapshot) (state_of works.old))) }
+    ensures quiet { IfOk result (λ f. f.quiet ≡ true → state_of works.new ≡ keeping_at key.now (snap_of snapshot) (state_of works.old)) }
     ensures whole { OnOk result (IsWhole works.new) }
     ensures templates { templates_of works.new ≡ templates_of works.old }
 {
     let found = bound_of(works, alloc, key)?;
     match found {
         None => fire_unbound(works, alloc, key, snapshot),
-        Some(bound) => fire_bound(works, alloc, key, snapshot, &bound),
+        Some(bound) => {
+            let followed = fire_bound(works, alloc, key, snapshot, &bound)?;
+            Ok(FireResult {
+                followed,
+                quiet: false,
+            })
+        }
     }
 }
 
@@ -272,35 +297,46 @@ fn fire_watcher(
     alloc: Global,
     key: &Key,
     snapshot: Snap,
-) -> Result<Followed, Memory>
+) -> Result<FireResult, Memory>
     requires whole { IsWhole works.old }
     requires there { IsSome (found key.now (state_of works.old).watchers) }
     requires dirty { IsDirtyWith (snap_of snapshot) (state_of works.old) key.now }
-    ensures state { IfOk result (λ f. (state_of works.new, f.faulted) ≡ fired key.now (snap_of snapshot) (state_of works.old)) }
-    ensures added { IfOk result (λ f. f.added ≡ fire_adds key.now (snap_of snapshot) (state_of works.old)) }
+    ensures state { IfOk result (λ f. (state_of works.new, f.followed.faulted) ≡ fired key.now (snap_of snapshot) (state_of works.old)) }
+    ensures added { IfOk result (λ f. f.followed.added ≡ fire_adds key.now (snap_of snapshot) (state_of works.old)) }
+    ensures quiet { IfOk result (λ f. f.quiet ≡ true → state_of works.new ≡ keeping_at key.now (snap_of snapshot) (state_of works.old)) }
     ensures whole { OnOk result (IsWhole works.new) }
     ensures templates { templates_of works.new ≡ templates_of works.old }
 {
     if works.is_site(key) {
         return fire_drawn(works, alloc, key, snapshot);
     }
-    fire_declared(works, alloc, key, snapshot)
+    let followed = fire_declared(works, alloc, key, snapshot)?;
+    Ok(FireResult {
+        followed,
+        quiet: false,
+    })
 }
 
 /// The fire of a watcher whose test was dirty: it keeps the snapshot of now, which the site of a template then shows; a declared
 /// watch runs its program (guide: Scopes, "Scope `$watch` Depths").
-pub fn fire(works: &mut Works, alloc: Global, key: &Key, snapshot: Snap) -> Result<Followed, Memory>
+pub fn fire(
+    works: &mut Works,
+    alloc: Global,
+    key: &Key,
+    snapshot: Snap,
+) -> Result<FireResult, Memory>
     requires whole { IsWhole works.old }
     requires there { IsSome (found key.now (state_of works.old).watchers) }
     requires dirty { IsDirtyWith (snap_of snapshot) (state_of works.old) key.now }
-    ensures state { IfOk result (λ f. (state_of works.new, f.faulted) ≡ fired key.now (snap_of snapshot) (state_of works.old)) }
-    ensures added { IfOk result (λ f. f.added ≡ fire_adds key.now (snap_of snapshot) (state_of works.old)) }
+    ensures state { IfOk result (λ f. (state_of works.new, f.followed.faulted) ≡ fired key.now (snap_of snapshot) (state_of works.old)) }
+    ensures added { IfOk result (λ f. f.followed.added ≡ fire_adds key.now (snap_of snapshot) (state_of works.old)) }
+    ensures quiet { IfOk result (λ f. f.quiet ≡ true → state_of works.new ≡ keeping_at key.now (snap_of snapshot) (state_of works.old)) }
     ensures whole { OnOk result (IsWhole works.new) }
     ensures templates { templates_of works.new ≡ templates_of works.old }
     ensures worn { IfErr result (HasCause (is_worn (state_of works.new))) }
 {
     match fire_watcher(works, alloc, key, snapshot) {
-        Ok(followed) => Ok(followed),
+        Ok(fired) => Ok(fired),
         Err(memory) => Err(told(is_worn(works), memory)),
     }
 }

@@ -24,7 +24,9 @@ use Rattle.ng_page.specs.PageLaws.{is_itself, key_is}
 use Rattle.ng_page.specs.PageMachine.{State, found_as, verdict_of, verdict_at, tell, tested_of, tested, handed_on, handed_on_of, handed_on_at, page_machine}
 use Rattle.ng_commands.specs.BetweenSteps.{WorksAre}
 use Rattle.ng_page.specs.PlaceOf.{IsAtStage, IsAtWatcher, Holds, judged_in, judged_at, seen_found, key_at, last_at, found_there, state_of}
+use Rattle.ng_page.specs.KnownClean.{AreClean}
 use Rattle.ng_page.specs.declared.engine.Engine.{Engine}
+use Rattle.ng_page.specs.declared.known.Known.{Known}
 use Rattle.ng_page.proofs.Stages.{first_next, after_next}
 
 -- where no counter is told, none is asked for
@@ -78,24 +80,27 @@ mapped_some f None r e = cc
 mapped_some f (Some w) r e = refl
 
 -- once the cursor came to where a walk ended, what was found there is at hand
-pub holds_came : (e : Engine) (q : Standing Key) (ahead : Result Verdict Fault) (n : ℕ) (a : Arrival) → WorksAre e.works
+pub holds_came : (e : Engine) (q : Standing Key) (ahead : Result Verdict Fault) (known : Known) (n : ℕ) (a : Arrival) → WorksAre e.works
     → q ≡ came_to (key_at a) (passed n (last_at a) e.progress)
     → seen_found ahead ≡ found_there a (seen_found e.ahead)
     → Reaches (link.state_of e.works).core.objects (link.state_of e.works).watchers a
-    → Holds (record e { progress = q; ahead = ahead })
-holds_came e q ahead n (behind_all c) works step seen reached = record {
+    → AreClean known q.cursor (link.state_of e.works).core.objects (link.state_of e.works).watchers
+    → Holds (record e { known = known; progress = q; ahead = ahead })
+holds_came e q ahead known n (behind_all c) works step seen reached still = record {
   works = works;
-  stage = subst (λ g. IsAtStage g (record e { progress = q; ahead = ahead })) (sym (ap (λ x. x.stage) step)) tt;
+  stage = subst (λ g. IsAtStage g (record e { known = known; progress = q; ahead = ahead })) (sym (ap (λ x. x.stage) step)) tt;
+  known = still;
 }
-holds_came e q ahead n (at_watcher k r) works step seen reached =
+holds_came e q ahead known n (at_watcher k r) works step seen reached still =
     let t = (link.state_of e.works).watchers in
     let there : IsSome (found k t) = mapped_some (verdict (link.state_of e.works).core.objects) (found k t) r reached in
     record {
       works = works;
-      stage = subst (λ g. IsAtStage g (record e { progress = q; ahead = ahead })) (sym (ap (λ x. x.stage) step)) (
+      stage = subst (λ g. IsAtStage g (record e { known = known; progress = q; ahead = ahead })) (sym (ap (λ x. x.stage) step)) (
         subst (λ o. IsAtWatcher o t) (sym (ap (λ x. x.cursor) step)) there,
         subst (λ o. judged_at (state_of e) o ≡ Some (seen_found ahead)) (sym (ap (λ x. x.cursor) step)) (reached ∙ ap (λ x. Some x) (sym seen)),
       );
+      known = still;
     }
 
 -- two keys are the same both ways

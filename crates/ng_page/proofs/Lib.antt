@@ -29,6 +29,8 @@ pub mod Agreeing
 pub mod Opened
 pub mod Stages
 pub mod Ahead
+pub mod StaysClean
+pub mod PassOver
 pub mod Prepared
 pub mod Ending
 pub mod Commanding

@@ -96,7 +96,7 @@ clean_result told (Ok (dirty t)) c q n = absurd (c refl)
 clean_result told (Err f) c q n = absurd (n q)
 
 -- a watcher that is found has a live key
-live_key : (k : Key) (t : Table) (w : Watcher) → found_in k t ≡ Some w → IsIn k (keys_of t)
+pub live_key : (k : Key) (t : Table) (w : Watcher) → found_in k t ≡ Some w → IsIn k (keys_of t)
 live_key k [] w e = cc
 live_key k (x ∷ t) w e = by_key (is_key k x.0) refl e (live_key k t w)
   where

@@ -18,7 +18,9 @@ use Rattle.ng_fire.specs.Fires.{fired as fires}
 use Rattle.ng_page.specs.PageMachine.{State, page_machine, handed_on_at, fired_to, fired_by, fired}
 use Rattle.ng_commands.specs.BetweenSteps.{WorksAre}
 use Rattle.ng_page.specs.PlaceOf.{IsAtStage, IsAtWatcher, Holds, OnDirty, handed_on_from, state_of}
+use Rattle.ng_page.specs.KnownClean.{AreClean}
 use Rattle.ng_page.specs.declared.engine.Engine.{Engine}
+use Rattle.ng_page.specs.declared.known.Known.{Known}
 
 -- only a dirty test asks for a fire
 pub stage_after : (same : Bool) (v : Verdict) (e : Engine) → (v ≡ found_dirty → IsAtStage Pending e) → IsAtStage (stage_tested same v) e
@@ -49,36 +51,38 @@ after_next k t = found_key (is_above k) t
 pub fired_on : (s u : State) (k : Key) (t : ViewTree) → Some t ≡ handed_on_at s k → u ≡ fired_to k (fires k t s.works) s → u ≡ fired s k
 fired_on s u k t e h = h ∙ ap (λ o. fired_by k o s) e
 
-holds_at : (e : Engine) (q : Standing Key) (same : Bool) (v : Verdict) → WorksAre e.works → q ≡ test_done same v e.progress → (v ≡ found_dirty → IsAtStage Pending (record e { progress = q })) → Holds (record e { progress = q })
-holds_at e q same v works step asks = record {
+holds_at : (e : Engine) (q : Standing Key) (known : Known) (same : Bool) (v : Verdict) → WorksAre e.works → AreClean known q.cursor (state_of e).works.core.objects (state_of e).works.watchers → q ≡ test_done same v e.progress → (v ≡ found_dirty → IsAtStage Pending (record e { known = known; progress = q })) → Holds (record e { known = known; progress = q })
+holds_at e q known same v works clean step asks = record {
   works = works;
-  stage = subst (λ g. IsAtStage g (record e { progress = q })) (sym (ap (λ x. x.stage) step)) (stage_after same v (record e { progress = q }) asks);
+  stage = subst (λ g. IsAtStage g (record e { known = known; progress = q })) (sym (ap (λ x. x.stage) step)) (stage_after same v (record e { known = known; progress = q }) asks);
+  known = clean;
 }
 
 not_both : (v : Verdict) (P : Type 0) (w : Verdict) → v ≡ w → v ≡ found_dirty → (w ≡ found_dirty → P) → P
 not_both v P w e d f = f (sym e ∙ d)
 
 -- after a dirty test its snapshot is at hand
-pub holds_tested : (o e : Engine) (q : Standing Key) (same : Bool) (tested : Tested) → o.progress.stage ≡ AtKey → Holds o
+pub holds_tested : (o e : Engine) (q : Standing Key) (known : Known) (same : Bool) (tested : Tested) → o.progress.stage ≡ AtKey → Holds o
     → Answers (verdict_at page_machine (state_of o) o.progress.cursor) tested
     → OnTested tested (state_of e ≡ state_tested page_machine (state_of o) o.progress.cursor (verdict_at page_machine (state_of o) o.progress.cursor))
     → e.progress ≡ o.progress
     → OnDirty tested (option_map snap_of e.pending ≡ handed_on_from (state_of o) o.progress.cursor)
     → OnTested tested (WorksAre e.works)
+    → OnTested tested (AreClean known o.progress.cursor (state_of e).works.core.objects (state_of e).works.watchers)
     → ((v : Verdict) → Answers v tested → OnTested tested (q ≡ test_done same v e.progress))
-    → OnTested tested (Holds (record e { progress = q }))
-holds_tested o e q same (Memory m) stage h answer state progress handed standing step = tt
-holds_tested o e q same Clean stage h answer state progress handed standing step =
-    holds_at e q same (verdict_at page_machine (state_of o) o.progress.cursor) standing (step (verdict_at page_machine (state_of o) o.progress.cursor) answer)
-    (λ d. not_both (verdict_at page_machine (state_of o) o.progress.cursor) (IsAtStage Pending (record e { progress = q })) found_clean answer d (λ x. cc))
-holds_tested o e q same Faulted stage h answer state progress handed standing step =
-    holds_at e q same (verdict_at page_machine (state_of o) o.progress.cursor) standing (step (verdict_at page_machine (state_of o) o.progress.cursor) answer)
-    (λ d. not_both (verdict_at page_machine (state_of o) o.progress.cursor) (IsAtStage Pending (record e { progress = q })) found_faulted answer d (λ x. cc))
-holds_tested o e q same Dirty stage h answer state progress handed standing step =
+    → OnTested tested (Holds (record e { known = known; progress = q }))
+holds_tested o e q known same (Memory m) stage h answer state progress handed standing clean step = tt
+holds_tested o e q known same Clean stage h answer state progress handed standing clean step =
+    holds_at e q known same (verdict_at page_machine (state_of o) o.progress.cursor) standing (subst (λ c. AreClean known c (state_of e).works.core.objects (state_of e).works.watchers) (sym (ap (λ x. x.cursor) (step (verdict_at page_machine (state_of o) o.progress.cursor) answer) ∙ ap (λ x. x.cursor) progress)) clean) (step (verdict_at page_machine (state_of o) o.progress.cursor) answer)
+    (λ d. not_both (verdict_at page_machine (state_of o) o.progress.cursor) (IsAtStage Pending (record e { known = known; progress = q })) found_clean answer d (λ x. cc))
+holds_tested o e q known same Faulted stage h answer state progress handed standing clean step =
+    holds_at e q known same (verdict_at page_machine (state_of o) o.progress.cursor) standing (subst (λ c. AreClean known c (state_of e).works.core.objects (state_of e).works.watchers) (sym (ap (λ x. x.cursor) (step (verdict_at page_machine (state_of o) o.progress.cursor) answer) ∙ ap (λ x. x.cursor) progress)) clean) (step (verdict_at page_machine (state_of o) o.progress.cursor) answer)
+    (λ d. not_both (verdict_at page_machine (state_of o) o.progress.cursor) (IsAtStage Pending (record e { known = known; progress = q })) found_faulted answer d (λ x. cc))
+holds_tested o e q known same Dirty stage h answer state progress handed standing clean step =
     let there : IsAtWatcher o.progress.cursor (state_of o).works.watchers = (subst (λ g. IsAtStage g o) stage h.stage).0 in
     let came : q.cursor ≡ o.progress.cursor = ap (λ x. x.cursor) (step (verdict_at page_machine (state_of o) o.progress.cursor) answer) ∙ ap (λ x. x.cursor) progress in
     let still : state_of e ≡ state_of o = state ∙ ap (state_tested page_machine (state_of o) o.progress.cursor) answer in
-    holds_at e q same (verdict_at page_machine (state_of o) o.progress.cursor) standing (step (verdict_at page_machine (state_of o) o.progress.cursor) answer)
+    holds_at e q known same (verdict_at page_machine (state_of o) o.progress.cursor) standing (subst (λ c. AreClean known c (state_of e).works.core.objects (state_of e).works.watchers) (sym (ap (λ x. x.cursor) (step (verdict_at page_machine (state_of o) o.progress.cursor) answer) ∙ ap (λ x. x.cursor) progress)) clean) (step (verdict_at page_machine (state_of o) o.progress.cursor) answer)
     (λ d. (
       subst (λ x. IsAtWatcher x (state_of e).works.watchers) (sym came) (subst (λ x. IsAtWatcher o.progress.cursor x.works.watchers) (sym still) there),
       handed ∙ (ap (λ x. handed_on_from x o.progress.cursor) (sym still) ∙ ap (handed_on_from (state_of e)) (sym came)),

@@ -3,6 +3,7 @@ pub mod PageLaws
 pub mod Opening
 pub mod Answered
 pub mod Steps
+pub mod KnownClean
 pub mod PlaceOf
 pub mod Targets
 pub mod Dispatch

@@ -16,6 +16,7 @@ use Rattle.ng_watch.specs.Table.{Table, found}
 use Rattle.ng_watch.specs.Verdicts.{Judged, judged_of, verdict}
 use Rattle.ng_watch.specs.Walks.{Arrival, behind_all, at_watcher}
 use Rattle.ng_watch.specs.declared.watch.Verdict.{Verdict}
+use Rattle.ng_page.specs.KnownClean.{AreClean}
 use Rattle.ng_page.specs.PageMachine.{State, handed_on_at, page_machine}
 use Rattle.ng_page.specs.declared.engine.Engine.{Engine}
 use Rattle.ng_commands.specs.BetweenSteps.{WorksAre}
@@ -81,6 +82,7 @@ OnDirty tested p = Unit {0}
 pub record Holds (e : Engine) : Type 0 where
   pub works : WorksAre e.works
   pub stage : IsAtStage e.progress.stage e
+  pub known : AreClean e.known e.progress.cursor (link.state_of e.works).core.objects (link.state_of e.works).watchers
 
 -- which counter of a page stands at its last value is told by the commands on it, and not by each call of a digest
 abbrev pub engine_moves : Moves Engine

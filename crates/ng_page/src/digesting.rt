@@ -12,8 +12,10 @@ ghost use Rattle.ng_commands.specs.BetweenSteps.{WorksAre, PageIs};
 ghost use Rattle.ng_page.specs.PlaceOf.{state_of, place_of};
 ghost use Rattle.ng_commands.specs.Settled.{IsSettled};
 ghost use Rattle.ng_page.specs.Steps.{Ends, EndsShort};
+ghost use Rattle.ng_page.specs.declared.known.Known.TheVariants.{Nothing};
 
 use crate::engine::Engine;
+use crate::known::Known;
 use crate::outcome::Outcome;
 use ng_base::fault::Memory;
 use ng_base::lists::Words;
@@ -40,6 +42,7 @@ impl Engine {
             probed: Words::new(alloc),
             ahead: Ok(Verdict::Clean),
             pending: None,
+            known: Known::Nothing,
             progress: Progress::new(),
         }
     }
@@ -48,12 +51,14 @@ impl Engine {
     fn ready(&mut self)
         ensures place { place_of self.new ≡ ready_place (link.state_of self.old.works) }
         ensures works { WorksAre self.old.works → WorksAre self.new.works }
+        ensures known { self.new.known ≡ Nothing }
     {
         self.told.clear();
         self.faulted.clear();
         self.probed = Words::new(self.alloc);
         self.works.forget_faults();
         self.pending = None;
+        self.known = Known::Nothing;
         self.progress = Progress::new();
     }
 

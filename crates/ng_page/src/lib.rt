@@ -13,7 +13,7 @@
 //! them together. For an event that contract is `Dispatched`; `Dispatch` says which handlers run; `laws` has what is proved of these
 //! definitions alone.
 //!
-//! In reading order: `outcome`; `engine`, `testing` and `world`, which is the engine as the world of ng_digest; `digesting`; `opening`;
+//! In reading order: `outcome`; `engine`, `known`, `passing`, `testing` and `world`, which is the engine as the world of ng_digest; `digesting`; `opening`;
 //! `dispatching` runs the handlers of an event, `page` has the calls; `laws`. What commands and handlers do before their digest is ng_commands'.
 //!
 //! Nothing here knows of files, words or output.
@@ -22,9 +22,11 @@
 mod digesting;
 mod dispatching;
 mod engine;
+mod known;
 pub mod laws;
 mod opening;
 pub mod outcome;
 pub mod page;
+mod passing;
 mod testing;
 mod world;

@@ -1,11 +1,14 @@
 //! What a test and a fire of a watcher do.
-ghost use Rattle.std.specs.Prelude.{◌≡◌, ℕ, List, IsSome, OnOk, IfOk, Err, is_some, option_map};
+ghost use Rattle.std.specs.Prelude.{◌≡◌, ℕ, List, IsSome, OnOk, IfOk, Err, true, false, is_some, option_map};
+ghost use Rattle.std.specs.Option.{ForSome};
 ghost use Rattle.ng_base.specs.declared.path.Key.{Key as Name};
 ghost use Rattle.ng_fire.specs.Fires.{fired, fire_adds, IsDirtyWith};
 ghost use Rattle.ng_digest.specs.Place.{Answers, OnTested};
 ghost use Rattle.ng_digest.specs.Progress.{came_to, passed};
+ghost use Rattle.ng_link.specs.Calls.{keeping_at};
 ghost use Rattle.ng_link.specs.State.{state_of};
 ghost use Rattle.ng_value.specs.Snaps.{snap_of};
+ghost use Rattle.ng_watch.specs.Laws.{is_two_way};
 ghost use Rattle.ng_watch.specs.Table.{found};
 ghost use Rattle.ng_watch.specs.Walks.{reached_of};
 ghost use Rattle.ng_page.specs.PageMachine.{found_as, tell, fired_to, handed_on};
@@ -20,12 +23,12 @@ use ng_fire::firing;
 use ng_link::works::Works;
 use ng_value::snapshot::Snap;
 use ng_watch::walking::{Reached, Walk};
-use ng_watch::watch::Verdict;
+use ng_watch::watch::{Verdict, Watch, WatchKind};
 use std::alloc::{AllocError, Global};
 use std::collections::BTreeSet;
 
 /// A copy of a key.
-fn copied(key: &Key) -> Result<Key, AllocError>
+pub(crate) fn copied(key: &Key) -> Result<Key, AllocError>
     ensures { IfOk result (λ k. k ≡ key.now) }
 {
     Ok(Key {
@@ -107,25 +110,55 @@ pub(crate) fn hand_on(
     }
 }
 
+/// What a fire came to: whether it added a watcher, and whether it was quiet.
+#[derive(Clone, Copy, Debug, PartialEq, Eq)]
+pub(crate) struct Ended {
+    pub(crate) added: bool,
+    pub(crate) quiet: bool,
+}
+
+/// Where nothing fired.
+pub(crate) fn nothing() -> Ended
+    ensures added { result.added ≡ false }
+    ensures quiet { result.quiet ≡ false }
+{
+    Ended {
+        added: false,
+        quiet: false,
+    }
+}
+
+/// Whether a watch is a two-way binding, which isn't clean by what it keeps alone.
+fn is_two_way(watch: &Watch) -> bool
+    ensures { result ≡ is_two_way watch.now.kind }
+{
+    matches!(watch.kind, WatchKind::TwoWay { .. })
+}
+
 /// Fires the watcher of a key: it keeps the snapshot that its test handed on, and then it fires. A fire that faulted is
-/// remembered. Answers whether it added a watcher.
+/// remembered.
 pub(crate) fn fire(
     alloc: Global,
     works: &mut Works,
     faulted: &mut BTreeSet<Key>,
     key: &Key,
     snapshot: Snap,
-) -> Result<bool, Memory>
+) -> Result<Ended, Memory>
     requires works { WorksAre works.old }
     requires there { IsSome (found key.now (state_of works.old).watchers) }
     requires dirty { IsDirtyWith (snap_of snapshot) (state_of works.old) key.now }
     ensures state { OnOk result ((ts : List Name) (ps : List (List ℕ)) → seen_of works.new ts faulted.new.keys ps ≡ fired_to key.now (fired key.now (snap_of snapshot) (state_of works.old)) (seen_of works.old ts faulted.old.keys ps)) }
-    ensures added { IfOk result (λ a. a ≡ fire_adds key.now (snap_of snapshot) (state_of works.old)) }
+    ensures added { IfOk result (λ e. e.added ≡ fire_adds key.now (snap_of snapshot) (state_of works.old)) }
+    ensures quiet { IfOk result (λ e. e.quiet ≡ true → (state_of works.new ≡ keeping_at key.now (snap_of snapshot) (state_of works.old)) × ForSome (found key.now (state_of works.old).watchers) (λ w. is_two_way w.watch.kind ≡ false)) }
     ensures works { OnOk result (WorksAre works.new) }
 {
+    let two_way = is_two_way(works.watchers().watch(key));
     let fired = firing::fire(works, alloc, key, snapshot)?;
-    if fired.faulted {
+    if fired.followed.faulted {
         faulted.insert(copied(key)?)?;
     }
-    Ok(fired.added)
+    Ok(Ended {
+        added: fired.followed.added,
+        quiet: fired.quiet && !two_way,
+    })
 }

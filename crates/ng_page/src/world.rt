@@ -1,5 +1,5 @@
 //! The engine as the world of a digest.
-ghost use Rattle.std.specs.Prelude.{◌≡◌, OnOk, IfOk, Some, option_copied, option_map};
+ghost use Rattle.std.specs.Prelude.{◌≡◌, OnOk, IfOk, Some, true, option_copied, option_map};
 ghost use Rattle.ng_digest.specs.Laws.{InOrder};
 ghost use Rattle.ng_digest.specs.Machine.{verdict_at, fired_at, adds_at};
 ghost use Rattle.ng_digest.specs.Place.{Answers, OnTested, state_tested};
@@ -9,11 +9,15 @@ ghost use Rattle.ng_watch.specs.Table.{watchers_of};
 ghost use Rattle.ng_watch.specs.Walks.{Walks, next_of, reached_of};
 ghost use Rattle.ng_commands.specs.BetweenSteps.{WorksAre};
 ghost use Rattle.ng_page.specs.PlaceOf.{engine_moves, state_of, IsAtWatcher, judged_at, seen_found, handed_on_from, OnDirty};
+ghost use Rattle.ng_page.specs.KnownClean.{AreClean};
 ghost use Rattle.ng_page.specs.PageLaws.{page_laws};
 ghost use Rattle.ng_page.specs.PageMachine.{page_machine};
+ghost use Rattle.ng_page.specs.declared.known.Known.TheVariants.{Below, UpTo};
 
 use crate::engine::Engine;
-use crate::testing;
+use crate::known::{Known, on_fire, on_round, on_test, on_walk};
+use crate::passing::{key_from, pass_over};
+use crate::testing::{self, Ended};
 use ng_base::fault::{Fault, Memory};
 use ng_base::path::Key;
 use ng_changes::settling::{give_up, settle};
@@ -26,8 +30,8 @@ use ng_watch::watch::Verdict;
 use ng_watch::watchers::Watchers;
 use std::mem::replace;
 
-/// A walk over clean watchers from the cursor upwards, at most up to a key.
-fn walk_to(engine: &Engine, last: Option<&Key>) -> Result<Walk, Memory>
+/// A walk over clean watchers from the cursor upwards, at most up to a key, each of which is tested.
+fn walk_tested(engine: &Engine, last: Option<&Key>) -> Result<Walk, Memory>
     requires { WorksAre engine.now.works }
     ensures way { IfOk result (λ w. Walks (link.state_of engine.now.works).core.objects (link.state_of engine.now.works).watchers (option_copied last.entry) engine.now.progress.cursor w.passed (reached_of w.reached)) }
     ensures sorted { InOrder page_machine (state_of engine.now) }
@@ -42,28 +46,33 @@ fn walk_to(engine: &Engine, last: Option<&Key>) -> Result<Walk, Memory>
     )
 }
 
+/// A walk over clean watchers from the cursor upwards, at most up to a key. Where all are known to be clean none is tested.
+fn walk_to(engine: &Engine, last: Option<&Key>) -> Result<Walk, Memory>
+    requires works { WorksAre engine.now.works }
+    requires known { AreClean engine.now.known engine.now.progress.cursor (link.state_of engine.now.works).core.objects (link.state_of engine.now.works).watchers }
+    ensures way { IfOk result (λ w. Walks (link.state_of engine.now.works).core.objects (link.state_of engine.now.works).watchers (option_copied last.entry) engine.now.progress.cursor w.passed (reached_of w.reached)) }
+    ensures sorted { InOrder page_machine (state_of engine.now) }
+{
+    match engine.known {
+        Known::All => pass_over(engine, last),
+        Known::Nothing | Known::Below | Known::UpTo => walk_tested(engine, last),
+    }
+}
+
 /// A walk over clean watchers from the cursor upwards, at most up to the remembered key.
 fn walk_on(engine: &Engine) -> Result<Walk, Memory>
-    requires { WorksAre engine.now.works }
+    requires works { WorksAre engine.now.works }
+    requires known { AreClean engine.now.known engine.now.progress.cursor (link.state_of engine.now.works).core.objects (link.state_of engine.now.works).watchers }
     ensures way { IfOk result (λ w. Walks (link.state_of engine.now.works).core.objects (link.state_of engine.now.works).watchers engine.now.progress.remembered engine.now.progress.cursor w.passed (reached_of w.reached)) }
     ensures sorted { InOrder page_machine (state_of engine.now) }
 {
     walk_to(engine, engine.progress.remembered())
 }
 
-/// The least key above one, or the least of all.
-fn key_from<'a>(watchers: &'a Watchers, from: Option<&Key>) -> Option<&'a Key>
-    ensures { option_copied result ≡ next_of (option_copied from.entry) (watchers_of watchers.now) }
-{
-    match from {
-        None => watchers.first(),
-        Some(key) => watchers.next_after(key),
-    }
-}
-
 /// A walk to the next watcher above the cursor, if there is one.
 fn step_on(engine: &Engine) -> Result<Walk, Memory>
-    requires { WorksAre engine.now.works }
+    requires works { WorksAre engine.now.works }
+    requires known { AreClean engine.now.known engine.now.progress.cursor (link.state_of engine.now.works).core.objects (link.state_of engine.now.works).watchers }
     ensures way { IfOk result (λ w. Walks (link.state_of engine.now.works).core.objects (link.state_of engine.now.works).watchers (next_of engine.now.progress.cursor (link.state_of engine.now.works).watchers) engine.now.progress.cursor w.passed (reached_of w.reached)) }
     ensures sorted { InOrder page_machine (state_of engine.now) }
 {
@@ -78,6 +87,7 @@ fn test_at(engine: &mut Engine, found: Result<Verdict, Fault>) -> Tested
     requires judged { judged_at (state_of engine.old) engine.old.progress.cursor ≡ Some (seen_found found) }
     ensures answer { Answers (verdict_at page_machine (state_of engine.old) engine.old.progress.cursor) result }
     ensures state { OnTested result (state_of engine.new ≡ state_tested page_machine (state_of engine.old) engine.old.progress.cursor (verdict_at page_machine (state_of engine.old) engine.old.progress.cursor)) }
+    ensures known { engine.new.known ≡ engine.old.known }
     ensures progress { engine.new.progress ≡ engine.old.progress }
     ensures handed_on { OnDirty result (option_map snap_of engine.new.pending ≡ handed_on_from (state_of engine.old) engine.old.progress.cursor) }
     ensures works { OnTested result (WorksAre engine.new.works) }
@@ -94,20 +104,22 @@ fn test_at(engine: &mut Engine, found: Result<Verdict, Fault>) -> Tested
     }
 }
 
-/// Fires the watcher at the cursor with the snapshot that its test handed on. Answers whether that added a watcher.
-fn fire_at(engine: &mut Engine, pending: Option<Snap>) -> Result<bool, Memory>
+/// Fires the watcher at the cursor with the snapshot that its test handed on.
+fn fire_at(engine: &mut Engine, pending: Option<Snap>) -> Result<Ended, Memory>
     requires works { WorksAre engine.old.works }
     requires there { IsAtWatcher engine.old.progress.cursor (link.state_of engine.old.works).watchers }
     requires pending { option_map snap_of pending ≡ handed_on_from (state_of engine.old) engine.old.progress.cursor }
     ensures state { OnOk result (state_of engine.new ≡ fired_at page_machine (state_of engine.old) engine.old.progress.cursor) }
-    ensures added { IfOk result (λ a. a ≡ adds_at page_machine (state_of engine.old) engine.old.progress.cursor) }
+    ensures added { IfOk result (λ e. e.added ≡ adds_at page_machine (state_of engine.old) engine.old.progress.cursor) }
+    ensures quiet { IfOk result (λ e. e.quiet ≡ true → AreClean Below engine.old.progress.cursor (link.state_of engine.old.works).core.objects (link.state_of engine.old.works).watchers → AreClean UpTo engine.old.progress.cursor (link.state_of engine.new.works).core.objects (link.state_of engine.new.works).watchers) }
+    ensures known { engine.new.known ≡ engine.old.known }
     ensures progress { engine.new.progress ≡ engine.old.progress }
     ensures works { OnOk result (WorksAre engine.new.works) }
 {
     match engine.progress.cursor() {
-        None => Ok(false),
+        None => Ok(testing::nothing()),
         Some(key) => match pending {
-            None => Ok(false),
+            None => Ok(testing::nothing()),
             Some(snapshot) => testing::fire(
                 engine.alloc,
                 &mut engine.works,
@@ -127,6 +139,7 @@ impl World for Engine {
 
     fn start_round(&mut self) {
         self.progress.begin_round();
+        self.known = on_round(self.known);
     }
 
     fn waits(&self) -> bool {
@@ -135,17 +148,20 @@ impl World for Engine {
 
     fn task(&mut self) -> Result<bool, Memory> {
         let ran = run_task(&mut self.works, self.alloc)?;
+        self.known = Known::Nothing;
         self.progress.after_task(ran);
         Ok(ran)
     }
 
     fn next_after(&mut self) -> Result<bool, Memory> {
         let walk = step_on(self)?;
+        self.known = on_walk(self.known, &walk.reached);
         Ok(testing::arrive(&mut self.progress, &mut self.ahead, walk))
     }
 
     fn advance(&mut self) -> Result<bool, Memory> {
         let walk = walk_on(self)?;
+        self.known = on_walk(self.known, &walk.reached);
         Ok(testing::arrive(&mut self.progress, &mut self.ahead, walk))
     }
 
@@ -157,14 +173,16 @@ impl World for Engine {
         let same = self.last_dirty();
         let found = replace(&mut self.ahead, Ok(Verdict::Clean));
         let tested = test_at(self, found);
+        self.known = on_test(self.known, tested);
         self.progress.after_test(tested, same);
         tested
     }
 
     fn fire(&mut self) -> Result<(), Memory> {
         let pending = self.pending.take();
-        let added = fire_at(self, pending)?;
-        self.progress.after_fire(added);
+        let fired = fire_at(self, pending)?;
+        self.known = on_fire(self.known, fired.quiet);
+        self.progress.after_fire(fired.added);
         Ok(())
     }
 

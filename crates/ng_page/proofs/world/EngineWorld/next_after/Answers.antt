@@ -5,6 +5,7 @@ use Rattle.ng_link.specs.State as link
 use Rattle.ng_watch.specs.Walks.{next_of, reached_of}
 use Rattle.ng_page.specs.PlaceOf.{state_of}
 use Rattle.ng_page.proofs.Ahead.{advanced_to, holds_came, next_is, stepped, stepped_to, walk_reaches}
+use Rattle.ng_page.proofs.StaysClean.{came_at}
 use Rattle.ng_page.proofs.world.EngineWorld.next_after.Goals as goal
 
 pub returns-clause-answer : goal.returns-clause-answer
@@ -26,5 +27,6 @@ returns-clause-holds c =
     let e = c.args.self.now in
     let s = link.state_of e.works in
     let w = c.in_ok-walk.walk in
-    holds_came e c.arrive.new.progress c.arrive.new.ahead w.passed (reached_of w.reached) c.requires.holds.works c.arrive.ensures.step c.arrive.ensures.ahead
+    holds_came e c.arrive.new.progress c.arrive.new.ahead c.on_walk-self.result w.passed (reached_of w.reached) c.requires.holds.works c.arrive.ensures.step c.arrive.ensures.ahead
     (walk_reaches s.core.objects s.watchers (next_of e.progress.cursor s.watchers) c.in_ok-walk.ensures.way)
+    (came_at e.known c.on_walk-self.result s.core.objects s.watchers c.step_on.ensures.sorted (next_of e.progress.cursor s.watchers) e.progress c.arrive.new.progress w.passed (reached_of w.reached) c.on_walk-self.ensures c.arrive.ensures.step c.in_ok-walk.ensures.way c.requires.holds.known)

@@ -10,7 +10,7 @@ use Rattle.ng_watch.specs.Table.{watchers_of, AllStand}
 use Rattle.ng_watch.specs.Walks.{Walks, reached_of}
 use Rattle.ng_watch.specs.declared.walking.Walk.{Walk}
 use Rattle.ng_watch.specs.declared.watched.Watched.{Watched}
-use Rattle.ng_page.proofs.world.walk_to.Goals as goal
+use Rattle.ng_page.proofs.world.walk_tested.Goals as goal
 
 pub walk-requires : goal.walk-requires
 walk-requires c =

@@ -1,0 +1,104 @@
+//! A walk over watchers that are known to be clean: it passes them as a walk over clean ones does, and tests none.
+ghost use Rattle.std.specs.Prelude.{◌≡◌, ◌<◌, false, Ok, IfOk, option_copied};
+ghost use Rattle.ng_base.specs.declared.path.Key.{Key as Name};
+ghost use Rattle.ng_digest.specs.Laws.{InOrder};
+ghost use Rattle.ng_link.specs.State as link;
+ghost use Rattle.ng_page.specs.KnownClean.{IsClean};
+ghost use Rattle.ng_page.specs.PageMachine.{page_machine};
+ghost use Rattle.ng_page.specs.PlaceOf.{state_of};
+ghost use Rattle.ng_watch.specs.Keys.{is_key};
+ghost use Rattle.ng_watch.specs.Table.{watchers_of};
+ghost use Rattle.ng_watch.specs.Verdicts.{clean};
+ghost use Rattle.ng_watch.specs.Walks.{Walks, next_of, reached_of, ends_at, behind_all, at_watcher};
+
+use crate::engine::Engine;
+use crate::testing::copied;
+use ng_base::fault::Memory;
+use ng_base::path::Key;
+use ng_watch::walking::{Reached, Walk};
+use ng_watch::watch::Verdict;
+use ng_watch::watchers::Watchers;
+
+/// The least key above one, or the least of all.
+pub(crate) fn key_from<'a>(watchers: &'a Watchers, from: Option<&Key>) -> Option<&'a Key>
+    ensures { option_copied result ≡ next_of (option_copied from.entry) (watchers_of watchers.now) }
+{
+    match from {
+        None => watchers.first(),
+        Some(key) => watchers.next_after(key),
+    }
+}
+
+/// Whether two keys are one. The numbers, which mostly tell them apart, are compared first.
+fn is_same(last: &Key, key: &Key) -> bool
+    ensures { result ≡ is_key last.now key.now }
+{
+    last.serial == key.serial && last.path == key.path
+}
+
+/// Whether a walk is to end at a key.
+fn ends_at(last: Option<&Key>, key: &Key) -> bool
+    ensures { result ≡ ends_at (option_copied last.entry) key.now }
+{
+    match last {
+        None => false,
+        Some(last) => is_same(last, key),
+    }
+}
+
+/// Whether a walk that has passed some of so many watchers is to end at a key.
+fn is_end(passed: u64, count: u64, last: Option<&Key>, key: &Key) -> bool
+    ensures room { result ≡ false → passed < count }
+    ensures other { result ≡ false → ends_at (option_copied last.entry) key.now ≡ false }
+{
+    passed >= count || ends_at(last, key)
+}
+
+/// A walk ends behind the last watcher, with the key up to which it went.
+fn ended(passed: u64, cursor: Option<&Key>) -> Result<Walk, Memory>
+    ensures { IfOk result (λ w. (w.passed ≡ passed) × (reached_of w.reached ≡ behind_all (option_copied cursor.entry))) }
+{
+    let last = match cursor {
+        None => None,
+        Some(key) => Some(copied(key)?),
+    };
+    Ok(Walk {
+        passed,
+        reached: Reached::End(last),
+    })
+}
+
+/// A walk comes to a watcher that is clean.
+fn arrived(passed: u64, key: &Key) -> Result<Walk, Memory>
+    ensures { IfOk result (λ w. (w.passed ≡ passed) × (reached_of w.reached ≡ at_watcher key.now (Ok clean))) }
+{
+    let key = copied(key)?;
+    Ok(Walk {
+        passed,
+        reached: Reached::Watcher(key, Verdict::Clean),
+    })
+}
+
+/// A walk from the cursor upwards, at most up to a key, where all watchers are clean.
+pub(crate) fn pass_over(engine: &Engine, last: Option<&Key>) -> Result<Walk, Memory>
+    requires { (k : Name) → IsClean (link.state_of engine.now.works).core.objects (link.state_of engine.now.works).watchers k }
+    ensures sorted { InOrder page_machine (state_of engine.now) }
+    ensures way { IfOk result (λ w. Walks (link.state_of engine.now.works).core.objects (link.state_of engine.now.works).watchers (option_copied last.entry) engine.now.progress.cursor w.passed (reached_of w.reached)) }
+{
+    let watchers = engine.works.watchers();
+    let count = watchers.count();
+    let mut cursor = engine.progress.cursor();
+    let mut passed = 0;
+    'keys: loop {
+        match key_from(watchers, cursor) {
+            None => return ended(passed, cursor),
+            Some(key) => {
+                if is_end(passed, count, last, key) {
+                    return arrived(passed, key);
+                }
+                passed += 1;
+                cursor = Some(key);
+            }
+        }
+    }
+}
