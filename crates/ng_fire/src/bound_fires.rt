@@ -17,6 +17,7 @@ ghost use Rattle.ng_language.specs.Views.{ViewStands};
 ghost use Rattle.ng_instances.specs.Bindings.{BoundStands};
 ghost use Rattle.ng_instances.specs.BoundOf.{piece_of, bound_of as bound_seen};
 ghost use Rattle.ng_link.specs.Calls.{with_core, keeping_at};
+ghost use Rattle.ng_link.specs.SiteAt.{spot_of};
 ghost use Rattle.ng_instances.specs.Instances.{bound_for, is_site};
 ghost use Rattle.ng_link.specs.State.{state_of, templates_of};
 ghost use Rattle.ng_parse.specs.ProgramOf.{program as trees_of};
@@ -28,7 +29,7 @@ use crate::blocks::fault;
 use crate::firing::dirty_value;
 use ng_base::fault::{Fault, Memory};
 use ng_base::heap::Heap;
-use ng_base::name::{Oid, ScopeId};
+use ng_base::name::{NodeId, Oid, ScopeId};
 use ng_base::path::Key;
 use ng_base::txt::Txt;
 use ng_base::value::Value;
@@ -42,21 +43,10 @@ use ng_instances::instances::{Bound, BoundPiece};
 use ng_link::works::Works;
 use ng_parse::Program;
 use ng_steps::binding::{keep_view, set_name, two_way_kind};
-use ng_steps::binding_texts::copied_bound;
 use ng_store::store::Store;
 use ng_value::snapping::snap;
 use ng_value::snapshot::Snap;
 use std::alloc::{AllocError, Global};
-
-/// What the fire of the site of a key writes, if it is a binding's.
-pub(crate) fn bound_of(works: &Works, alloc: Global, key: &Key) -> Result<Option<Bound>, Memory>
-    ensures { IfOk result (λ b. option_map bound_seen b ≡ bound_for (state_of works.now).inner (state_of works.now).instances key.now) }
-{
-    match works.bound(key) {
-        None => Ok(None),
-        Some(bound) => Ok(Some(copied_bound(alloc, bound)?)),
-    }
-}
 
 /// A name of a scope is set to a value; a fresh list or record becomes a new object, unless the store is full.
 fn write_value(
@@ -290,9 +280,15 @@ fn write_bound(
 }
 
 /// The site of a binding keeps a snapshot, and what it had kept is handed back.
-fn keep_bound(works: &mut Works, key: &Key, snapshot: Snap) -> Result<Option<Snap>, Memory>
+fn keep_bound(
+    works: &mut Works,
+    key: &Key,
+    snapshot: Snap,
+    node: NodeId,
+) -> Result<Option<Snap>, Memory>
     requires whole { IsWhole works.old }
     requires there { IsSome (found key.now (state_of works.old).watchers) }
+    requires node { spot_of works.old key.now ≡ Some node.made.0 }
     requires site { is_site (state_of works.old).inner (state_of works.old).instances key.now ≡ true }
     ensures state { OnOk result (state_of works.new ≡ keeping_at key.now (snap_of snapshot) (state_of works.old)) }
     ensures former { IfOk result (λ f. option_map snap_of f ≡ kept_at key.now (state_of works.old).watchers) }
@@ -300,7 +296,7 @@ fn keep_bound(works: &mut Works, key: &Key, snapshot: Snap) -> Result<Option<Sna
     ensures whole { OnOk result (IsWhole works.new) }
     ensures templates { templates_of works.new ≡ templates_of works.old }
 {
-    works.keep(key, snapshot)
+    works.keep(key, snapshot, Some(node))
 }
 
 /// The fire of a binding's site: it keeps the snapshot, and what its binding asks for is written.
@@ -309,11 +305,13 @@ pub(crate) fn fire_bound(
     alloc: Global,
     key: &Key,
     snapshot: Snap,
+    node: NodeId,
     bound: &Bound,
 ) -> Result<Followed, Memory>
     requires whole { IsWhole works.old }
     requires there { IsSome (found key.now (state_of works.old).watchers) }
     requires dirty { IsDirtyWith (snap_of snapshot) (state_of works.old) key.now }
+    requires node { spot_of works.old key.now ≡ Some node.made.0 }
     requires site { is_site (state_of works.old).inner (state_of works.old).instances key.now ≡ true }
     requires bound { bound_for (state_of works.old).inner (state_of works.old).instances key.now ≡ Some (bound_seen bound.now) }
     ensures fired { IfOk result (λ f. firing works.new f ≡ site_fired key.now (snap_of snapshot) (value_at (state_of works.old) key.now) (kept_at key.now (state_of works.old).watchers) (keeping_at key.now (snap_of snapshot) (state_of works.old))) }
@@ -325,7 +323,7 @@ pub(crate) fn fire_bound(
         added: false,
     };
     let value = dirty_value(alloc, works, key)?;
-    let former = keep_bound(works, key, snapshot)?;
+    let former = keep_bound(works, key, snapshot, node)?;
     write_bound(works, alloc, key, &value, &former, bound, &mut told)?;
     Ok(told)
 }

@@ -12,6 +12,7 @@ ghost use Rattle.ng_fire.specs.SiteFires.{site_fired};
 ghost use Rattle.ng_changes.specs.Whole.{IsWhole, KeptStands};
 ghost use Rattle.ng_language.specs.Views.{ViewStands};
 ghost use Rattle.ng_link.specs.Calls.{keeping_at};
+ghost use Rattle.ng_link.specs.SiteAt.{StandsAt, spot_of};
 ghost use Rattle.ng_link.specs.State.{state_of, templates_of, listening_of};
 ghost use Rattle.ng_instances.specs.Due.{due_of, all_due};
 ghost use Rattle.ng_instances.specs.Instances.{bound_for, linked_for, is_site};
@@ -22,16 +23,18 @@ ghost use Rattle.ng_watch.specs.Seen.{watching_of};
 ghost use Rattle.ng_watch.specs.Table.{found, kept_at};
 
 use crate::blocks::fire_outlets;
-use crate::bound_fires::{bound_of, fire_bound};
+use crate::bound_fires::fire_bound;
 use ng_act::wear::told;
 use ng_base::fault::{Fault, Memory};
 use ng_base::locals::Locals;
+use ng_base::name::NodeId;
 use ng_base::path::Key;
 use ng_base::view::View;
 use ng_changes::following::{Followed, follow};
 use ng_changes::listening::run_listener;
 use ng_instances::filling::Due;
 use ng_instances::instances::Listener;
+use ng_instances::sites::{Fills, SiteHere};
 use ng_link::works::Works;
 use ng_steps::wear::is_worn;
 use ng_store::store::Store;
@@ -99,6 +102,7 @@ fn keep_declared(works: &mut Works, key: &Key, snapshot: Snap) -> Result<Option<
     requires there { IsSome (found key.now (state_of works.old).watchers) }
     requires stands { ViewStands (length works.old.core.store) (snap_of snapshot) }
     requires declared { is_site (state_of works.old).inner (state_of works.old).instances key.now ≡ false }
+    requires nowhere { spot_of works.old key.now ≡ None }
     ensures state { OnOk result (state_of works.new ≡ keeping_at key.now (snap_of snapshot) (state_of works.old)) }
     ensures former { IfOk result (λ f. option_map snap_of f ≡ kept_at key.now (state_of works.old).watchers) }
     ensures stands { IfOk result (λ f. KeptStands (length works.old.core.store) (option_map snap_of f)) }
@@ -106,20 +110,21 @@ fn keep_declared(works: &mut Works, key: &Key, snapshot: Snap) -> Result<Option<
     ensures whole { OnOk result (IsWhole works.new) }
     ensures templates { templates_of works.new ≡ templates_of works.old }
 {
-    works.keep(key, snapshot)
+    works.keep(key, snapshot, None)
 }
 
-/// The site of a template keeps a snapshot, and shows it.
-fn keep_site(works: &mut Works, key: &Key, snapshot: Snap) -> Result<(), Memory>
+/// The site of a template keeps a snapshot, and its node shows it.
+fn keep_site(works: &mut Works, key: &Key, snapshot: Snap, node: NodeId) -> Result<(), Memory>
     requires whole { IsWhole works.old }
     requires there { IsSome (found key.now (state_of works.old).watchers) }
     requires site { is_site (state_of works.old).inner (state_of works.old).instances key.now ≡ true }
+    requires node { spot_of works.old key.now ≡ Some node.made.0 }
     ensures state { OnOk result (state_of works.new ≡ keeping_at key.now (snap_of snapshot) (state_of works.old)) }
     ensures core { works.new.core ≡ works.old.core }
     ensures whole { OnOk result (IsWhole works.new) }
     ensures templates { templates_of works.new ≡ templates_of works.old }
 {
-    let _ = works.keep(key, snapshot)?;
+    let _ = works.keep(key, snapshot, Some(node))?;
     Ok(())
 }
 
@@ -136,12 +141,14 @@ fn fire_filling(
     alloc: Global,
     key: &Key,
     snapshot: Snap,
+    node: NodeId,
     all: &[Due],
 ) -> Result<Followed, Memory>
     requires whole { IsWhole works.old }
     requires there { IsSome (found key.now (state_of works.old).watchers) }
     requires dirty { IsDirtyWith (snap_of snapshot) (state_of works.old) key.now }
     requires site { is_site (state_of works.old).inner (state_of works.old).instances key.now ≡ true }
+    requires node { spot_of works.old key.now ≡ Some node.made.0 }
     requires due { map due_of all.now ≡ all_due key.now (linked_for (state_of works.old).inner key.now.path (state_of works.old).instances) }
     requires unbound { bound_for (state_of works.old).inner (state_of works.old).instances key.now ≡ None }
     ensures fired { IfOk result (λ f. firing works.new f ≡ site_fired key.now (snap_of snapshot) (value_at (state_of works.old) key.now) (kept_at key.now (state_of works.old).watchers) (keeping_at key.now (snap_of snapshot) (state_of works.old))) }
@@ -150,16 +157,22 @@ fn fire_filling(
 {
     let value = copy_of(alloc, &snapshot)?;
     let _ = dirty_value(alloc, works, key)?;
-    keep_site(works, key, snapshot)?;
+    keep_site(works, key, snapshot, node)?;
     let holder = works.instance_path(&key.path).copied()?;
     fire_outlets(works, alloc, &holder, all, &value)
 }
 
 /// The fire of a site that is no binding's and fills no outlet: it keeps the snapshot and shows it.
-fn fire_shown(works: &mut Works, key: &Key, snapshot: Snap) -> Result<Followed, Memory>
+fn fire_shown(
+    works: &mut Works,
+    key: &Key,
+    snapshot: Snap,
+    node: NodeId,
+) -> Result<Followed, Memory>
     requires whole { IsWhole works.old }
     requires there { IsSome (found key.now (state_of works.old).watchers) }
     requires site { is_site (state_of works.old).inner (state_of works.old).instances key.now ≡ true }
+    requires node { spot_of works.old key.now ≡ Some node.made.0 }
     requires none { all_due key.now (linked_for (state_of works.old).inner key.now.path (state_of works.old).instances) ≡ [] }
     requires unbound { bound_for (state_of works.old).inner (state_of works.old).instances key.now ≡ None }
     ensures fired { IfOk result (λ f. firing works.new f ≡ site_fired key.now (snap_of snapshot) (value_at (state_of works.old) key.now) (kept_at key.now (state_of works.old).watchers) (keeping_at key.now (snap_of snapshot) (state_of works.old))) }
@@ -167,7 +180,7 @@ fn fire_shown(works: &mut Works, key: &Key, snapshot: Snap) -> Result<Followed, 
     ensures whole { OnOk result (IsWhole works.new) }
     ensures templates { templates_of works.new ≡ templates_of works.old }
 {
-    keep_site(works, key, snapshot)?;
+    keep_site(works, key, snapshot, node)?;
     Ok(quiet())
 }
 
@@ -177,26 +190,29 @@ fn fire_unbound(
     alloc: Global,
     key: &Key,
     snapshot: Snap,
+    node: NodeId,
+    all: &[Due],
 ) -> Result<FireResult, Memory>
     requires whole { IsWhole works.old }
     requires there { IsSome (found key.now (state_of works.old).watchers) }
     requires dirty { IsDirtyWith (snap_of snapshot) (state_of works.old) key.now }
     requires site { is_site (state_of works.old).inner (state_of works.old).instances key.now ≡ true }
+    requires node { spot_of works.old key.now ≡ Some node.made.0 }
+    requires due { map due_of all.now ≡ all_due key.now (linked_for (state_of works.old).inner key.now.path (state_of works.old).instances) }
     requires unbound { bound_for (state_of works.old).inner (state_of works.old).instances key.now ≡ None }
     ensures fired { IfOk result (λ f. firing works.new f.followed ≡ site_fired key.now (snap_of snapshot) (value_at (state_of works.old) key.now) (kept_at key.now (state_of works.old).watchers) (keeping_at key.now (snap_of snapshot) (state_of works.old))) }
     ensures quiet { IfOk result (λ f. f.quiet ≡ true → state_of works.new ≡ keeping_at key.now (snap_of snapshot) (state_of works.old)) }
     ensures whole { OnOk result (IsWhole works.new) }
     ensures templates { templates_of works.new ≡ templates_of works.old }
 {
-    let all = works.filled_outlets(key)?;
     if all.is_empty() {
-        let followed = fire_shown(works, key, snapshot)?;
+        let followed = fire_shown(works, key, snapshot, node)?;
         Ok(FireResult {
             followed,
             quiet: true,
         })
     } else {
-        let followed = fire_filling(works, alloc, key, snapshot, all.as_slice())?;
+        let followed = fire_filling(works, alloc, key, snapshot, node, all)?;
         Ok(FireResult {
             followed,
             quiet: false,
@@ -211,21 +227,22 @@ fn fire_drawn(
     alloc: Global,
     key: &Key,
     snapshot: Snap,
+    site: SiteHere,
 ) -> Result<FireResult, Memory>
     requires whole { IsWhole works.old }
     requires there { IsSome (found key.now (state_of works.old).watchers) }
     requires dirty { IsDirtyWith (snap_of snapshot) (state_of works.old) key.now }
-    requires site { is_site (state_of works.old).inner (state_of works.old).instances key.now ≡ true }
+    requires site { StandsAt works.old key.now (Some site) }
     ensures fired { IfOk result (λ f. firing works.new f.followed ≡ site_fired key.now (snap_of snapshot) (value_at (state_of works.old) key.now) (kept_at key.now (state_of works.old).watchers) (keeping_at key.now (snap_of snapshot) (state_of works.old))) }
     ensures quiet { IfOk result (λ f. f.quiet ≡ true → state_of works.new ≡ keeping_at key.now (snap_of snapshot) (state_of works.old)) }
     ensures whole { OnOk result (IsWhole works.new) }
     ensures templates { templates_of works.new ≡ templates_of works.old }
 {
-    let found = bound_of(works, alloc, key)?;
-    match found {
-        None => fire_unbound(works, alloc, key, snapshot),
-        Some(bound) => {
-            let followed = fire_bound(works, alloc, key, snapshot, &bound)?;
+    let SiteHere { node, fills } = site;
+    match fills {
+        Fills::Outlets(all) => fire_unbound(works, alloc, key, snapshot, node, all.as_slice()),
+        Fills::Writes(bound) => {
+            let followed = fire_bound(works, alloc, key, snapshot, node, &bound)?;
             Ok(FireResult {
                 followed,
                 quiet: false,
@@ -265,6 +282,7 @@ fn fire_declared(
     requires whole { IsWhole works.old }
     requires there { IsSome (found key.now (state_of works.old).watchers) }
     requires dirty { IsDirtyWith (snap_of snapshot) (state_of works.old) key.now }
+    requires nowhere { spot_of works.old key.now ≡ None }
     requires declared { is_site (state_of works.old).inner (state_of works.old).instances key.now ≡ false }
     ensures state { IfOk result (λ f. (state_of works.new, f.faulted) ≡ fired key.now (snap_of snapshot) (state_of works.old)) }
     ensures added { IfOk result (λ f. f.added ≡ fire_adds key.now (snap_of snapshot) (state_of works.old)) }
@@ -307,14 +325,17 @@ fn fire_watcher(
     ensures whole { OnOk result (IsWhole works.new) }
     ensures templates { templates_of works.new ≡ templates_of works.old }
 {
-    if works.is_site(key) {
-        return fire_drawn(works, alloc, key, snapshot);
+    let here = works.site_here(key)?;
+    match here {
+        Some(site) => fire_drawn(works, alloc, key, snapshot, site),
+        None => {
+            let followed = fire_declared(works, alloc, key, snapshot)?;
+            Ok(FireResult {
+                followed,
+                quiet: false,
+            })
+        }
     }
-    let followed = fire_declared(works, alloc, key, snapshot)?;
-    Ok(FireResult {
-        followed,
-        quiet: false,
-    })
 }
 
 /// The fire of a watcher whose test was dirty: it keeps the snapshot of now, which the site of a template then shows; a declared

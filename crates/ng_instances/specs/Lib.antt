@@ -10,3 +10,4 @@ pub mod Bindings
 pub mod BoundOf
 pub mod Registering
 pub mod MarksOf
+pub mod SiteHere

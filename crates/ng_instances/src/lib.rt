@@ -8,8 +8,8 @@
 //! Each function of the code has its definition as its contract.
 //!
 //! In reading order: `instances` has the types; `placing` the places and watchers of sites, `outlets` the outlets of an instance, `filling`
-//! says which of them a site fills, `handled` what handles an event; `declaring` tells whether a key is drawn; `registering` is what
-//! linking has registered, and `linking` lays an instance out.
+//! says which of them a site fills, `sites` what stands under a key, `handled` what handles an event; `declaring` tells whether a key is drawn;
+//! `registering` is what linking has registered, and `linking` lays an instance out.
 //!
 //! The works that hold all this, with the document and the watchers, are ng_link's.
 #![tactic(auto)]
@@ -22,3 +22,4 @@ pub mod linking;
 pub mod outlets;
 pub mod placing;
 pub mod registering;
+pub mod sites;

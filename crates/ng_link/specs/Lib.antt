@@ -12,3 +12,4 @@ pub mod Arranging
 pub mod Firing
 pub mod Laws
 pub mod Untroubled
+pub mod SiteAt

@@ -4,7 +4,8 @@ ghost use Rattle.ng_dom.specs.Drawing.{Stands, classes, drawn_value, drawn_attri
 ghost use Rattle.ng_value.specs.Snaps.{snap_of};
 ghost use Rattle.ng_watch.specs.Table.{found, kept_at};
 ghost use Rattle.ng_link.specs.Calls.{keeping_at};
-ghost use Rattle.ng_link.specs.Firing.{drawn_anew, redraw_of, Writes, Fires};
+ghost use Rattle.ng_link.specs.Firing.{drawn_anew, redraw_of, Writes, WritesAt, Fires};
+ghost use Rattle.ng_link.specs.SiteAt.{spot_of};
 ghost use Rattle.ng_build.specs.Seen.{class_of, drawn_value_of, drawn_of};
 ghost use Rattle.ng_build.specs.Sources.{source_of, sources};
 ghost use Rattle.ng_link.specs.Standing.{Standing};
@@ -114,22 +115,38 @@ impl Works {
         }
     }
 
+    /// A node shows what its sites have kept, if there is one.
+    fn draw_in(&mut self, drawn: Option<NodeId>) -> Result<(), Memory>
+        ensures written { OnOk result (WritesAt (looks_in (state_of self.old)) (option_map (λ n. n.made.0) drawn) self.old.dom self.new.dom) }
+        ensures rest { self.new ≡ record self.old { dom = self.new.dom } }
+        ensures refused { IfErr result (λ e. e ≡ Memory.Refused) }
+    {
+        match drawn {
+            None => Ok(()),
+            Some(n) => self.draw_anew(n),
+        }
+    }
+
     /// The node of a site shows what is kept now.
     pub(crate) fn show_kept(&mut self, key: &Key) -> Result<(), Memory>
         ensures fires { OnOk result (Fires key.now self.old self.new) }
         ensures rest { self.new ≡ record self.old { dom = self.new.dom } }
         ensures refused { IfErr result (λ e. e ≡ Memory.Refused) }
     {
-        match spot_in(&self.instances, &self.inner, key) {
-            None => Ok(()),
-            Some(n) => self.draw_anew(n),
-        }
+        let drawn = spot_in(&self.instances, &self.inner, key);
+        self.draw_in(drawn)
     }
 
-    /// The watcher of a key keeps a snapshot, and where it is a site's its node shows it: what the digest does where a test was
+    /// The watcher of a key keeps a snapshot, and where it is a site's its node, which is handed in, shows it: what the digest does where a test was
     /// dirty. A control drops what was typed where its model is another value now. What was kept before is handed back.
-    pub fn keep(&mut self, key: &Key, s: Snap) -> Result<Option<Snap>, Memory>
+    pub fn keep(
+        &mut self,
+        key: &Key,
+        s: Snap,
+        drawn: Option<NodeId>,
+    ) -> Result<Option<Snap>, Memory>
         requires there { IsSome (found key.now (state_of self.old).watchers) }
+        requires drawn { spot_of self.old key.now ≡ option_map (λ n. n.made.0) drawn }
         ensures state { OnOk result (state_of self.new ≡ keeping_at key.now (snap_of s) (state_of self.old)) }
         ensures former { IfOk result (λ f. option_map snap_of f ≡ kept_at key.now (state_of self.old).watchers) }
         ensures refused { IfErr result (λ e. e ≡ Memory.Refused) }
@@ -139,7 +156,7 @@ impl Works {
     {
         drop_typed(&mut self.controls, key, &s);
         let former = self.watchers.keep(key, s);
-        self.show_kept(key)?;
+        self.draw_in(drawn)?;
         Ok(former)
     }
 }

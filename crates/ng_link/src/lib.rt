@@ -11,11 +11,11 @@
 //! - `place` puts a fragment's sites among the watchers, all of them unset, under the numbers that they got, makes its nodes and notes
 //!   its instance. Nodes are made apart, with what each is drawn from, and are shown by one call at the end: at the top, or after the
 //!   bodies of an outlet.
-//! - `filled_outlets` gives the outlets that a site fills, with the bodies that stand there. ng_rows says which of them are to
-//!   stand.
+//! - `site_here` tells what stands under a key: a site's node, and what its fire writes or the outlets that it fills, with the bodies that stand
+//!   there. ng_rows says which of them are to stand.
 //! - `unlink` takes a body out of its outlet, with those in it: their nodes, their instances, and what their sites had kept at rest.
 //! - `keep` has the watcher of a key keep a snapshot, a control drops what was typed where that is not its model any more, and the node
-//!   that the key's site is drawn in is drawn anew: a text joined from what all its holes show, or the attributes of an element. `unset`
+//!   that the key's site is drawn in, which is handed in, is drawn anew: a text joined from what all its holes show, or the attributes of an element. `unset`
 //!   has it forget what it kept.
 //! - `handlers` gives the programs that handle an event of the document at a node. They stand in a table by the names of nodes, one for
 //!   each instance; the names of an instance's nodes follow one another, so that the instance of a node is the last that doesn't begin

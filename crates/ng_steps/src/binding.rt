@@ -46,6 +46,7 @@ use ng_instances::linking::Registered;
 use ng_language::snapshots::SnapKind;
 use ng_link::works::Works;
 use ng_parse::Program;
+use ng_parts::acts::copied_program;
 use ng_parts::{Binding, Source};
 use ng_rows::rows::tell;
 use ng_value::snapping::snap;
@@ -313,19 +314,6 @@ fn bind_call(
     let copy = program.copied(alloc)?;
     let id = new_function(&mut works.core, Function::Outer(over, copy))?;
     set_name(works, scope, name, Value::Fun(id))
-}
-
-/// A program again, if there is one.
-pub(crate) fn copied_program(
-    alloc: Global,
-    program: &Option<Program>,
-) -> Result<Option<Program>, Memory>
-    ensures { IfOk result (λ p. option_map trees_of p ≡ option_map trees_of program.now) }
-{
-    match program {
-        None => Ok(None),
-        Some(program) => Ok(Some(program.copied(alloc)?)),
-    }
 }
 
 /// A property of an isolate scope is bound to a scope.

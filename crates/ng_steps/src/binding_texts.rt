@@ -23,7 +23,7 @@ ghost use Rattle.ng_parse.specs.ProgramOf.{program as trees_of};
 ghost use Rattle.ng_parts.specs.PieceOf.{piece_of as seen_piece};
 ghost use Rattle.ng_value.specs.Snaps.{snap_of};
 
-use crate::binding::{copied_program, note_in, program_at, set_name, value_over};
+use crate::binding::{note_in, program_at, set_name, value_over};
 use crate::progress::{Progress, register_site};
 use ng_base::fault::{Fault, Memory};
 use ng_base::name::ScopeId;
@@ -33,6 +33,7 @@ use ng_base::view::View;
 use ng_changes::following::hand_over;
 use ng_instances::instances::{Bound, BoundPiece};
 use ng_instances::linking::Registered;
+use ng_instances::sites::copied_bound;
 use ng_link::works::Works;
 use ng_parse::Program;
 use ng_parts::{Piece, Pieces};
@@ -84,59 +85,6 @@ fn register_pieces(
         all.push(register_piece(works, piece, done)?)?;
     }
     Ok(all)
-}
-
-/// A piece again.
-fn copied_piece(piece: &BoundPiece) -> Result<BoundPiece, AllocError>
-    ensures { IfOk result (λ p. piece_of p ≡ piece_of piece.now) }
-{
-    match piece {
-        BoundPiece::Word(word) => Ok(BoundPiece::Word(word.copied()?)),
-        BoundPiece::Hole(serial) => Ok(BoundPiece::Hole(*serial)),
-    }
-}
-
-/// The same pieces again.
-fn copied_pieces(alloc: Global, pieces: &[BoundPiece]) -> Result<Vec<BoundPiece>, AllocError>
-    ensures { IfOk result (λ v. map piece_of v.items ≡ map piece_of pieces.now) }
-{
-    let mut all = Vec::new(alloc);
-    for piece in pieces {
-        all.push(copied_piece(piece)?)?;
-    }
-    Ok(all)
-}
-
-/// What the fire of a site writes, again.
-pub fn copied_bound(alloc: Global, bound: &Bound) -> Result<Bound, Memory>
-    ensures { IfOk result (λ b. bound_seen b ≡ bound_seen bound.now) }
-{
-    match bound {
-        Bound::Text {
-            scope,
-            name,
-            pieces,
-        } => Ok(Bound::Text {
-            scope: *scope,
-            name: name.copied()?,
-            pieces: copied_pieces(alloc, pieces.as_slice())?,
-        }),
-        Bound::OneWay { scope, name } => Ok(Bound::OneWay {
-            scope: *scope,
-            name: name.copied()?,
-        }),
-        Bound::TwoWay {
-            scope,
-            name,
-            over,
-            writes,
-        } => Ok(Bound::TwoWay {
-            scope: *scope,
-            name: name.copied()?,
-            over: *over,
-            writes: copied_program(alloc, writes)?,
-        }),
-    }
 }
 
 /// What the hole of a text shows over a scope.

@@ -9,6 +9,7 @@ use Rattle.ng_watch.specs.Table.{Table, watchers_of, with_kept}
 use Rattle.ng_link.specs.Calls.{keeping_at}
 use Rattle.ng_build.specs.Controls.{Controls}
 use Rattle.ng_instances.specs.InstanceOf.{spot_in}
+use Rattle.ng_link.specs.Firing.{WritesAt}
 use Rattle.ng_link.specs.State.{state_of, looks_of}
 use Rattle.ng_link.specs.Standing.{Standing}
 use Rattle.ng_link.specs.declared.works.Works.{Works}
@@ -26,12 +27,13 @@ returns-clause-state c =
     let k = c.args.key.now in
     let v = snap_of c.args.s in
     let old = c.args.self.now.dom in
-    let new = c.show_kept.new.self.dom in
+    let new = c.draw_in.new.self.dom in
     let cs = c.drop_typed.new.controls.entries in
     let t = with_kept k (Some v) s.watchers in
-    let fires = c.in_ok-show_kept.ensures.fires in
-    let next : next_name new ≡ next_name old = written_next (looks_of (watchers_of c.keep-former.new.self) s.resting cs) (spot_in c.args.self.now.inner.entries c.args.self.now.instances.entries k) old new fires.dom in
-    ap state_of fires.rest
+    let looks = looks_of (watchers_of c.keep-former.new.self) (state_of c.args.self.now).resting c.drop_typed.new.controls.entries in
+    let dom = subst (λ (o : Option ℕ). WritesAt looks o c.args.self.now.dom c.draw_in.new.self.dom) (sym c.requires.drawn) c.in_ok-draw_in.ensures.written in
+    let next : next_name new ≡ next_name old = written_next (looks_of (watchers_of c.keep-former.new.self) s.resting cs) (spot_in c.args.self.now.inner.entries c.args.self.now.instances.entries k) old new dom in
+    ap state_of c.draw_in.ensures.rest
     ∙ (ap (λ (x : Table). record s { watchers = x; controls = cs; next_node = next_name new }) c.keep-former.ensures.kept
     ∙ (ap (λ (x : Controls). record s { watchers = t; controls = x; next_node = next_name new }) c.drop_typed.ensures
     ∙ ap (λ (n : ℕ). record (keeping_at k v s) { next_node = n }) next))
@@ -43,7 +45,8 @@ pub returns-clause-stands : goal.returns-clause-stands
 returns-clause-stands c =
     let old = c.args.self.now in
     let v = snap_of c.args.s in
-    let fires = c.in_ok-show_kept.ensures.fires in
+    let looks = looks_of (watchers_of c.keep-former.new.self) (state_of c.args.self.now).resting c.drop_typed.new.controls.entries in
+    let dom = subst (λ (o : Option ℕ). WritesAt looks o c.args.self.now.dom c.draw_in.new.self.dom) (sym c.requires.drawn) c.in_ok-draw_in.ensures.written in
     λ ts g. let F : Works → Type 0 = λ x. Standing x ts in
-    subst F (sym fires.rest)
-    (kept_stands old c.keep-former.new.self c.drop_typed.new.controls c.show_kept.new.self.dom c.args.key.now (Some v) (λ x. with_model x v) c.keep-former.ensures.kept c.drop_typed.ensures fires.dom ts g)
+    subst F (sym c.draw_in.ensures.rest)
+    (kept_stands old c.keep-former.new.self c.drop_typed.new.controls c.draw_in.new.self.dom c.args.key.now (Some v) (λ x. with_model x v) c.keep-former.ensures.kept c.drop_typed.ensures dom ts g)
