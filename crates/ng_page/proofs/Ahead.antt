@@ -84,7 +84,7 @@ pub holds_came : (e : Engine) (q : Standing Key) (ahead : Result Verdict Fault) 
     → q ≡ came_to (key_at a) (passed n (last_at a) e.progress)
     → seen_found ahead ≡ found_there a (seen_found e.ahead)
     → Reaches (link.state_of e.works).core.objects (link.state_of e.works).watchers a
-    → AreClean known q.cursor (link.state_of e.works).core.objects (link.state_of e.works).watchers
+    → AreClean known q.cursor e.told.keys (link.state_of e.works).core.objects (link.state_of e.works).watchers
     → Holds (record e { known = known; progress = q; ahead = ahead })
 holds_came e q ahead known n (behind_all c) works step seen reached still = record {
   works = works;

@@ -51,7 +51,7 @@ after_next k t = found_key (is_above k) t
 pub fired_on : (s u : State) (k : Key) (t : ViewTree) → Some t ≡ handed_on_at s k → u ≡ fired_to k (fires k t s.works) s → u ≡ fired s k
 fired_on s u k t e h = h ∙ ap (λ o. fired_by k o s) e
 
-holds_at : (e : Engine) (q : Standing Key) (known : Known) (same : Bool) (v : Verdict) → WorksAre e.works → AreClean known q.cursor (state_of e).works.core.objects (state_of e).works.watchers → q ≡ test_done same v e.progress → (v ≡ found_dirty → IsAtStage Pending (record e { known = known; progress = q })) → Holds (record e { known = known; progress = q })
+holds_at : (e : Engine) (q : Standing Key) (known : Known) (same : Bool) (v : Verdict) → WorksAre e.works → AreClean known q.cursor e.told.keys (state_of e).works.core.objects (state_of e).works.watchers → q ≡ test_done same v e.progress → (v ≡ found_dirty → IsAtStage Pending (record e { known = known; progress = q })) → Holds (record e { known = known; progress = q })
 holds_at e q known same v works clean step asks = record {
   works = works;
   stage = subst (λ g. IsAtStage g (record e { known = known; progress = q })) (sym (ap (λ x. x.stage) step)) (stage_after same v (record e { known = known; progress = q }) asks);
@@ -68,21 +68,21 @@ pub holds_tested : (o e : Engine) (q : Standing Key) (known : Known) (same : Boo
     → e.progress ≡ o.progress
     → OnDirty tested (option_map snap_of e.pending ≡ handed_on_from (state_of o) o.progress.cursor)
     → OnTested tested (WorksAre e.works)
-    → OnTested tested (AreClean known o.progress.cursor (state_of e).works.core.objects (state_of e).works.watchers)
+    → OnTested tested (AreClean known o.progress.cursor e.told.keys (state_of e).works.core.objects (state_of e).works.watchers)
     → ((v : Verdict) → Answers v tested → OnTested tested (q ≡ test_done same v e.progress))
     → OnTested tested (Holds (record e { known = known; progress = q }))
 holds_tested o e q known same (Memory m) stage h answer state progress handed standing clean step = tt
 holds_tested o e q known same Clean stage h answer state progress handed standing clean step =
-    holds_at e q known same (verdict_at page_machine (state_of o) o.progress.cursor) standing (subst (λ c. AreClean known c (state_of e).works.core.objects (state_of e).works.watchers) (sym (ap (λ x. x.cursor) (step (verdict_at page_machine (state_of o) o.progress.cursor) answer) ∙ ap (λ x. x.cursor) progress)) clean) (step (verdict_at page_machine (state_of o) o.progress.cursor) answer)
+    holds_at e q known same (verdict_at page_machine (state_of o) o.progress.cursor) standing (subst (λ c. AreClean known c e.told.keys (state_of e).works.core.objects (state_of e).works.watchers) (sym (ap (λ x. x.cursor) (step (verdict_at page_machine (state_of o) o.progress.cursor) answer) ∙ ap (λ x. x.cursor) progress)) clean) (step (verdict_at page_machine (state_of o) o.progress.cursor) answer)
     (λ d. not_both (verdict_at page_machine (state_of o) o.progress.cursor) (IsAtStage Pending (record e { known = known; progress = q })) found_clean answer d (λ x. cc))
 holds_tested o e q known same Faulted stage h answer state progress handed standing clean step =
-    holds_at e q known same (verdict_at page_machine (state_of o) o.progress.cursor) standing (subst (λ c. AreClean known c (state_of e).works.core.objects (state_of e).works.watchers) (sym (ap (λ x. x.cursor) (step (verdict_at page_machine (state_of o) o.progress.cursor) answer) ∙ ap (λ x. x.cursor) progress)) clean) (step (verdict_at page_machine (state_of o) o.progress.cursor) answer)
+    holds_at e q known same (verdict_at page_machine (state_of o) o.progress.cursor) standing (subst (λ c. AreClean known c e.told.keys (state_of e).works.core.objects (state_of e).works.watchers) (sym (ap (λ x. x.cursor) (step (verdict_at page_machine (state_of o) o.progress.cursor) answer) ∙ ap (λ x. x.cursor) progress)) clean) (step (verdict_at page_machine (state_of o) o.progress.cursor) answer)
     (λ d. not_both (verdict_at page_machine (state_of o) o.progress.cursor) (IsAtStage Pending (record e { known = known; progress = q })) found_faulted answer d (λ x. cc))
 holds_tested o e q known same Dirty stage h answer state progress handed standing clean step =
     let there : IsAtWatcher o.progress.cursor (state_of o).works.watchers = (subst (λ g. IsAtStage g o) stage h.stage).0 in
     let came : q.cursor ≡ o.progress.cursor = ap (λ x. x.cursor) (step (verdict_at page_machine (state_of o) o.progress.cursor) answer) ∙ ap (λ x. x.cursor) progress in
     let still : state_of e ≡ state_of o = state ∙ ap (state_tested page_machine (state_of o) o.progress.cursor) answer in
-    holds_at e q known same (verdict_at page_machine (state_of o) o.progress.cursor) standing (subst (λ c. AreClean known c (state_of e).works.core.objects (state_of e).works.watchers) (sym (ap (λ x. x.cursor) (step (verdict_at page_machine (state_of o) o.progress.cursor) answer) ∙ ap (λ x. x.cursor) progress)) clean) (step (verdict_at page_machine (state_of o) o.progress.cursor) answer)
+    holds_at e q known same (verdict_at page_machine (state_of o) o.progress.cursor) standing (subst (λ c. AreClean known c e.told.keys (state_of e).works.core.objects (state_of e).works.watchers) (sym (ap (λ x. x.cursor) (step (verdict_at page_machine (state_of o) o.progress.cursor) answer) ∙ ap (λ x. x.cursor) progress)) clean) (step (verdict_at page_machine (state_of o) o.progress.cursor) answer)
     (λ d. (
       subst (λ x. IsAtWatcher x (state_of e).works.watchers) (sym came) (subst (λ x. IsAtWatcher o.progress.cursor x.works.watchers) (sym still) there),
       handed ∙ (ap (λ x. handed_on_from x o.progress.cursor) (sym still) ∙ ap (handed_on_from (state_of e)) (sym came)),

@@ -82,7 +82,7 @@ OnDirty tested p = Unit {0}
 pub record Holds (e : Engine) : Type 0 where
   pub works : WorksAre e.works
   pub stage : IsAtStage e.progress.stage e
-  pub known : AreClean e.known e.progress.cursor (link.state_of e.works).core.objects (link.state_of e.works).watchers
+  pub known : AreClean e.known e.progress.cursor e.told.keys (link.state_of e.works).core.objects (link.state_of e.works).watchers
 
 -- which counter of a page stands at its last value is told by the commands on it, and not by each call of a digest
 abbrev pub engine_moves : Moves Engine

@@ -1,9 +1,11 @@
-//! A walk over watchers that are known to be clean: it passes them as a walk over clean ones does, and tests none.
-ghost use Rattle.std.specs.Prelude.{◌≡◌, ◌<◌, false, Ok, IfOk, option_copied};
+//! Walks over watchers: one tests each; the other passes those that are known to be clean as a walk over clean ones does, and tests only those whose
+//! fault was told.
+ghost use Rattle.std.specs.Prelude.{◌≡◌, ◌<◌, false, Ok, Some, Option, IfOk, option_copied};
 ghost use Rattle.ng_base.specs.declared.path.Key.{Key as Name};
 ghost use Rattle.ng_digest.specs.Laws.{InOrder};
 ghost use Rattle.ng_link.specs.State as link;
-ghost use Rattle.ng_page.specs.KnownClean.{IsClean};
+ghost use Rattle.ng_commands.specs.BetweenSteps.{WorksAre};
+ghost use Rattle.ng_page.specs.KnownClean.{IsCleanUnlessTold};
 ghost use Rattle.ng_page.specs.PageMachine.{page_machine};
 ghost use Rattle.ng_page.specs.PlaceOf.{state_of};
 ghost use Rattle.ng_watch.specs.Keys.{is_key};
@@ -18,6 +20,21 @@ use ng_base::path::Key;
 use ng_watch::walking::{Reached, Walk};
 use ng_watch::watch::Verdict;
 use ng_watch::watchers::Watchers;
+
+/// A walk over clean watchers from a key upwards, at most up to another one, each of which is tested.
+pub(crate) fn walk_tested<'a>(
+    engine: &'a Engine,
+    from: Option<&'a Key>,
+    last: Option<&Key>,
+) -> Result<Walk, Memory>
+    requires { WorksAre engine.now.works }
+    ensures way { IfOk result (λ w. Walks (link.state_of engine.now.works).core.objects (link.state_of engine.now.works).watchers (option_copied last.entry) (option_copied from.entry) w.passed (reached_of w.reached)) }
+    ensures sorted { InOrder page_machine (state_of engine.now) }
+{
+    let watchers = engine.works.watchers();
+    let _in_order = watchers.count();
+    watchers.walk(engine.alloc, &engine.works.core.store, from, last)
+}
 
 /// The least key above one, or the least of all.
 pub(crate) fn key_from<'a>(watchers: &'a Watchers, from: Option<&Key>) -> Option<&'a Key>
@@ -79,9 +96,28 @@ fn arrived(passed: u64, key: &Key) -> Result<Walk, Memory>
     })
 }
 
-/// A walk from the cursor upwards, at most up to a key, where all watchers are clean.
+/// A walk comes to the next watcher, which may not be clean, and tests it.
+fn arrived_told<'a>(
+    engine: &'a Engine,
+    passed: u64,
+    cursor: Option<&'a Key>,
+    key: &Key,
+) -> Result<Walk, Memory>
+    requires works { WorksAre engine.now.works }
+    requires next { next_of (option_copied cursor) (link.state_of engine.now.works).watchers ≡ Some key.now }
+    ensures { IfOk result (λ w. (w.passed ≡ passed) × ((last : Option Name) → Walks (link.state_of engine.now.works).core.objects (link.state_of engine.now.works).watchers last (option_copied cursor.entry) 0 (reached_of w.reached))) }
+{
+    let walk = walk_tested(engine, cursor, Some(key))?;
+    Ok(Walk {
+        passed,
+        reached: walk.reached,
+    })
+}
+
+/// A walk from the cursor upwards, at most up to a key, where all watchers are clean but for those that were told.
 pub(crate) fn pass_over(engine: &Engine, last: Option<&Key>) -> Result<Walk, Memory>
-    requires { (k : Name) → IsClean (link.state_of engine.now.works).core.objects (link.state_of engine.now.works).watchers k }
+    requires works { WorksAre engine.now.works }
+    requires known { (k : Name) → IsCleanUnlessTold engine.now.told.keys (link.state_of engine.now.works).core.objects (link.state_of engine.now.works).watchers k }
     ensures sorted { InOrder page_machine (state_of engine.now) }
     ensures way { IfOk result (λ w. Walks (link.state_of engine.now.works).core.objects (link.state_of engine.now.works).watchers (option_copied last.entry) engine.now.progress.cursor w.passed (reached_of w.reached)) }
 {
@@ -93,6 +129,9 @@ pub(crate) fn pass_over(engine: &Engine, last: Option<&Key>) -> Result<Walk, Mem
         match key_from(watchers, cursor) {
             None => return ended(passed, cursor),
             Some(key) => {
+                if engine.told.contains(key) {
+                    return arrived_told(engine, passed, cursor, key);
+                }
                 if is_end(passed, count, last, key) {
                     return arrived(passed, key);
                 }

@@ -110,7 +110,7 @@ pub(crate) fn hand_on(
     }
 }
 
-/// What a fire came to: whether it added a watcher, and whether it was quiet.
+/// What a fire came to: whether it added a watcher, and whether it was quiet, where that was asked.
 #[derive(Clone, Copy, Debug, PartialEq, Eq)]
 pub(crate) struct Ended {
     pub(crate) added: bool,
@@ -136,13 +136,14 @@ fn is_two_way(watch: &Watch) -> bool
 }
 
 /// Fires the watcher of a key: it keeps the snapshot that its test handed on, and then it fires. A fire that faulted is
-/// remembered.
+/// remembered. Whether it was quiet is told only where it is asked.
 pub(crate) fn fire(
     alloc: Global,
     works: &mut Works,
     faulted: &mut BTreeSet<Key>,
     key: &Key,
     snapshot: Snap,
+    asked: bool,
 ) -> Result<Ended, Memory>
     requires works { WorksAre works.old }
     requires there { IsSome (found key.now (state_of works.old).watchers) }
@@ -152,13 +153,13 @@ pub(crate) fn fire(
     ensures quiet { IfOk result (λ e. e.quiet ≡ true → (state_of works.new ≡ keeping_at key.now (snap_of snapshot) (state_of works.old)) × ForSome (found key.now (state_of works.old).watchers) (λ w. is_two_way w.watch.kind ≡ false)) }
     ensures works { OnOk result (WorksAre works.new) }
 {
-    let two_way = is_two_way(works.watchers().watch(key));
+    let plain = asked && !is_two_way(works.watchers().watch(key));
     let fired = firing::fire(works, alloc, key, snapshot)?;
     if fired.followed.faulted {
         faulted.insert(copied(key)?)?;
     }
     Ok(Ended {
         added: fired.followed.added,
-        quiet: fired.quiet && !two_way,
+        quiet: fired.quiet && plain,
     })
 }

@@ -5,7 +5,6 @@ ghost use Rattle.ng_digest.specs.Machine.{verdict_at, fired_at, adds_at};
 ghost use Rattle.ng_digest.specs.Place.{Answers, OnTested, state_tested};
 ghost use Rattle.ng_link.specs.State as link;
 ghost use Rattle.ng_value.specs.Snaps.{snap_of};
-ghost use Rattle.ng_watch.specs.Table.{watchers_of};
 ghost use Rattle.ng_watch.specs.Walks.{Walks, next_of, reached_of};
 ghost use Rattle.ng_commands.specs.BetweenSteps.{WorksAre};
 ghost use Rattle.ng_page.specs.PlaceOf.{engine_moves, state_of, IsAtWatcher, judged_at, seen_found, handed_on_from, OnDirty};
@@ -15,8 +14,8 @@ ghost use Rattle.ng_page.specs.PageMachine.{page_machine};
 ghost use Rattle.ng_page.specs.declared.known.Known.TheVariants.{Below, UpTo};
 
 use crate::engine::Engine;
-use crate::known::{Known, on_fire, on_round, on_test, on_walk};
-use crate::passing::{key_from, pass_over};
+use crate::known::{Known, asks_for_quiet, on_fire, on_round, on_test, on_walk};
+use crate::passing::{key_from, pass_over, walk_tested};
 use crate::testing::{self, Ended};
 use ng_base::fault::{Fault, Memory};
 use ng_base::path::Key;
@@ -27,42 +26,28 @@ use ng_digest::world::{Tested, World};
 use ng_value::snapshot::Snap;
 use ng_watch::walking::Walk;
 use ng_watch::watch::Verdict;
-use ng_watch::watchers::Watchers;
 use std::mem::replace;
 
-/// A walk over clean watchers from the cursor upwards, at most up to a key, each of which is tested.
-fn walk_tested(engine: &Engine, last: Option<&Key>) -> Result<Walk, Memory>
-    requires { WorksAre engine.now.works }
-    ensures way { IfOk result (λ w. Walks (link.state_of engine.now.works).core.objects (link.state_of engine.now.works).watchers (option_copied last.entry) engine.now.progress.cursor w.passed (reached_of w.reached)) }
-    ensures sorted { InOrder page_machine (state_of engine.now) }
-{
-    let watchers = engine.works.watchers();
-    let _in_order = watchers.count();
-    watchers.walk(
-        engine.alloc,
-        &engine.works.core.store,
-        engine.progress.cursor(),
-        last,
-    )
-}
-
-/// A walk over clean watchers from the cursor upwards, at most up to a key. Where all are known to be clean none is tested.
+/// A walk over clean watchers from the cursor upwards, at most up to a key. Where all are known to be clean only those that were told
+/// are tested.
 fn walk_to(engine: &Engine, last: Option<&Key>) -> Result<Walk, Memory>
     requires works { WorksAre engine.now.works }
-    requires known { AreClean engine.now.known engine.now.progress.cursor (link.state_of engine.now.works).core.objects (link.state_of engine.now.works).watchers }
+    requires known { AreClean engine.now.known engine.now.progress.cursor engine.now.told.keys (link.state_of engine.now.works).core.objects (link.state_of engine.now.works).watchers }
     ensures way { IfOk result (λ w. Walks (link.state_of engine.now.works).core.objects (link.state_of engine.now.works).watchers (option_copied last.entry) engine.now.progress.cursor w.passed (reached_of w.reached)) }
     ensures sorted { InOrder page_machine (state_of engine.now) }
 {
     match engine.known {
         Known::All => pass_over(engine, last),
-        Known::Nothing | Known::Below | Known::UpTo => walk_tested(engine, last),
+        Known::Nothing | Known::Below | Known::UpTo => {
+            walk_tested(engine, engine.progress.cursor(), last)
+        }
     }
 }
 
 /// A walk over clean watchers from the cursor upwards, at most up to the remembered key.
 fn walk_on(engine: &Engine) -> Result<Walk, Memory>
     requires works { WorksAre engine.now.works }
-    requires known { AreClean engine.now.known engine.now.progress.cursor (link.state_of engine.now.works).core.objects (link.state_of engine.now.works).watchers }
+    requires known { AreClean engine.now.known engine.now.progress.cursor engine.now.told.keys (link.state_of engine.now.works).core.objects (link.state_of engine.now.works).watchers }
     ensures way { IfOk result (λ w. Walks (link.state_of engine.now.works).core.objects (link.state_of engine.now.works).watchers engine.now.progress.remembered engine.now.progress.cursor w.passed (reached_of w.reached)) }
     ensures sorted { InOrder page_machine (state_of engine.now) }
 {
@@ -72,7 +57,7 @@ fn walk_on(engine: &Engine) -> Result<Walk, Memory>
 /// A walk to the next watcher above the cursor, if there is one.
 fn step_on(engine: &Engine) -> Result<Walk, Memory>
     requires works { WorksAre engine.now.works }
-    requires known { AreClean engine.now.known engine.now.progress.cursor (link.state_of engine.now.works).core.objects (link.state_of engine.now.works).watchers }
+    requires known { AreClean engine.now.known engine.now.progress.cursor engine.now.told.keys (link.state_of engine.now.works).core.objects (link.state_of engine.now.works).watchers }
     ensures way { IfOk result (λ w. Walks (link.state_of engine.now.works).core.objects (link.state_of engine.now.works).watchers (next_of engine.now.progress.cursor (link.state_of engine.now.works).watchers) engine.now.progress.cursor w.passed (reached_of w.reached)) }
     ensures sorted { InOrder page_machine (state_of engine.now) }
 {
@@ -111,7 +96,7 @@ fn fire_at(engine: &mut Engine, pending: Option<Snap>) -> Result<Ended, Memory>
     requires pending { option_map snap_of pending ≡ handed_on_from (state_of engine.old) engine.old.progress.cursor }
     ensures state { OnOk result (state_of engine.new ≡ fired_at page_machine (state_of engine.old) engine.old.progress.cursor) }
     ensures added { IfOk result (λ e. e.added ≡ adds_at page_machine (state_of engine.old) engine.old.progress.cursor) }
-    ensures quiet { IfOk result (λ e. e.quiet ≡ true → AreClean Below engine.old.progress.cursor (link.state_of engine.old.works).core.objects (link.state_of engine.old.works).watchers → AreClean UpTo engine.old.progress.cursor (link.state_of engine.new.works).core.objects (link.state_of engine.new.works).watchers) }
+    ensures quiet { IfOk result (λ e. e.quiet ≡ true → AreClean Below engine.old.progress.cursor engine.old.told.keys (link.state_of engine.old.works).core.objects (link.state_of engine.old.works).watchers → AreClean UpTo engine.old.progress.cursor engine.new.told.keys (link.state_of engine.new.works).core.objects (link.state_of engine.new.works).watchers) }
     ensures known { engine.new.known ≡ engine.old.known }
     ensures progress { engine.new.progress ≡ engine.old.progress }
     ensures works { OnOk result (WorksAre engine.new.works) }
@@ -126,6 +111,7 @@ fn fire_at(engine: &mut Engine, pending: Option<Snap>) -> Result<Ended, Memory>
                 &mut engine.faulted,
                 key,
                 snapshot,
+                asks_for_quiet(engine.known),
             ),
         },
     }

@@ -1,4 +1,4 @@
-use Rattle.std.proofs.Common.{List, Option, IfOk, length, subst, sym}
+use Rattle.std.proofs.Common.{List, IfOk, length, subst, sym}
 use Rattle.std.specs.List.Sorted.{IsStrictlySortedBy}
 use Rattle.std.specs.Map.{keys_of}
 use Rattle.std.specs.Option.{option_copied}
@@ -10,7 +10,7 @@ use Rattle.ng_watch.specs.Table.{watchers_of, AllStand}
 use Rattle.ng_watch.specs.Walks.{Walks, reached_of}
 use Rattle.ng_watch.specs.declared.walking.Walk.{Walk}
 use Rattle.ng_watch.specs.declared.watched.Watched.{Watched}
-use Rattle.ng_page.proofs.world.walk_tested.Goals as goal
+use Rattle.ng_page.proofs.passing.walk_tested.Goals as goal
 
 pub walk-requires : goal.walk-requires
 walk-requires c =
@@ -19,10 +19,8 @@ walk-requires c =
 
 pub returns-clause-way : goal.returns-clause-way
 returns-clause-way c =
-    let e = c.args.engine.now in
-    let objects = (link.state_of e.works).core.objects in
-    subst (λ (rows : List (Key × Watched)). IfOk c.walk.result (λ (w : Walk). Walks objects (watchers_of rows) (option_copied c.args.last) e.progress.cursor w.passed (reached_of w.reached))) c.watchers-watchers.ensures
-    (subst (λ (o : Option Key). IfOk c.walk.result (λ (w : Walk). Walks objects (watchers_of c.watchers-watchers.result.now) (option_copied c.args.last) o w.passed (reached_of w.reached))) c.cursor.ensures c.walk.ensures)
+    let objects = (link.state_of c.args.engine.now.works).core.objects in
+    subst (λ (rows : List (Key × Watched)). IfOk c.walk.result (λ (w : Walk). Walks objects (watchers_of rows) (option_copied c.args.last) (option_copied c.args.from) w.passed (reached_of w.reached))) c.watchers-watchers.ensures c.walk.ensures
 
 pub returns-clause-sorted : goal.returns-clause-sorted
 returns-clause-sorted c = subst (λ (rows : List (Key × Watched)). IsStrictlySortedBy key_cmp (keys_of (watchers_of rows))) c.watchers-watchers.ensures c.count-in_order.ensures.ordered
