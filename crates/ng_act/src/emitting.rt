@@ -109,7 +109,7 @@ fn emit_open(
 {
     let e = announce(core, alloc, scope, name, args)?;
     rise(core, alloc, scope, &e)?;
-    finish(core, alloc, &e)
+    finish(core, &e)
 }
 
 /// An event that goes down.
@@ -156,7 +156,7 @@ fn broadcast_open(
 {
     let e = announce(core, alloc, scope, name, args)?;
     sweep(core, alloc, scope, &e)?;
-    finish(core, alloc, &e)
+    finish(core, &e)
 }
 
 /// The scope and then each parent.

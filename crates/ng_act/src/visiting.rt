@@ -37,7 +37,7 @@ pub(crate) fn visit(core: &mut Core, alloc: Global, scope: ScopeId, e: &Event) -
         return Ok(());
     }
     let current = core.scopes.object(scope);
-    show_current(core, alloc, e, Value::Obj(current))?;
+    show_current(core, e, Value::Obj(current))?;
     hear(core, alloc, scope, e)
 }
 

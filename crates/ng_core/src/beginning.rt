@@ -10,6 +10,7 @@ ghost use Rattle.ng_core.specs.State.{with_fault};
 ghost use Rattle.ng_behaviour.specs.Scopes.{root_of};
 
 use crate::core_state::{Core, Handed, noted};
+use crate::event_names::EventNames;
 use ng_base::fault::{Fault, Memory};
 use ng_base::heap::ObjKind;
 use ng_base::locals::Locals;
@@ -36,7 +37,7 @@ fn root_store(alloc: Global) -> Result<Store, Memory>
 
 /// The core over the objects that a page begins with.
 #[tactic(auto, using(crate::proofs::FirstCore::first))]
-fn core_over(alloc: Global, store: Store, scopes: Scopes) -> Core
+fn core_over(alloc: Global, store: Store, scopes: Scopes, event_names: EventNames) -> Core
     requires store { 0 < length store }
     requires scopes { scopes ≡ root_of 0 }
     ensures state { state_of result ≡ first_state store }
@@ -60,6 +61,7 @@ fn core_over(alloc: Global, store: Store, scopes: Scopes) -> Core
             count: 0,
             first: None,
         },
+        event_names,
     }
 }
 
@@ -89,7 +91,8 @@ impl Core {
         let scopes = Scopes::new(alloc, Oid(0))?;
         scopes.name_root(&mut store)?;
         enter(alloc, &mut store, facts)?;
-        Ok(core_over(alloc, store, scopes))
+        let event_names = EventNames::new(alloc)?;
+        Ok(core_over(alloc, store, scopes, event_names))
     }
 
     /// The same core, of data that is kept: of a copy of it.

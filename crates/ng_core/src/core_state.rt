@@ -2,6 +2,7 @@
 ghost use Rattle.std.specs.Prelude.{◌≡◌};
 ghost use Rattle.ng_core.specs.State.{handed_over};
 
+use crate::event_names::EventNames;
 use crate::pending::{Task, WatchChange};
 use ng_base::fault::Fault;
 use ng_base::lists::Names;
@@ -57,6 +58,8 @@ pub struct Core {
     /// How many bodies and events are open.
     pub depth: u32,
     pub handed: Handed,
+    /// The names that the objects of events have.
+    pub event_names: EventNames,
 }
 
 /// A fault more.

@@ -3,7 +3,6 @@ ghost use Rattle.std.specs.Prelude.{not, eqb, ◌≡◌, ◌<◌, ◌≤◌, ◌
 ghost use Rattle.ng_base.specs.Faults.{is_memory};
 ghost use Rattle.ng_base.specs.Objects.{StandsAmong};
 ghost use Rattle.ng_base.specs.ViewOf.{view_of, views_of};
-ghost use Rattle.ng_base.specs.Word.{IsWord};
 ghost use Rattle.ng_behaviour.specs.Scopes.{object_at};
 ghost use Rattle.ng_language.specs.Objects.{set_name};
 ghost use Rattle.std.specs.List.{AllByRecursion};
@@ -16,6 +15,7 @@ ghost use Rattle.ng_core.specs.State.{is_stopped, with_objects, with_stopped, wi
 
 use crate::binding::value_copied;
 use crate::core_state::Core;
+use crate::event_names::EventNames;
 use crate::keeping::keep;
 use ng_base::fault::{Fault, Memory};
 use ng_base::heap::ObjKind;
@@ -39,29 +39,25 @@ pub struct Event {
     pub name: Txt,
 }
 
-/// Sets a name that is given as a word.
+/// Gives an object a name.
 #[tactic(auto, using(ng_scopes::proofs::Lengths::kept))]
-fn set_word(
-    store: &mut Store,
-    alloc: Global,
-    object: Oid,
-    word: &str,
-    value: Value,
-) -> Result<(), Memory>
-    requires word { IsWord word.now }
+fn give(store: &mut Store, object: Oid, name: &Txt, value: Value) -> Result<(), Memory>
     requires object { object.0 < length store.old }
     requires value { StandsAmong (length store.old) value }
-    ensures ok { OnOk result (store.new ≡ set_name store.old object.0 word.now value) }
+    ensures ok { OnOk result (store.new ≡ set_name store.old object.0 name.now value) }
     ensures len { length store.new ≡ length store.old }
 {
-    let mut name = Txt::new(alloc);
-    name.push_word(word)?;
-    store.set(object, &name, value)
+    store.set(object, name, value)
 }
 
 /// The event's own object.
 #[tactic(auto, using(ng_scopes::proofs::Lengths::kept))]
-fn event_object(store: &mut Store, alloc: Global, target: Oid, name: &Txt) -> Result<Oid, Fault>
+fn event_object(
+    store: &mut Store,
+    names: &EventNames,
+    target: Oid,
+    name: &Txt,
+) -> Result<Oid, Fault>
     requires target { target.0 < length store.old }
     requires room { length store.old + 1 < 1000000 }
     ensures made { OnOk result (store.new ≡ with_event store.old target.0 name.now) }
@@ -75,16 +71,16 @@ fn event_object(store: &mut Store, alloc: Global, target: Oid, name: &Txt) -> Re
         Err(StoreFault::Full) => return Err(Fault::Memory(Memory::Worn)),
         Err(StoreFault::Memory(memory)) => return Err(Fault::Memory(memory)),
     };
-    set_word(store, alloc, event, "name", Value::Text(name.copied()?))?;
-    set_word(store, alloc, event, "targetScope", Value::Obj(target))?;
-    set_word(store, alloc, event, "currentScope", Value::Null)?;
-    set_word(store, alloc, event, "defaultPrevented", Value::Bool(false))?;
+    give(store, event, names.name(), Value::Text(name.copied()?))?;
+    give(store, event, names.target_scope(), Value::Obj(target))?;
+    give(store, event, names.current_scope(), Value::Null)?;
+    give(store, event, names.default_prevented(), Value::Bool(false))?;
     Ok(event)
 }
 
 /// The scope that an event has reached, or none.
 #[tactic(auto, using(crate::proofs::SoundCores::grown))]
-pub fn show_current(core: &mut Core, alloc: Global, e: &Event, current: Value) -> Result<(), Memory>
+pub fn show_current(core: &mut Core, e: &Event, current: Value) -> Result<(), Memory>
     requires sound { IsSound core.old }
     requires object { e.now.object.0 < length core.old.store }
     requires current { StandsAmong (length core.old.store) current }
@@ -95,7 +91,12 @@ pub fn show_current(core: &mut Core, alloc: Global, e: &Event, current: Value) -
     ensures count { length core.new.scopes ≡ length core.old.scopes }
     ensures grown { length core.old.store ≤ length core.new.store }
 {
-    set_word(&mut core.store, alloc, e.object, "currentScope", current)
+    give(
+        &mut core.store,
+        e.object,
+        core.event_names.current_scope(),
+        current,
+    )
 }
 
 /// The locals of a listener.
@@ -121,7 +122,7 @@ pub fn is_stopped(core: &Core, e: &Event) -> bool
 
 /// The event's own object, in the core.
 #[tactic(auto, using(crate::proofs::SoundCores::grown))]
-fn add_event(core: &mut Core, alloc: Global, scope: ScopeId, name: &Txt) -> Result<Oid, Fault>
+fn add_event(core: &mut Core, scope: ScopeId, name: &Txt) -> Result<Oid, Fault>
     requires sound { IsSound core.old }
     requires scope { scope.0 < length core.old.scopes }
     requires room { length core.old.store + 1 < 1000000 }
@@ -136,7 +137,7 @@ fn add_event(core: &mut Core, alloc: Global, scope: ScopeId, name: &Txt) -> Resu
     ensures grown { length core.old.store ≤ length core.new.store }
 {
     let target = core.scopes.object(scope);
-    event_object(&mut core.store, alloc, target, name)
+    event_object(&mut core.store, &core.event_names, target, name)
 }
 
 /// The objects of an event, if both have room.
@@ -163,7 +164,7 @@ pub fn announce(
     if core.store.count() >= OBJECT_LIMIT - 1 {
         return Err(Fault::StoreFull);
     }
-    let object = add_event(core, alloc, scope, name)?;
+    let object = add_event(core, scope, name)?;
     let list = list_view(args);
     let args = keep(core, alloc, &list)?;
     let name = name.copied()?;
@@ -193,7 +194,7 @@ fn forget_stop(core: &mut Core, object: u32)
 
 /// An event is over: no scope is current.
 #[tactic(auto, using(crate::proofs::SoundCores::grown))]
-fn end_event(core: &mut Core, alloc: Global, e: &Event) -> Result<(), Memory>
+fn end_event(core: &mut Core, e: &Event) -> Result<(), Memory>
     requires sound { IsSound core.old }
     requires object { e.now.object.0 < length core.old.store }
     ensures run { OnOk result (state_of core.new ≡ ended (event_of e.now) (state_of core.old)) }
@@ -203,13 +204,13 @@ fn end_event(core: &mut Core, alloc: Global, e: &Event) -> Result<(), Memory>
     ensures count { length core.new.scopes ≡ length core.old.scopes }
     ensures grown { length core.old.store ≤ length core.new.store }
 {
-    show_current(core, alloc, e, Value::Null)?;
+    show_current(core, e, Value::Null)?;
     forget_stop(core, e.object.0);
     Ok(())
 }
 
 /// An event is over, and its object is the value.
-pub fn finish(core: &mut Core, alloc: Global, e: &Event) -> Result<View, Fault>
+pub fn finish(core: &mut Core, e: &Event) -> Result<View, Fault>
     requires sound { IsSound core.old }
     requires object { e.now.object.0 < length core.old.store }
     ensures run { Acts view_of result (state_of core.new) (finished (event_of e.now) (state_of core.old)) }
@@ -220,6 +221,6 @@ pub fn finish(core: &mut Core, alloc: Global, e: &Event) -> Result<View, Fault>
     ensures grown { length core.old.store ≤ length core.new.store }
     ensures stands { IfOk result (λ w. ViewStands (length core.new.store) (view_of w)) }
 {
-    end_event(core, alloc, e)?;
+    end_event(core, e)?;
     Ok(View::of_value(Value::Obj(e.object)))
 }

@@ -12,8 +12,9 @@
 //! In reading order: `core_state` and `pending` have the core, `beginning` the one that a page begins with, `growing` the
 //! scopes that a page adds, `called` what a call calls, `callees` what a function does, `reading` the programs that are
 //! given as texts, `binding` the values of arguments, `keeping` what is written into the store, `places` what an assignment
-//! writes to, `scope_calls` what scopes register, `burying` the death of a scope, `event_objects` the objects of events,
-//! `opening` bodies, events and walks as they are opened and closed, and `leaves` the expressions without parts.
+//! writes to, `scope_calls` what scopes register, `burying` the death of a scope, `event_names` the names that the objects of
+//! events have, `event_objects` these objects, `opening` bodies, events and walks as they are opened and closed, and `leaves` the
+//! expressions without parts.
 //!
 //! It runs no program: ng_act does.
 #![tactic(auto)]
@@ -24,6 +25,7 @@ pub mod burying;
 pub mod called;
 pub mod callees;
 pub mod core_state;
+pub mod event_names;
 pub mod event_objects;
 pub mod growing;
 pub mod keeping;
