@@ -144,7 +144,7 @@ fn keep_row(
     ground: &Ground<'_>,
     i: u32,
     body: &SharedBody,
-    row: &Row,
+    row: &Row<'_>,
 ) -> Result<(), Memory>
     requires whole { IsWhole works.old }
     requires names { AreNames ground.now.names }
@@ -160,7 +160,7 @@ fn keep_row(
 }
 
 /// The place of a row that is made before the one at a place.
-fn place_for(alloc: Global, spot: &Spot<'_>, at: u32, row: &Row) -> Result<Place, Memory>
+fn place_for(alloc: Global, spot: &Spot<'_>, at: u32, row: &Row<'_>) -> Result<Place, Memory>
     ensures { IfOk result (λ p. place_of_code p ≡ in_outlet spot.now.holder.now spot.now.outlet at (role_for_row (row_of row.now))) }
 {
     Ok(Place::Outlet {
@@ -179,7 +179,7 @@ fn make_row(
     ground: &Ground<'_>,
     i: u32,
     at: u32,
-    row: &Row,
+    row: &Row<'_>,
     told: &mut Followed,
 ) -> Result<(), Memory>
     requires whole { IsWhole works.old }
@@ -223,7 +223,7 @@ fn fire_row(
     ground: &Ground<'_>,
     i: u32,
     at: u32,
-    row: &Row,
+    row: &Row<'_>,
     told: &mut Followed,
 ) -> Result<u32, Memory>
     requires whole { IsWhole works.old }
@@ -240,7 +240,7 @@ fn fire_row(
     ensures whole { OnOk result (IsWhole works.new) }
     ensures templates { templates_of works.new ≡ templates_of works.old }
 {
-    match &row.from {
+    match row.from {
         Some(body) => {
             keep_row(works, ground, i, body, row)?;
             place_of(at as usize + 1)
@@ -265,7 +265,7 @@ fn fire_rows(
     alloc: Global,
     spot: &Spot<'_>,
     ground: &Ground<'_>,
-    rows: &[Row],
+    rows: &[Row<'_>],
     told: &mut Followed,
 ) -> Result<(), Memory>
     requires whole { IsWhole works.old }
@@ -296,7 +296,7 @@ fn change_rows(
     repeated: &Repeated,
     bodies: &[SharedBody],
     gone: &Numbers,
-    rows: &[Row],
+    rows: &[Row<'_>],
     told: &mut Followed,
 ) -> Result<(), Memory>
     requires whole { IsWhole works.old }

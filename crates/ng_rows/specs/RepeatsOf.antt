@@ -1,5 +1,6 @@
 -- What the rows of a repeat in the code stand for.
 use Rattle.std.specs.Prelude.{ℕ, ◌≡◌, List, Option, map, option_map, codes}
+use Rattle.std.specs.Borrow.{Bor}
 use Rattle.std.specs.List.{AllByRecursion}
 use Rattle.ng_base.specs.Objects.{StandsAmong}
 use Rattle.ng_rows.specs.RepeatRows.{Row}
@@ -9,11 +10,11 @@ use Rattle.ng_rows.specs.declared.rows.PlaceNames.{PlaceNames}
 use Rattle.ng_rows.specs.declared.rows.Row as code
 use Rattle.ng_instances.specs.declared.instances.Body as code_body
 
-abbrev pub path_of : Option code_body.Body → Option (List ℕ)
-path_of b = option_map (λ (x : code_body.Body). x.path) b
+abbrev pub path_of : Option (Bor code_body.Body) → Option (List ℕ)
+path_of b = option_map (λ (x : Bor code_body.Body). x.now.path) b
 
 abbrev pub row_of : code.Row → Row
-row_of r = record { item = item_of r.item; key = r.key; from = path_of r.from }
+row_of r = record { item = item_of r.item; key = r.key.now; from = path_of r.from }
 
 abbrev pub rows_of : List code.Row → List Row
 rows_of rs = map row_of rs

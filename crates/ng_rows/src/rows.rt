@@ -44,10 +44,10 @@ pub struct PlaceNames {
 
 /// A row that an entry calls for: the item, its track key, and the body of the row that it comes from, where one stands.
 #[derive(Drop)]
-pub struct Row {
+pub struct Row<'a> {
     pub item: Item,
-    key: TrackKey,
-    pub from: Option<SharedBody>,
+    key: &'a TrackKey,
+    pub from: Option<&'a SharedBody>,
 }
 
 /// What the scopes of all rows of a repeat are told by: the names, and how many entries there are.
@@ -195,27 +195,24 @@ fn keys_of(alloc: Global, bodies: &[SharedBody]) -> Result<TrackKeys, AllocError
 }
 
 /// The body of the row at a place.
-#[tactic(auto, using(crate::proofs::RowAt::row_at, crate::proofs::RowAt::no_row_at))]
-fn body_from(bodies: &[SharedBody], from: Option<u32>) -> Result<Option<SharedBody>, AllocError>
-    ensures { IfOk result (λ b. path_of b ≡ path_from (map body_of bodies.now) from) }
+#[tactic(auto, using(crate::proofs::RowAt::path_at))]
+fn body_from(bodies: &[SharedBody], from: Option<u32>) -> Option<&SharedBody>
+    ensures { path_of result ≡ path_from (map body_of bodies.now) from }
 {
     match from {
-        None => Ok(None),
-        Some(i) => match bodies.get(i as usize) {
-            None => Ok(None),
-            Some(body) => Ok(Some(body.copied()?)),
-        },
+        None => None,
+        Some(i) => bodies.get(i as usize),
     }
 }
 
 /// The rows that are called for.
-pub fn rows_from(
+pub fn rows_from<'a>(
     alloc: Global,
-    bodies: &[SharedBody],
+    bodies: &'a [SharedBody],
     items: Vec<Item>,
-    keys: &TrackKeys,
+    keys: &'a TrackKeys,
     sources: &Sources,
-) -> Result<Vec<Row>, AllocError>
+) -> Result<Vec<Row<'a>>, AllocError>
     ensures { IfOk result (λ v. rows_of v.items ≡ rows_from_all (map body_of bodies.now) (items_of items.items) keys.now sources.now) }
 {
     let mut rows = Vec::with_capacity(alloc, items.len())?;
@@ -230,8 +227,8 @@ pub fn rows_from(
         };
         rows.push(Row {
             item,
-            key: key.copied()?,
-            from: body_from(bodies, *source)?,
+            key,
+            from: body_from(bodies, *source),
         })?;
         keys = other_keys;
         sources = other_sources;
@@ -240,7 +237,7 @@ pub fn rows_from(
 }
 
 /// The role of a row.
-pub fn role_for(alloc: Global, row: &Row) -> Result<Role, Memory>
+pub fn role_for(alloc: Global, row: &Row<'_>) -> Result<Role, Memory>
     ensures { IfOk result (λ r. role_of r ≡ role_for_row (row_of row.now)) }
 {
     let entry = row.item.entry.copied(alloc)?;
@@ -259,11 +256,11 @@ fn is_row(key: &TrackKey, entry: &Entry, role: &Role) -> bool
 }
 
 /// The body of a row that is kept. It is the one that stands, unless that is for another entry.
-fn kept_row(alloc: Global, body: &SharedBody, row: &Row) -> Result<SharedBody, Memory>
+fn kept_row(alloc: Global, body: &SharedBody, row: &Row<'_>) -> Result<SharedBody, Memory>
     ensures path { IfOk result (λ b. b.path ≡ body.now.path) }
     ensures role { IfOk result (λ b. role_of b.role ≡ role_for_row (row_of row.now)) }
 {
-    if is_row(&row.key, &row.item.entry, body.role()) {
+    if is_row(row.key, &row.item.entry, body.role()) {
         Ok(body.copied()?)
     } else {
         let path = body.path().copied()?;
@@ -272,12 +269,12 @@ fn kept_row(alloc: Global, body: &SharedBody, row: &Row) -> Result<SharedBody, M
 }
 
 /// The rows that are kept, in the order of their entries.
-pub fn kept_rows(alloc: Global, rows: &[Row]) -> Result<Vec<SharedBody>, Memory>
+pub fn kept_rows(alloc: Global, rows: &[Row<'_>]) -> Result<Vec<SharedBody>, Memory>
     ensures { IfOk result (λ v. map body_of v.items ≡ kept_rows_of (rows_of rows.now)) }
 {
     let mut kept = Vec::with_capacity(alloc, rows.len())?;
     for row in rows {
-        if let Some(body) = &row.from {
+        if let Some(body) = row.from {
             kept.push(kept_row(alloc, body, row)?)?;
         }
     }
