@@ -29,6 +29,7 @@ pub mod Agreeing
 pub mod Opened
 pub mod Stages
 pub mod Ahead
+pub mod Nearest
 pub mod StaysClean
 pub mod PassOver
 pub mod Prepared

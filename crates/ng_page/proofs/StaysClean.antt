@@ -1,18 +1,16 @@
 -- What is known of the watchers in the middle of a digest stays true from call to call.
-use Rattle.std.proofs.Common.{◌≡◌, ◌∙◌, ℕ, Bool, true, false, List, [], ◌∷◌, Option, None, Some, Result, Ok, Err, refl, ap, sym, subst, cond, inl, inr, ◌⊎◌, true≢false}
+use Rattle.std.proofs.Common.{◌≡◌, ◌∙◌, ◌&&◌, ◌||◌, ℕ, Bool, true, false, not, List, [], ◌∷◌, Option, None, Some, Result, Ok, Err, refl, ap, sym, subst, cond, inl, inr, ◌⊎◌, true≢false}
 use Rattle.std.specs.Map.{keys_of}
 use Rattle.std.specs.Option.{ForSome}
-use Rattle.std.specs.Ordering.{is_lt, ordering_reverse}
-use Rattle.std.specs.declared.cmp.Ordering.{Ordering}
-use Rattle.std.specs.declared.cmp.Ordering.TheVariants.{Less, Equal, Greater}
+use Rattle.std.specs.Ordering.{is_lt}
+use Rattle.std.specs.declared.cmp.Ordering.TheVariants.{Less}
 use Rattle.std.specs.List.Sorted.{IsStrictlySortedBy}
 use Rattle.ng_base.specs.Objects.{Object}
 use Rattle.ng_base.specs.Views.{ViewTree}
 use Rattle.ng_base.specs.declared.fault.Fault.{Fault}
 use Rattle.ng_base.specs.declared.path.Key.{Key}
 use Rattle.ng_build.proofs.Tables.{kept-other}
-use Rattle.ng_digest.proofs.Carried.{least, none_passes}
-use Rattle.ng_digest.proofs.Keys.{not_back, not_below}
+use Rattle.ng_digest.proofs.Carried.{none_passes}
 use Rattle.ng_digest.specs.Machine.{Verdict, above, found_clean, found_dirty, found_faulted, verdict_at}
 use Rattle.ng_digest.specs.Place.{Answers, OnTested, state_tested}
 use Rattle.ng_digest.specs.Progress.{Standing, came_to, passed}
@@ -22,98 +20,142 @@ use Rattle.ng_fire.specs.Fires.{IsDirtyWith}
 use Rattle.ng_link.specs.Calls.{keeping_at}
 use Rattle.ng_link.specs.State as link
 use Rattle.ng_watch.proofs.Judging.{kept_is_clean}
-use Rattle.ng_watch.specs.Keys.{key_cmp, key_cmp_total, is_above, is_key}
+use Rattle.ng_watch.specs.Keys.{key_cmp, is_above, is_key}
 use Rattle.ng_watch.specs.Laws.{is_two_way}
 use Rattle.ng_watch.specs.Seen.{Watcher}
 use Rattle.ng_watch.specs.Table.{Table, found, keeping, with_kept}
 use Rattle.ng_watch.specs.Verdicts.{Judged, clean, dirty, verdict}
-use Rattle.ng_watch.specs.Walks.{Arrival, behind_all, at_watcher, Walks, came_to_end, came_to_watcher, passed_watcher, next_of}
+use Rattle.ng_watch.specs.Walks.{Arrival, behind_all, at_watcher, Walks, came_to_end, came_to_watcher, passed_watcher}
 use Rattle.ng_page.proofs.Ahead.{next_is}
+use Rattle.ng_page.proofs.Nearest.{next_least, none_between, not_over}
 use Rattle.ng_page.proofs.SettledLaws.{live_key}
-use Rattle.ng_page.specs.KnownClean.{AreClean, known_begun, known_come, known_fired, known_here, known_tested}
-use Rattle.ng_page.specs.PageLaws.{by_test, key_exact, told_itself, told_still}
+use Rattle.ng_page.specs.KnownClean.{AreClean, IsCleanUnlessTold, come_by, is_known, is_passed, is_under, known_begun, known_come, known_here, known_tested}
+use Rattle.ng_page.specs.PageLaws.{by_test, is_itself, key_is, told_itself, told_still}
 use Rattle.ng_page.specs.PageMachine.{State, found_as, handed_on, handed_on_at, handed_on_of, is_told, page_machine, tell, tested, tested_of, told_at, verdict_of}
 use Rattle.ng_page.specs.PlaceOf.{key_at, last_at}
 use Rattle.ng_page.specs.declared.known.Known.{Known}
-use Rattle.ng_page.specs.declared.known.Known.TheVariants as knows
+use Rattle.ng_page.specs.declared.known.Passed.{Passed}
+use Rattle.ng_page.specs.declared.known.Passed.TheVariants.{Nothing, Below, UpTo}
+
+both : (a b : Bool) → (a && b) ≡ true → (a ≡ true) × (b ≡ true)
+both true b e = (refl, e)
+both false b e = absurd (true≢false (sym e))
+
+either : (a b : Bool) → (a || b) ≡ true → (a ≡ true) ⊎ (b ≡ true)
+either true b e = inl refl
+either false b e = inr e
+
+and_both : (a b : Bool) → a ≡ true → b ≡ true → (a && b) ≡ true
+and_both a b x y = ap (λ z. z && b) x ∙ y
+
+or_left : (a b : Bool) → a ≡ true → (a || b) ≡ true
+or_left a b x = ap (λ z. z || b) x
+
+or_right : (a b : Bool) → b ≡ true → (a || b) ≡ true
+or_right true b y = refl
+or_right false b y = y
+
+is_not : (a : Bool) → not a ≡ true → a ≡ false
+is_not false e = refl
+is_not true e = absurd (true≢false (sym e))
+
+-- the watchers of the fields are known
+abbrev AreCleanBy : Option Key → Bool → Passed → Option Key → List Key → List Object → Table → Type 0
+AreCleanBy f b p = AreClean (record { from = f; to_end = b; passed = p })
 
 -- what is known before the least key
-pub clean_begun : (known : Known) (c : Option Key) (told : List Key) (objects : List Object) (t : Table) → AreClean known c told objects t → AreClean (known_begun known) None told objects t
-clean_begun knows.Nothing c told objects t h = λ k over. absurd (true≢false over)
-clean_begun knows.Below c told objects t h = λ k over. absurd (true≢false over)
-clean_begun knows.UpTo c told objects t h = λ k over. absurd (true≢false over)
-clean_begun knows.All c told objects t h = h
-
--- a key that is not above another is that one, or below it
-not_over : (k j : Key) → is_above k j ≡ false → (k ≡ j) ⊎ (is_above j k ≡ true)
-not_over k j over = by_order (key_cmp k j) refl
+begun_by : (f : Option Key) (b : Bool) (p : Passed) (c : Option Key) (told : List Key) (objects : List Object) (t : Table) → AreCleanBy f b p c told objects t → AreClean (known_begun (record { from = f; to_end = b; passed = p })) None told objects t
+begun_by f false p c told objects t h = λ k is. absurd (true≢false (sym is))
+begun_by f true p c told objects t h = λ k is. by_side k (either (above page_machine f k) false is)
   where
-    by_order : (o : Ordering) → key_cmp k j ≡ o → (k ≡ j) ⊎ (is_above j k ≡ true)
-    by_order Less e = absurd (true≢false (sym (ap is_lt e) ∙ over))
-    by_order Equal e = inl (key_exact k j e)
-    by_order Greater e = inr (ap is_lt (key_cmp_total.antisymm j k ∙ ap ordering_reverse e))
+    by_side : (k : Key) → (above page_machine f k ≡ true) ⊎ (false ≡ true) → IsCleanUnlessTold told objects t k
+    by_side k (inl over) = h k (or_left (above page_machine f k) (is_passed p c k) over)
+    by_side k (inr none) = absurd (true≢false (sym none))
 
-not_itself : (k : Key) → is_above k k ≡ true → ⊥
-not_itself k e = true≢false (sym e ∙ not_below page_machine key_cmp_total k)
+pub clean_begun : (known next : Known) (c d : Option Key) (told : List Key) (objects : List Object) (t : Table) → next ≡ known_begun known → d ≡ None → AreClean known c told objects t → AreClean next d told objects t
+clean_begun known next c d told objects t is start h =
+    subst (λ x. AreClean x d told objects t) (sym is) (subst (λ o. AreClean (known_begun known) o told objects t) (sym start) (begun_by known.from known.to_end known.passed c told objects t h))
+
+-- where all above the bound are known, and all above the cursor are above it, all above the cursor are
+ahead_by : (f : Option Key) (b : Bool) (p : Passed) (c : Option Key) (k : Key) → b ≡ true → above page_machine f k ≡ true → is_known (record { from = f; to_end = b; passed = p }) c k ≡ true
+ahead_by f true p c k e over = or_left (above page_machine f k) (is_passed p c k) over
+ahead_by f false p c k e over = absurd (true≢false (sym e))
+
+pub ahead_clean : (known : Known) (c : Option Key) (told : List Key) (objects : List Object) (t : Table) → known.to_end ≡ true → ((k : Key) → above page_machine c k ≡ true → above page_machine known.from k ≡ true) → AreClean known c told objects t
+    → (k : Key) → above page_machine c k ≡ true → IsCleanUnlessTold told objects t k
+ahead_clean known c told objects t e behind h k over = h k (ahead_by known.from known.to_end known.passed c k e (behind k over))
 
 -- ---- a walk
 
+-- a key at which a walk has not come yet
+abbrev is_short : Arrival → Key → Bool
+is_short (behind_all c) j = true
+is_short (at_watcher k r) j = is_above j k
+
 module _ (told : List Key) (objects : List Object) (t : Table) (sorted : IsStrictlySortedBy key_cmp (keys_of t)) where
-  -- the next key is the least above the cursor
-  next_least : (c : Option Key) (k j : Key) (w : Watcher) → next_of c t ≡ Some k → found j t ≡ Some w → above page_machine c j ≡ true → (k ≡ j) ⊎ (key_cmp k j ≡ Less)
-  next_least c k j w n f a = least key_cmp (above page_machine c) k j (keys_of t) sorted (next_is t c ∙ n) (live_key j t w f) a
-
-  below_none : (k j : Key) → is_above j k ≡ true → (k ≡ j) ⊎ (key_cmp k j ≡ Less) → ⊥
-  below_none k j b (inl same) = true≢false (sym (subst (λ x. is_above j x ≡ true) same b) ∙ not_below page_machine key_cmp_total j)
-  below_none k j b (inr less) = true≢false (sym b ∙ not_back page_machine key_cmp_total k j less)
-
-  -- so none between the two has a watcher
-  none_between : (c : Option Key) (k j : Key) (w : Watcher) → next_of c t ≡ Some k → found j t ≡ Some w → is_above j k ≡ true → above page_machine c j ≡ false
-  none_between c k j w n f b = by_above (above page_machine c j) refl
+  -- what a walk passes is clean
+  passed_by : (last : Option Key) {c : Option Key} {n : ℕ} {a : Arrival} → Walks objects t last c n a → (j : Key) (w : Watcher) → found j t ≡ Some w → above page_machine c j ≡ true → is_short a j ≡ true → verdict objects w ≡ Ok clean
+  passed_by last (came_to_end {c = c} e) j w f over short = absurd (true≢false (sym over ∙ none_passes (above page_machine c) j (keys_of t) (next_is t c ∙ e) (live_key j t w f)))
+  passed_by last (came_to_watcher {c = c} {k = k} n g) j w f over short = absurd (true≢false (sym over ∙ none_between t sorted c k j w n f short))
+  passed_by last (passed_watcher {c = c} {k = k} {w = x} {a = a} n g v o rest) j w f over short = by_above (is_above k j) refl (passed_by last rest j w f)
     where
-      by_above : (x : Bool) → above page_machine c j ≡ x → x ≡ false
-      by_above false e = refl
-      by_above true e = absurd (below_none k j b (next_least c k j w n f e))
-
-  -- a clean watcher is passed
-  passed_clean : (c : Option Key) (k : Key) (w : Watcher) → next_of c t ≡ Some k → found k t ≡ Some w → verdict objects w ≡ Ok clean → AreClean knows.UpTo c told objects t → AreClean knows.UpTo (Some k) told objects t
-  passed_clean c k w n f v h j over untold x g = by_above (above page_machine c j) refl
-    where
-      by_place : (k ≡ j) ⊎ (key_cmp k j ≡ Less) → verdict objects x ≡ Ok clean
-      by_place (inl same) =
-          let two : Some w ≡ Some x = sym f ∙ (ap (λ y. found y t) same ∙ g) in
-          let is : w ≡ x = cc in
+      by_place : is_above k j ≡ false → (k ≡ j) ⊎ (key_cmp k j ≡ Less) → verdict objects w ≡ Ok clean
+      by_place e (inl same) =
+          let two : Some x ≡ Some w = sym g ∙ (ap (λ y. found y t) same ∙ f) in
+          let is : x ≡ w = cc in
           subst (λ y. verdict objects y ≡ Ok clean) is v
-      by_place (inr less) = absurd (true≢false (sym (ap is_lt less) ∙ over))
+      by_place e (inr less) = absurd (true≢false (sym (ap is_lt less) ∙ e))
 
-      by_above : (b : Bool) → above page_machine c j ≡ b → verdict objects x ≡ Ok clean
-      by_above false e = h j e untold x g
-      by_above true e = by_place (next_least c k j x n g e)
+      by_above : (b : Bool) → is_above k j ≡ b → (is_above k j ≡ true → is_short a j ≡ true → verdict objects w ≡ Ok clean) → verdict objects w ≡ Ok clean
+      by_above true e more = more e short
+      by_above false e more = by_place e (next_least t sorted c k j w n f over)
 
-  walk_clean : (last : Option Key) {c : Option Key} {n : ℕ} {a : Arrival} → Walks objects t last c n a → AreClean knows.UpTo c told objects t → AreClean (known_come a knows.UpTo) (key_at a) told objects t
-  walk_clean last (came_to_end {c = c} e) h = λ j untold w f. h j (none_passes (above page_machine c) j (keys_of t) (next_is t c ∙ e) (live_key j t w f)) untold w f
-  walk_clean last (came_to_watcher {c = c} {k = k} n f) h = λ j under untold w g. h j (none_between c k j w n g under) untold w g
-  walk_clean last (passed_watcher {c = c} {k = k} {w = w} n f v o rest) h = walk_clean last rest (passed_clean c k w n f v h)
+  -- a watcher that a walk leaves behind is clean, where it was known before or is passed
+  left_behind : (last c : Option Key) (n : ℕ) (a : Arrival) → Walks objects t last c n a → (j : Key) (w : Watcher) → found j t ≡ Some w → is_short a j ≡ true → (above page_machine c j ≡ false → verdict objects w ≡ Ok clean) → verdict objects w ≡ Ok clean
+  left_behind last c n a d j w f short before = by_above (above page_machine c j) refl
+    where
+      by_above : (b : Bool) → above page_machine c j ≡ b → verdict objects w ≡ Ok clean
+      by_above true e = passed_by last d j w f e short
+      by_above false e = before e
 
-  pub came_clean : (known : Known) (last : Option Key) {c : Option Key} {n : ℕ} {a : Arrival} → Walks objects t last c n a → AreClean known c told objects t → AreClean (known_come a known) (key_at a) told objects t
-  came_clean knows.Nothing last d h = tt
-  came_clean knows.Below last d h = tt
-  came_clean knows.UpTo last d h = walk_clean last d h
-  came_clean knows.All last d h = h
+  come_clean_by : (f : Option Key) (b : Bool) (p : Passed) (last c : Option Key) (n : ℕ) (a : Arrival) → Walks objects t last c n a → AreCleanBy f b p c told objects t → AreClean (come_by p a (record { from = f; to_end = b; passed = p })) (key_at a) told objects t
+  come_clean_by f false Nothing last c n a d h = λ j is. absurd (true≢false (sym (both (above page_machine f j) false is).1))
+  come_clean_by f false Below last c n a d h = λ j is. absurd (true≢false (sym (both (above page_machine f j) false is).1))
+  come_clean_by f true Nothing last c n a d h = λ j is. h j is
+  come_clean_by f true Below last c n a d h = λ j is. by_side j (either (above page_machine f j) false is)
+    where
+      by_side : (j : Key) → (above page_machine f j ≡ true) ⊎ (false ≡ true) → IsCleanUnlessTold told objects t j
+      by_side j (inl over) = h j (or_left (above page_machine f j) (is_under c j) over)
+      by_side j (inr none) = absurd (true≢false (sym none))
+  come_clean_by f false UpTo last c n (behind_all x) d h = λ j is. by_side j (either (above page_machine f j) false is)
+    where
+      by_side : (j : Key) → (above page_machine f j ≡ true) ⊎ (false ≡ true) → IsCleanUnlessTold told objects t j
+      by_side j (inl over) untold w g = left_behind last c n (behind_all x) d j w g refl (λ e. h j (and_both (above page_machine f j) (not (above page_machine c j)) over (ap not e)) untold w g)
+      by_side j (inr none) untold w g = absurd (true≢false (sym none))
+  come_clean_by f true UpTo last c n (behind_all x) d h = λ j is untold w g. left_behind last c n (behind_all x) d j w g refl (λ e. h j (or_right (above page_machine f j) (not (above page_machine c j)) (ap not e)) untold w g)
+  come_clean_by f false UpTo last c n (at_watcher k r) d h = λ j is untold w g.
+      let two = both (above page_machine f j) (is_above j k) is in
+      left_behind last c n (at_watcher k r) d j w g two.1 (λ e. h j (and_both (above page_machine f j) (not (above page_machine c j)) two.0 (ap not e)) untold w g)
+  come_clean_by f true UpTo last c n (at_watcher k r) d h = λ j is. by_side j (either (above page_machine f j) (is_above j k) is)
+    where
+      by_side : (j : Key) → (above page_machine f j ≡ true) ⊎ (is_above j k ≡ true) → IsCleanUnlessTold told objects t j
+      by_side j (inl over) untold w g = h j (or_left (above page_machine f j) (not (above page_machine c j)) over) untold w g
+      by_side j (inr short) untold w g = left_behind last c n (at_watcher k r) d j w g short (λ e. h j (or_right (above page_machine f j) (not (above page_machine c j)) (ap not e)) untold w g)
 
 -- behind the last watcher it is the same for any cursor
-pub end_clean : (known : Known) (c x y : Option Key) (told : List Key) (objects : List Object) (t : Table) → AreClean (known_come (behind_all c) known) x told objects t → AreClean (known_come (behind_all c) known) y told objects t
-end_clean knows.Nothing c x y told objects t h = tt
-end_clean knows.Below c x y told objects t h = tt
-end_clean knows.UpTo c x y told objects t h = h
-end_clean knows.All c x y told objects t h = h
+end_by : (f : Option Key) (b : Bool) (p : Passed) (c x y : Option Key) (told : List Key) (objects : List Object) (t : Table) → AreClean (come_by p (behind_all c) (record { from = f; to_end = b; passed = p })) x told objects t → AreClean (come_by p (behind_all c) (record { from = f; to_end = b; passed = p })) y told objects t
+end_by f b Nothing c x y told objects t h = h
+end_by f b Below c x y told objects t h = h
+end_by f b UpTo c x y told objects t h = h
 
 pub came_at : (known next : Known) (told : List Key) (objects : List Object) (t : Table) → IsStrictlySortedBy key_cmp (keys_of t) → (last : Option Key) (p q : Standing Key) (n : ℕ) (a : Arrival)
     → next ≡ known_come a known → q ≡ came_to (key_at a) (passed n (last_at a) p) → Walks objects t last p.cursor n a → AreClean known p.cursor told objects t → AreClean next q.cursor told objects t
-came_at known next told objects t sorted last p q n (behind_all c) is step d h = subst (λ x. AreClean x q.cursor told objects t) (sym is) (end_clean known c None q.cursor told objects t (came_clean told objects t sorted known last d h))
+came_at known next told objects t sorted last p q n (behind_all c) is step d h =
+    subst (λ x. AreClean x q.cursor told objects t) (sym is)
+    (end_by known.from known.to_end known.passed c None q.cursor told objects t (come_clean_by told objects t sorted known.from known.to_end known.passed last p.cursor n (behind_all c) d h))
 came_at known next told objects t sorted last p q n (at_watcher k r) is step d h =
     subst (λ x. AreClean x q.cursor told objects t) (sym is)
-    (subst (λ o. AreClean (known_come (at_watcher k r) known) o told objects t) (sym (ap (λ x. x.cursor) step)) (came_clean told objects t sorted known last d h))
+    (subst (λ o. AreClean (known_come (at_watcher k r) known) o told objects t) (sym (ap (λ x. x.cursor) step)) (come_clean_by told objects t sorted known.from known.to_end known.passed last p.cursor n (at_watcher k r) d h))
 
 -- ---- a test
 
@@ -148,10 +190,7 @@ not_before ts us k still untold = by_told (is_told ts k) refl
 
 -- the more keys are told, the less is known
 more_told : (known : Known) (c : Option Key) (ts us : List Key) (objects : List Object) (t : Table) → ((k : Key) → is_told ts k ≡ true → is_told us k ≡ true) → AreClean known c ts objects t → AreClean known c us objects t
-more_told knows.Nothing c ts us objects t still h = tt
-more_told knows.Below c ts us objects t still h = λ k under untold. h k under (not_before ts us k (still k) untold)
-more_told knows.UpTo c ts us objects t still h = λ k over untold. h k over (not_before ts us k (still k) untold)
-more_told knows.All c ts us objects t still h = λ k untold. h k (not_before ts us k (still k) untold)
+more_told known c ts us objects t still h = λ k is untold. h k is (not_before ts us k (still k) untold)
 
 -- what is known of one state is known of one that tests see alike
 alike : (known : Known) (c : Option Key) (s u : State) → SeesAlike s u → KnownIn known c s → KnownIn known c u
@@ -172,20 +211,45 @@ abbrev IsHere : Option Key → State → Type 0
 IsHere None s = Unit {0}
 IsHere (Some k) s = is_told s.told k ≡ false → ForSome (found k s.works.watchers) (λ w. verdict s.works.core.objects w ≡ Ok clean)
 
--- it is clean with those below it
-here_too : (s : State) (c : Option Key) → IsHere c s → KnownIn knows.Below c s → KnownIn knows.UpTo c s
-here_too s None here h = λ j over. absurd (true≢false over)
-here_too s (Some k) here h = λ j over untold w g. by_place j untold w g (not_over k j over)
+-- it is known with the others
+under_or_here : (c : Option Key) (j : Key) → not (above page_machine c j) ≡ true → (is_under c j ≡ true) ⊎ (c ≡ Some j)
+under_or_here None j e = absurd (true≢false (sym e))
+under_or_here (Some k) j e = by_place (not_over k j (is_not (is_above k j) e))
   where
-    by_place : (j : Key) → is_told s.told j ≡ false → (w : Watcher) → found j s.works.watchers ≡ Some w → (k ≡ j) ⊎ (is_above j k ≡ true) → verdict s.works.core.objects w ≡ Ok clean
-    by_place j untold w g (inl same) = here (ap (is_told s.told) same ∙ untold) w (ap (λ y. found y s.works.watchers) same ∙ g)
-    by_place j untold w g (inr under) = h j under untold w g
+    by_place : (k ≡ j) ⊎ (is_above j k ≡ true) → (is_above j k ≡ true) ⊎ (Some k ≡ Some j)
+    by_place (inl same) = inr (ap (λ x. Some x) same)
+    by_place (inr under) = inl under
+
+here_by : (f : Option Key) (b : Bool) (p : Passed) (c : Option Key) (j : Key) → is_known (known_here (record { from = f; to_end = b; passed = p })) c j ≡ true → (is_known (record { from = f; to_end = b; passed = p }) c j ≡ true) ⊎ (c ≡ Some j)
+here_by f b Nothing c j is = inl is
+here_by f b UpTo c j is = inl is
+here_by f false Below c j is = by_place (under_or_here c j two.1)
+  where
+    two : (above page_machine f j ≡ true) × (not (above page_machine c j) ≡ true)
+    two = both (above page_machine f j) (not (above page_machine c j)) is
+
+    by_place : (is_under c j ≡ true) ⊎ (c ≡ Some j) → ((above page_machine f j && is_under c j) ≡ true) ⊎ (c ≡ Some j)
+    by_place (inl under) = inl (and_both (above page_machine f j) (is_under c j) two.0 under)
+    by_place (inr here) = inr here
+here_by f true Below c j is = by_side (either (above page_machine f j) (not (above page_machine c j)) is)
+  where
+    by_place : (is_under c j ≡ true) ⊎ (c ≡ Some j) → ((above page_machine f j || is_under c j) ≡ true) ⊎ (c ≡ Some j)
+    by_place (inl under) = inl (or_right (above page_machine f j) (is_under c j) under)
+    by_place (inr here) = inr here
+
+    by_side : (above page_machine f j ≡ true) ⊎ (not (above page_machine c j) ≡ true) → ((above page_machine f j || is_under c j) ≡ true) ⊎ (c ≡ Some j)
+    by_side (inl over) = inl (or_left (above page_machine f j) (is_under c j) over)
+    by_side (inr e) = by_place (under_or_here c j e)
+
+known_or_here : (known : Known) (c : Option Key) (j : Key) → is_known (known_here known) c j ≡ true → (is_known known c j ≡ true) ⊎ (c ≡ Some j)
+known_or_here known = here_by known.from known.to_end known.passed
 
 known_too : (known : Known) (s : State) (c : Option Key) → IsHere c s → KnownIn known c s → KnownIn (known_here known) c s
-known_too knows.Nothing s c here h = tt
-known_too knows.Below s c here h = here_too s c here h
-known_too knows.UpTo s c here h = h
-known_too knows.All s c here h = h
+known_too known s c here h = λ j is. by_place j (known_or_here known c j is)
+  where
+    by_place : (j : Key) → (is_known known c j ≡ true) ⊎ (c ≡ Some j) → IsCleanUnlessTold s.told s.works.core.objects s.works.watchers j
+    by_place j (inl is) = h j is
+    by_place j (inr at) = subst (λ o. IsHere o s) at here
 
 -- where it was found clean
 here_clean : (s : State) (c : Option Key) → verdict_at page_machine s c ≡ found_clean → IsHere c s
@@ -244,27 +308,18 @@ kept_from k o (x ∷ t) w e = by_key (is_key k x.0) refl e (kept_from k o t w)
         (r.0, ap (λ (b : Bool). cond b (Some x.1) (found k t)) is ∙ r.1, r.2)
 
 module _ (told : List Key) (s : link.State) (k : Key) (v : ViewTree) (plain : ForSome (found k s.watchers) (λ w. is_two_way w.watch.kind ≡ false)) (found_so : IsDirtyWith v s k) where
-  kept_clean : AreClean knows.Below (Some k) told s.core.objects s.watchers → AreClean knows.UpTo (Some k) told s.core.objects (with_kept k (Some v) s.watchers)
-  kept_clean h j over untold w g = by_place (not_over k j over)
+  kept_clean : (known : Known) → AreClean known (Some k) told s.core.objects s.watchers → AreClean (known_here known) (Some k) told s.core.objects (with_kept k (Some v) s.watchers)
+  kept_clean known h j is untold w g = by_key (is_key k j) refl (known_or_here known (Some k) j is)
     where
-      by_place : (k ≡ j) ⊎ (is_above j k ≡ true) → verdict s.core.objects w ≡ Ok clean
-      by_place (inl same) =
+      is_kept : k ≡ j → verdict s.core.objects w ≡ Ok clean
+      is_kept same =
           let r = kept_from k (Some v) s.watchers w (ap (λ y. found y (with_kept k (Some v) s.watchers)) same ∙ g) in
           subst (λ y. verdict s.core.objects y ≡ Ok clean) r.2 (kept_is_clean s.core.objects r.0 v (plain r.0 r.1) (found_so r.0 r.1))
-      by_place (inr under) = h j under untold w (sym (kept-other k j (Some v) s.watchers (λ same. not_itself k (subst (λ y. is_above y k ≡ true) same under))) ∙ g)
 
-  pub clean_fired : (u : link.State) → u ≡ keeping_at k v s → AreClean knows.Below (Some k) told s.core.objects s.watchers → AreClean knows.UpTo (Some k) told u.core.objects u.watchers
-  clean_fired u e h = subst (λ (x : link.State). AreClean knows.UpTo (Some k) told x.core.objects x.watchers) (sym e) (kept_clean h)
+      by_key : (b : Bool) → is_key k j ≡ b → (is_known known (Some k) j ≡ true) ⊎ (Some k ≡ Some j) → verdict s.core.objects w ≡ Ok clean
+      by_key true e x = is_kept (key_is k j e)
+      by_key false e (inl x) = h j x untold w (sym (kept-other k j (Some v) s.watchers (λ same. true≢false (sym (is_itself k) ∙ subst (λ y. is_key k y ≡ false) same e))) ∙ g)
+      by_key false e (inr at) = let same : k ≡ j = cc in is_kept same
 
--- what is known after a fire
-pub clean_after : (known next : Known) (quiet : Bool) (c : Option Key) (ts us : List Key) (s u : link.State) → next ≡ known_fired quiet known
-    → (quiet ≡ true → AreClean knows.Below c ts s.core.objects s.watchers → AreClean knows.UpTo c us u.core.objects u.watchers)
-    → AreClean known c ts s.core.objects s.watchers → AreClean next c us u.core.objects u.watchers
-clean_after known next quiet c ts us s u is law h = subst (λ x. AreClean x c us u.core.objects u.watchers) (sym is) (by_fire quiet known law h)
-  where
-    by_fire : (b : Bool) (x : Known) → (b ≡ true → AreClean knows.Below c ts s.core.objects s.watchers → AreClean knows.UpTo c us u.core.objects u.watchers) → AreClean x c ts s.core.objects s.watchers → AreClean (known_fired b x) c us u.core.objects u.watchers
-    by_fire true knows.Nothing f h = tt
-    by_fire true knows.Below f h = f refl h
-    by_fire true knows.UpTo f h = tt
-    by_fire true knows.All f h = tt
-    by_fire false x f h = tt
+  pub clean_fired : (known : Known) (u : link.State) → u ≡ keeping_at k v s → AreClean known (Some k) told s.core.objects s.watchers → AreClean (known_here known) (Some k) told u.core.objects u.watchers
+  clean_fired known u e h = subst (λ (x : link.State). AreClean (known_here known) (Some k) told x.core.objects x.watchers) (sym e) (kept_clean known h)

@@ -12,10 +12,10 @@ ghost use Rattle.ng_commands.specs.BetweenSteps.{WorksAre, PageIs};
 ghost use Rattle.ng_page.specs.PlaceOf.{state_of, place_of};
 ghost use Rattle.ng_commands.specs.Settled.{IsSettled};
 ghost use Rattle.ng_page.specs.Steps.{Ends, EndsShort};
-ghost use Rattle.ng_page.specs.declared.known.Known.TheVariants.{Nothing};
+ghost use Rattle.ng_page.specs.KnownClean.{nothing_known};
 
 use crate::engine::Engine;
-use crate::known::Known;
+use crate::known::nothing;
 use crate::outcome::Outcome;
 use ng_base::fault::Memory;
 use ng_base::lists::Words;
@@ -42,7 +42,7 @@ impl Engine {
             probed: Words::new(alloc),
             ahead: Ok(Verdict::Clean),
             pending: None,
-            known: Known::Nothing,
+            known: nothing(),
             progress: Progress::new(),
         }
     }
@@ -51,14 +51,14 @@ impl Engine {
     fn ready(&mut self)
         ensures place { place_of self.new ≡ ready_place (link.state_of self.old.works) }
         ensures works { WorksAre self.old.works → WorksAre self.new.works }
-        ensures known { self.new.known ≡ Nothing }
+        ensures known { self.new.known ≡ nothing_known }
     {
         self.told.clear();
         self.faulted.clear();
         self.probed = Words::new(self.alloc);
         self.works.forget_faults();
         self.pending = None;
-        self.known = Known::Nothing;
+        self.known = nothing();
         self.progress = Progress::new();
     }
 

@@ -1,20 +1,22 @@
 //! Walks over watchers: one tests each; the other passes those that are known to be clean as a walk over clean ones does, and tests only those whose
 //! fault was told.
-ghost use Rattle.std.specs.Prelude.{◌≡◌, ◌<◌, false, Ok, Some, Option, IfOk, option_copied};
+ghost use Rattle.std.specs.Prelude.{◌≡◌, ◌<◌, ℕ, true, false, Ok, Some, Option, IfOk, option_copied};
 ghost use Rattle.ng_base.specs.declared.path.Key.{Key as Name};
 ghost use Rattle.ng_digest.specs.Laws.{InOrder};
+ghost use Rattle.ng_digest.specs.Machine.{above};
 ghost use Rattle.ng_link.specs.State as link;
 ghost use Rattle.ng_commands.specs.BetweenSteps.{WorksAre};
-ghost use Rattle.ng_page.specs.KnownClean.{IsCleanUnlessTold};
+ghost use Rattle.ng_page.specs.KnownClean.{IsCleanUnlessTold, is_between};
 ghost use Rattle.ng_page.specs.PageMachine.{page_machine};
 ghost use Rattle.ng_page.specs.PlaceOf.{state_of};
 ghost use Rattle.ng_watch.specs.Keys.{is_key};
 ghost use Rattle.ng_watch.specs.Table.{watchers_of};
 ghost use Rattle.ng_watch.specs.Verdicts.{clean};
-ghost use Rattle.ng_watch.specs.Walks.{Walks, next_of, reached_of, ends_at, behind_all, at_watcher};
+ghost use Rattle.ng_watch.specs.Walks.{Arrival, Walks, next_of, reached_of, ends_at, behind_all, at_watcher};
 
 use crate::engine::Engine;
-use crate::testing::copied;
+use crate::known::is_ahead;
+use crate::testing::{copied, copied_if_any};
 use ng_base::fault::Memory;
 use ng_base::path::Key;
 use ng_watch::walking::{Reached, Walk};
@@ -75,10 +77,7 @@ fn is_end(passed: u64, count: u64, last: Option<&Key>, key: &Key) -> bool
 fn ended(passed: u64, cursor: Option<&Key>) -> Result<Walk, Memory>
     ensures { IfOk result (λ w. (w.passed ≡ passed) × (reached_of w.reached ≡ behind_all (option_copied cursor.entry))) }
 {
-    let last = match cursor {
-        None => None,
-        Some(key) => Some(copied(key)?),
-    };
+    let last = copied_if_any(cursor)?;
     Ok(Walk {
         passed,
         reached: Reached::End(last),
@@ -114,10 +113,43 @@ fn arrived_told<'a>(
     })
 }
 
-/// A walk from the cursor upwards, at most up to a key, where all watchers are clean but for those that were told.
+/// Whether a walk from the cursor upwards comes to a key before it comes to another one.
+fn comes_first(cursor: Option<&Key>, last: Option<&Key>, key: &Key) -> bool
+    ensures { result ≡ is_between (option_copied cursor.entry) (option_copied last.entry) key.now }
+{
+    match last {
+        None => false,
+        Some(last) => is_ahead(cursor, last) && last.cmp(key).is_lt(),
+    }
+}
+
+/// Where a walk that tests is to end, at a key or before: above a bound it tests one watcher at most.
+pub(crate) fn first_end<'a>(
+    engine: &'a Engine,
+    bound: &Key,
+    last: Option<&'a Key>,
+) -> Option<&'a Key>
+    requires { above page_machine engine.now.progress.cursor bound.now ≡ true }
+    ensures { (n : ℕ) (a : Arrival) → Walks (link.state_of engine.now.works).core.objects (link.state_of engine.now.works).watchers (option_copied result) engine.now.progress.cursor n a → Walks (link.state_of engine.now.works).core.objects (link.state_of engine.now.works).watchers (option_copied last.entry) engine.now.progress.cursor n a }
+{
+    let watchers = engine.works.watchers();
+    let _in_order = watchers.count();
+    match watchers.next_after(bound) {
+        None => last,
+        Some(next) => {
+            if comes_first(engine.progress.cursor(), last, next) {
+                last
+            } else {
+                Some(next)
+            }
+        }
+    }
+}
+
+/// A walk from the cursor upwards, at most up to a key, where all watchers above the cursor are clean but for those that were told.
 pub(crate) fn pass_over(engine: &Engine, last: Option<&Key>) -> Result<Walk, Memory>
     requires works { WorksAre engine.now.works }
-    requires known { (k : Name) → IsCleanUnlessTold engine.now.told.keys (link.state_of engine.now.works).core.objects (link.state_of engine.now.works).watchers k }
+    requires known { (k : Name) → above page_machine engine.now.progress.cursor k ≡ true → IsCleanUnlessTold engine.now.told.keys (link.state_of engine.now.works).core.objects (link.state_of engine.now.works).watchers k }
     ensures sorted { InOrder page_machine (state_of engine.now) }
     ensures way { IfOk result (λ w. Walks (link.state_of engine.now.works).core.objects (link.state_of engine.now.works).watchers (option_copied last.entry) engine.now.progress.cursor w.passed (reached_of w.reached)) }
 {

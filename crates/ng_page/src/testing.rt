@@ -1,5 +1,5 @@
 //! What a test and a fire of a watcher do.
-ghost use Rattle.std.specs.Prelude.{◌≡◌, ℕ, List, IsSome, OnOk, IfOk, Err, true, false, is_some, option_map};
+ghost use Rattle.std.specs.Prelude.{◌≡◌, ℕ, List, IsSome, OnOk, IfOk, Err, true, false, is_some, option_copied, option_map};
 ghost use Rattle.std.specs.Option.{ForSome};
 ghost use Rattle.ng_base.specs.declared.path.Key.{Key as Name};
 ghost use Rattle.ng_fire.specs.Fires.{fired, fire_adds, IsDirtyWith};
@@ -35,6 +35,16 @@ pub(crate) fn copied(key: &Key) -> Result<Key, AllocError>
         path: key.path.copied()?,
         serial: key.serial,
     })
+}
+
+/// A copy of a key, where there is one.
+pub(crate) fn copied_if_any(key: Option<&Key>) -> Result<Option<Key>, AllocError>
+    ensures { IfOk result (λ k. k ≡ option_copied key.entry) }
+{
+    match key {
+        None => Ok(None),
+        Some(key) => Ok(Some(copied(key)?)),
+    }
 }
 
 /// The cursor comes to where a walk ended, and what the walk found there is at hand. False where it came to no watcher.
@@ -110,7 +120,7 @@ pub(crate) fn hand_on(
     }
 }
 
-/// What a fire came to: whether it added a watcher, and whether it was quiet, where that was asked.
+/// What a fire came to: whether it added a watcher, and whether it was quiet.
 #[derive(Clone, Copy, Debug, PartialEq, Eq)]
 pub(crate) struct Ended {
     pub(crate) added: bool,
@@ -136,14 +146,13 @@ fn is_two_way(watch: &Watch) -> bool
 }
 
 /// Fires the watcher of a key: it keeps the snapshot that its test handed on, and then it fires. A fire that faulted is
-/// remembered. Whether it was quiet is told only where it is asked.
+/// remembered.
 pub(crate) fn fire(
     alloc: Global,
     works: &mut Works,
     faulted: &mut BTreeSet<Key>,
     key: &Key,
     snapshot: Snap,
-    asked: bool,
 ) -> Result<Ended, Memory>
     requires works { WorksAre works.old }
     requires there { IsSome (found key.now (state_of works.old).watchers) }
@@ -153,7 +162,7 @@ pub(crate) fn fire(
     ensures quiet { IfOk result (λ e. e.quiet ≡ true → (state_of works.new ≡ keeping_at key.now (snap_of snapshot) (state_of works.old)) × ForSome (found key.now (state_of works.old).watchers) (λ w. is_two_way w.watch.kind ≡ false)) }
     ensures works { OnOk result (WorksAre works.new) }
 {
-    let plain = asked && !is_two_way(works.watchers().watch(key));
+    let plain = !is_two_way(works.watchers().watch(key));
     let fired = firing::fire(works, alloc, key, snapshot)?;
     if fired.followed.faulted {
         faulted.insert(copied(key)?)?;

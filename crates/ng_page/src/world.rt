@@ -8,14 +8,13 @@ ghost use Rattle.ng_value.specs.Snaps.{snap_of};
 ghost use Rattle.ng_watch.specs.Walks.{Walks, next_of, reached_of};
 ghost use Rattle.ng_commands.specs.BetweenSteps.{WorksAre};
 ghost use Rattle.ng_page.specs.PlaceOf.{engine_moves, state_of, IsAtWatcher, judged_at, seen_found, handed_on_from, OnDirty};
-ghost use Rattle.ng_page.specs.KnownClean.{AreClean};
+ghost use Rattle.ng_page.specs.KnownClean.{AreClean, known_here};
 ghost use Rattle.ng_page.specs.PageLaws.{page_laws};
 ghost use Rattle.ng_page.specs.PageMachine.{page_machine};
-ghost use Rattle.ng_page.specs.declared.known.Known.TheVariants.{Below, UpTo};
 
 use crate::engine::Engine;
-use crate::known::{Known, asks_for_quiet, on_fire, on_round, on_test, on_walk};
-use crate::passing::{key_from, pass_over, walk_tested};
+use crate::known::{bound_ahead, on_fire, on_program, on_round, on_test, on_walk};
+use crate::passing::{first_end, key_from, pass_over, walk_tested};
 use crate::testing::{self, Ended};
 use ng_base::fault::{Fault, Memory};
 use ng_base::path::Key;
@@ -28,19 +27,21 @@ use ng_watch::walking::Walk;
 use ng_watch::watch::Verdict;
 use std::mem::replace;
 
-/// A walk over clean watchers from the cursor upwards, at most up to a key. Where all are known to be clean only those that were told
-/// are tested.
-fn walk_to(engine: &Engine, last: Option<&Key>) -> Result<Walk, Memory>
+/// A walk over clean watchers from the cursor upwards, at most up to a key. Where all above the cursor are known to be clean only those that
+/// were told are tested, and where all above another key are, those up to it.
+fn walk_to<'a>(engine: &'a Engine, last: Option<&'a Key>) -> Result<Walk, Memory>
     requires works { WorksAre engine.now.works }
     requires known { AreClean engine.now.known engine.now.progress.cursor engine.now.told.keys (link.state_of engine.now.works).core.objects (link.state_of engine.now.works).watchers }
     ensures way { IfOk result (λ w. Walks (link.state_of engine.now.works).core.objects (link.state_of engine.now.works).watchers (option_copied last.entry) engine.now.progress.cursor w.passed (reached_of w.reached)) }
     ensures sorted { InOrder page_machine (state_of engine.now) }
 {
-    match engine.known {
-        Known::All => pass_over(engine, last),
-        Known::Nothing | Known::Below | Known::UpTo => {
-            walk_tested(engine, engine.progress.cursor(), last)
-        }
+    let cursor = engine.progress.cursor();
+    if !engine.known.to_end {
+        return walk_tested(engine, cursor, last);
+    }
+    match bound_ahead(&engine.known, cursor) {
+        None => pass_over(engine, last),
+        Some(bound) => walk_tested(engine, cursor, first_end(engine, bound, last)),
     }
 }
 
@@ -96,7 +97,7 @@ fn fire_at(engine: &mut Engine, pending: Option<Snap>) -> Result<Ended, Memory>
     requires pending { option_map snap_of pending ≡ handed_on_from (state_of engine.old) engine.old.progress.cursor }
     ensures state { OnOk result (state_of engine.new ≡ fired_at page_machine (state_of engine.old) engine.old.progress.cursor) }
     ensures added { IfOk result (λ e. e.added ≡ adds_at page_machine (state_of engine.old) engine.old.progress.cursor) }
-    ensures quiet { IfOk result (λ e. e.quiet ≡ true → AreClean Below engine.old.progress.cursor engine.old.told.keys (link.state_of engine.old.works).core.objects (link.state_of engine.old.works).watchers → AreClean UpTo engine.old.progress.cursor engine.new.told.keys (link.state_of engine.new.works).core.objects (link.state_of engine.new.works).watchers) }
+    ensures quiet { IfOk result (λ e. e.quiet ≡ true → AreClean engine.old.known engine.old.progress.cursor engine.old.told.keys (link.state_of engine.old.works).core.objects (link.state_of engine.old.works).watchers → AreClean (known_here engine.old.known) engine.old.progress.cursor engine.new.told.keys (link.state_of engine.new.works).core.objects (link.state_of engine.new.works).watchers) }
     ensures known { engine.new.known ≡ engine.old.known }
     ensures progress { engine.new.progress ≡ engine.old.progress }
     ensures works { OnOk result (WorksAre engine.new.works) }
@@ -111,7 +112,6 @@ fn fire_at(engine: &mut Engine, pending: Option<Snap>) -> Result<Ended, Memory>
                 &mut engine.faulted,
                 key,
                 snapshot,
-                asks_for_quiet(engine.known),
             ),
         },
     }
@@ -125,7 +125,7 @@ impl World for Engine {
 
     fn start_round(&mut self) {
         self.progress.begin_round();
-        self.known = on_round(self.known);
+        on_round(&mut self.known);
     }
 
     fn waits(&self) -> bool {
@@ -134,20 +134,20 @@ impl World for Engine {
 
     fn task(&mut self) -> Result<bool, Memory> {
         let ran = run_task(&mut self.works, self.alloc)?;
-        self.known = Known::Nothing;
+        self.known = on_program(self.progress.cursor())?;
         self.progress.after_task(ran);
         Ok(ran)
     }
 
     fn next_after(&mut self) -> Result<bool, Memory> {
         let walk = step_on(self)?;
-        self.known = on_walk(self.known, &walk.reached);
+        on_walk(&mut self.known, &walk.reached);
         Ok(testing::arrive(&mut self.progress, &mut self.ahead, walk))
     }
 
     fn advance(&mut self) -> Result<bool, Memory> {
         let walk = walk_on(self)?;
-        self.known = on_walk(self.known, &walk.reached);
+        on_walk(&mut self.known, &walk.reached);
         Ok(testing::arrive(&mut self.progress, &mut self.ahead, walk))
     }
 
@@ -159,7 +159,7 @@ impl World for Engine {
         let same = self.last_dirty();
         let found = replace(&mut self.ahead, Ok(Verdict::Clean));
         let tested = test_at(self, found);
-        self.known = on_test(self.known, tested);
+        on_test(&mut self.known, tested);
         self.progress.after_test(tested, same);
         tested
     }
@@ -167,7 +167,7 @@ impl World for Engine {
     fn fire(&mut self) -> Result<(), Memory> {
         let pending = self.pending.take();
         let fired = fire_at(self, pending)?;
-        self.known = on_fire(self.known, fired.quiet);
+        on_fire(&mut self.known, fired.quiet, self.progress.cursor())?;
         self.progress.after_fire(fired.added);
         Ok(())
     }

@@ -12,6 +12,7 @@ use Rattle.ng_watch.specs.Walks.{Walks, behind_all, at_watcher, came_to_end, nex
 use Rattle.ng_watch.specs.declared.walking.Walk.{Walk}
 use Rattle.ng_watch.specs.declared.watched.Watched.{Watched}
 use Rattle.ng_watch.proofs.Stepping.{ends_here, goes_behind}
+use Rattle.ng_page.proofs.Nearest.{next_over, over_next}
 use Rattle.ng_page.proofs.PassOver.{comes, goes_on}
 use Rattle.ng_page.proofs.passing.pass_over.Goals as goal
 
@@ -49,7 +50,7 @@ returns-then-is_end-clause-way c =
     let next : next_of at s.watchers ≡ Some k = ap (λ (rows : List (Key × Watched)). next_of at (watchers_of rows)) (sym c.watchers-watchers.ensures) ∙ sym c.in-Some.ensures in
     IfOk-weaker c.arrived.result (λ (w : Walk). (w.passed ≡ c.keys.passed) × (reached_of w.reached ≡ at_watcher k (Ok clean)))
     (λ (w : Walk). Walks s.core.objects s.watchers (option_copied c.args.last) e.progress.cursor w.passed (reached_of w.reached))
-    (λ w is. ends_here s.core.objects s.watchers (option_copied c.args.last) e.progress.cursor at c.keys.passed c.keys.invariant.so_far (at_watcher k (Ok clean)) (comes s.core.objects s.watchers (option_copied c.args.last) at k (c.requires.known k (sym c.contains.ensures ∙ c.if-contains.false)) next) w.passed (reached_of w.reached) is.0 is.1)
+    (λ w is. ends_here s.core.objects s.watchers (option_copied c.args.last) e.progress.cursor at c.keys.passed c.keys.invariant.so_far (at_watcher k (Ok clean)) (comes s.core.objects s.watchers (option_copied c.args.last) at k (c.requires.known k (c.keys.invariant.ahead k (next_over s.watchers at k next)) (sym c.contains.ensures ∙ c.if-contains.false)) next) w.passed (reached_of w.reached) is.0 is.1)
     c.arrived.ensures
 
 pub keys-preserved : goal.keys-preserved
@@ -62,8 +63,9 @@ keys-preserved c =
     let room = c.is_end.ensures.room c.if-is_end.false in
     record {
       few = omega (arith, room);
+      ahead = λ j over. c.keys.invariant.ahead j (over_next s.watchers at k next j over);
       so_far = goes_behind s.core.objects s.watchers (option_copied c.args.last) e.progress.cursor at c.keys.passed c.keys.invariant.so_far k
-          (goes_on s.core.objects s.watchers (option_copied c.args.last) at k (c.requires.known k (sym c.contains.ensures ∙ c.if-contains.false)) next (c.is_end.ensures.other c.if-is_end.false));
+          (goes_on s.core.objects s.watchers (option_copied c.args.last) at k (c.requires.known k (c.keys.invariant.ahead k (next_over s.watchers at k next)) (sym c.contains.ensures ∙ c.if-contains.false)) next (c.is_end.ensures.other c.if-is_end.false));
     }
 
 pub returns-in-None-clause-sorted : goal.returns-in-None-clause-sorted

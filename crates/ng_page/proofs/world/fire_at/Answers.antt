@@ -12,8 +12,7 @@ use Rattle.ng_link.specs.Calls.{keeping_at}
 use Rattle.ng_link.specs.State as link
 use Rattle.ng_watch.specs.Laws.{is_two_way}
 use Rattle.ng_watch.specs.Table.{found}
-use Rattle.ng_page.specs.KnownClean.{AreClean}
-use Rattle.ng_page.specs.declared.known.Known.TheVariants as knows
+use Rattle.ng_page.specs.KnownClean.{AreClean, known_here}
 use Rattle.ng_page.specs.declared.testing.Ended.{Ended}
 use Rattle.ng_page.proofs.Stages.{fired_on}
 use Rattle.ng_page.proofs.StaysClean.{clean_fired, dirty_from}
@@ -39,9 +38,9 @@ returns-in-Some-pending-clause-quiet c =
     let pre : Some v ≡ handed_on_at (state_of e) k =
     ap (option_map snap_of) (sym c.in-Some-pending.is) ∙ (c.requires.pending ∙ ap (handed_on_from (state_of e)) (sym c.in-Some.ensures)) in
     IfOk-weaker c.fire.result (λ (x : Ended). x.quiet ≡ true → (u ≡ keeping_at k v s) × ForSome (found k s.watchers) (λ w. is_two_way w.watch.kind ≡ false))
-    (λ (x : Ended). x.quiet ≡ true → AreClean knows.Below e.progress.cursor e.told.keys s.core.objects s.watchers → AreClean knows.UpTo e.progress.cursor e.told.keys u.core.objects u.watchers)
-    (λ x h q below.
+    (λ (x : Ended). x.quiet ≡ true → AreClean e.known e.progress.cursor e.told.keys s.core.objects s.watchers → AreClean (known_here e.known) e.progress.cursor e.told.keys u.core.objects u.watchers)
+    (λ x h q before.
     let two = h q in
-    subst (λ (o : Option Key). AreClean knows.UpTo o e.told.keys u.core.objects u.watchers) c.in-Some.ensures
-    (clean_fired e.told.keys s k v two.1 (dirty_from (state_of e) k v pre) u two.0 (subst (λ (o : Option Key). AreClean knows.Below o e.told.keys s.core.objects s.watchers) (sym c.in-Some.ensures) below)))
+    subst (λ (o : Option Key). AreClean (known_here e.known) o e.told.keys u.core.objects u.watchers) c.in-Some.ensures
+    (clean_fired e.told.keys s k v two.1 (dirty_from (state_of e) k v pre) e.known u two.0 (subst (λ (o : Option Key). AreClean e.known o e.told.keys s.core.objects s.watchers) (sym c.in-Some.ensures) before)))
     c.fire.ensures.quiet

@@ -27,6 +27,6 @@ returns-clause-holds c =
     let e = c.args.self.now in
     let s = link.state_of e.works in
     let w = c.in_ok-walk.walk in
-    holds_came e c.arrive.new.progress c.arrive.new.ahead c.on_walk-self.result w.passed (reached_of w.reached) c.requires.holds.works c.arrive.ensures.step c.arrive.ensures.ahead
+    holds_came e c.arrive.new.progress c.arrive.new.ahead c.on_walk.new.known w.passed (reached_of w.reached) c.requires.holds.works c.arrive.ensures.step c.arrive.ensures.ahead
     (walk_reaches s.core.objects s.watchers (next_of e.progress.cursor s.watchers) c.in_ok-walk.ensures.way)
-    (came_at e.known c.on_walk-self.result e.told.keys s.core.objects s.watchers c.step_on.ensures.sorted (next_of e.progress.cursor s.watchers) e.progress c.arrive.new.progress w.passed (reached_of w.reached) c.on_walk-self.ensures c.arrive.ensures.step c.in_ok-walk.ensures.way c.requires.holds.known)
+    (came_at e.known c.on_walk.new.known e.told.keys s.core.objects s.watchers c.step_on.ensures.sorted (next_of e.progress.cursor s.watchers) e.progress c.arrive.new.progress w.passed (reached_of w.reached) c.on_walk.ensures c.arrive.ensures.step c.in_ok-walk.ensures.way c.requires.holds.known)
