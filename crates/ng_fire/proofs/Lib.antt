@@ -13,3 +13,6 @@ pub mod MadeItems
 pub mod PlanFound
 pub mod NewRows
 pub mod RowsStay
+pub mod Parts
+pub mod RowsKept
+pub mod RowsLeft

@@ -54,7 +54,7 @@ spot_stays all now old new s same keeps h = record {
 
 -- ---- a row goes
 
-outlet_gone : (p : List ℕ) (o : ℕ) (os : List OutletState) → slice_get (body_gone p os) o ≡ option_map (without_body p) (slice_get os o)
+pub outlet_gone : (p : List ℕ) (o : ℕ) (os : List OutletState) → slice_get (body_gone p os) o ≡ option_map (without_body p) (slice_get os o)
 outlet_gone p o [] = refl
 outlet_gone p zero (x ∷ os) = refl
 outlet_gone p (suc o) (x ∷ os) = outlet_gone p o os

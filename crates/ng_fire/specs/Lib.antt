@@ -6,3 +6,4 @@ pub mod FireOf
 pub mod Fires
 pub mod Serving
 pub mod Bindings
+pub mod RowsInOrder

@@ -7,8 +7,8 @@
 //! The contract that the crate above uses: each call leaves the state that its definition in `specs/` says, want of memory
 //! alone apart, and `IsWhole` holds of the works after it as before (`specs/Fires.antt`, `Blocks.antt`, `Repeats.antt`, `Bindings.antt`).
 //!
-//! In reading order: `repeats` has the fire of a repeat's site, `blocks` that of every block's, `bound_fires` that of a binding's, and
-//! `firing` every fire.
+//! In reading order: `ordering` tells whether the rows of a repeat stand as its entries do, `repeats` has the fire of a repeat's site, `blocks`
+//! that of every block's, `bound_fires` that of a binding's, and `firing` every fire.
 //!
 //! Not here: which watcher is tested when (ng_digest, ng_page), what a program does (ng_act), what it leaves (ng_changes), which rows and bodies
 //! a value calls for (ng_rows), how a body is linked (ng_steps), and how nodes and watchers hang together (ng_link).
@@ -17,4 +17,5 @@
 mod blocks;
 mod bound_fires;
 pub mod firing;
+mod ordering;
 mod repeats;

@@ -1,5 +1,5 @@
 //! The fire of a repeat's site: rows go, are kept, and are made (API: ngRepeat).
-ghost use Rattle.std.specs.Prelude.{ℕ, ◌≡◌, ◌<◌, ◌≤◌, ◌+◌, length, map, slice_get, false, Ok, IfOk, OnOk};
+ghost use Rattle.std.specs.Prelude.{ℕ, ◌≡◌, ◌<◌, ◌≤◌, ◌+◌, length, map, slice_get, false, true, Ok, IfOk, OnOk};
 ghost use Rattle.ng_base.specs.Objects.{StandsAmong};
 ghost use Rattle.ng_base.specs.ViewOf.{view_of};
 ghost use Rattle.ng_blocks.specs.Plans.{planned, has_double as has_double_of};
@@ -9,14 +9,17 @@ ghost use Rattle.ng_fire.specs.FireOf.{firing};
 ghost use Rattle.ng_rows.specs.RepeatRows.{keys_of, kept_rows as kept_rows_of, role_for as role_for_row, rows_from as rows_from_all, row_names};
 ghost use Rattle.ng_fire.specs.Repeats.{all_ended, bodies_at, body_at, by_items, by_keys, filled_to, repeat_fired, row_fired, rows_at, rows_changed, rows_fired, rows_taken};
 ghost use Rattle.ng_rows.specs.RepeatsOf.{row_of, rows_of, AreNames, RowsOfStand};
+ghost use Rattle.ng_fire.specs.RowsInOrder.{in_order, IsPart};
 ghost use Rattle.ng_fire.specs.RowsKnown.{AreRowsAt, HaveGone, IsSpot, KeptOrGone};
 ghost use Rattle.ng_fire.specs.Serving.{BodiesStay, Keeps, OthersStay, RestStays};
 ghost use Rattle.ng_rows.specs.TrackingOf.{item_of, items_of, ItemsStand};
 ghost use Rattle.ng_changes.specs.Whole.{IsWhole};
 ghost use Rattle.ng_language.specs.Views.{ViewStands};
 ghost use Rattle.ng_instances.specs.Changing.{in_outlet};
-ghost use Rattle.ng_link.specs.Calls.{with_core};
+ghost use Rattle.ng_link.specs.Arranging.{IsRearranged};
+ghost use Rattle.ng_link.specs.Calls.{arranged_at, with_core};
 ghost use Rattle.ng_link.specs.Events.{scope_in};
+ghost use Rattle.ng_link.specs.Standing.{IsStanding};
 ghost use Rattle.ng_instances.specs.Instances.{linked_at};
 ghost use Rattle.ng_instances.specs.PlaceOf.{place_of as place_of_code};
 ghost use Rattle.ng_instances.specs.InstanceOf.{body_of};
@@ -24,8 +27,9 @@ ghost use Rattle.ng_link.specs.State.{state_of, templates_of};
 ghost use Rattle.ng_parts.specs.RepeatedOf.{repeated_of};
 
 use crate::blocks::{end_body, fault, link_body};
+use crate::ordering::are_in_order;
 use ng_base::fault::{Fault, Memory};
-use ng_base::lists::Numbers;
+use ng_base::lists::Sources;
 use ng_base::name::ScopeId;
 use ng_base::path::Path;
 use ng_base::view::View;
@@ -288,6 +292,29 @@ fn fire_rows(
     Ok(())
 }
 
+/// The rows that are kept are put in the order of their entries, unless they stand so already.
+fn arrange_rows(
+    works: &mut Works,
+    alloc: Global,
+    spot: &Spot<'_>,
+    bodies: &[SharedBody],
+    sources: &Sources,
+    rows: &[Row<'_>],
+) -> Result<(), Memory>
+    requires stands { IsStanding works.old }
+    requires same { IsRearranged (kept_rows_of (rows_of rows.now)) spot.now.outlet spot.now.holder.now (state_of works.old).instances }
+    requires order { in_order (map body_of bodies.now) 0 (rows_of rows.now) sources.now ≡ true → rows_at spot.now.holder.now spot.now.outlet (state_of works.old).instances ≡ kept_rows_of (rows_of rows.now) }
+    ensures state { OnOk result (state_of works.new ≡ arranged_at spot.now.holder.now spot.now.outlet (kept_rows_of (rows_of rows.now)) (state_of works.old)) }
+    ensures stands { OnOk result (IsStanding works.new) }
+    ensures core { works.new.core ≡ works.old.core }
+    ensures templates { templates_of works.new ≡ templates_of works.old }
+{
+    if are_in_order(bodies, sources, rows) {
+        return Ok(());
+    }
+    works.arrange(spot.holder, spot.outlet, kept_rows(alloc, rows)?)
+}
+
 /// Rows go, are kept in the order of their entries, and are made. Those that are kept keep their scopes and their nodes.
 fn change_rows(
     works: &mut Works,
@@ -295,7 +322,7 @@ fn change_rows(
     spot: &Spot<'_>,
     repeated: &Repeated,
     bodies: &[SharedBody],
-    gone: &Numbers,
+    plan: &Plan,
     rows: &[Row<'_>],
     told: &mut Followed,
 ) -> Result<(), Memory>
@@ -303,8 +330,9 @@ fn change_rows(
     requires spot { IsSpot (templates_of works.old) (state_of works.old).instances spot.now }
     requires rows { RowsOfStand (length works.old.core.store) (rows_of rows.now) }
     requires stand { rows_at spot.now.holder.now spot.now.outlet (state_of works.old).instances ≡ map body_of bodies.now }
-    requires all { KeptOrGone (map body_of bodies.now) gone.now (rows_of rows.now) }
-    ensures fired { OnOk result (firing works.new told.new ≡ rows_changed spot.now.holder.now spot.now.scope.0 (map (λ s. s.0) spot.now.outsides.now) spot.now.outlet spot.now.origin (repeated_of repeated.now) (bodies_at (map body_of bodies.now) gone.now) (rows_of rows.now) (firing works.old told.old)) }
+    requires all { KeptOrGone (map body_of bodies.now) plan.now.gone (rows_of rows.now) }
+    requires order { in_order (map body_of bodies.now) 0 (rows_of rows.now) plan.now.from ≡ true → IsPart (kept_rows_of (rows_of rows.now)) (map body_of bodies.now) }
+    ensures fired { OnOk result (firing works.new told.new ≡ rows_changed spot.now.holder.now spot.now.scope.0 (map (λ s. s.0) spot.now.outsides.now) spot.now.outlet spot.now.origin (repeated_of repeated.now) (bodies_at (map body_of bodies.now) plan.now.gone) (rows_of rows.now) (firing works.old told.old)) }
     ensures keeps { OnOk result (Keeps spot.now.holder.now (state_of works.old).instances (state_of works.new).instances) }
     ensures kept { OnOk result (BodiesStay (kept_rows_of (rows_of rows.now)) (state_of works.old).instances (state_of works.new).instances) }
     ensures grown { OnOk result (length works.old.core.store ≤ length works.new.core.store) }
@@ -312,9 +340,9 @@ fn change_rows(
     ensures templates { templates_of works.new ≡ templates_of works.old }
 {
     let ground = ground_for(alloc, repeated, rows.len())?;
-    end_rows(works, alloc, bodies, gone.as_slice(), told)?;
-    take_rows(works, spot, bodies, gone.as_slice())?;
-    works.arrange(spot.holder, spot.outlet, kept_rows(alloc, rows)?)?;
+    end_rows(works, alloc, bodies, plan.gone.as_slice(), told)?;
+    take_rows(works, spot, bodies, plan.gone.as_slice())?;
+    arrange_rows(works, alloc, spot, bodies, &plan.from, rows)?;
     fire_rows(works, alloc, spot, &ground, rows, told)
 }
 
@@ -351,7 +379,7 @@ fn fire_plan(
         spot,
         repeated,
         bodies,
-        &plan.gone,
+        plan,
         rows.as_slice(),
         told,
     )

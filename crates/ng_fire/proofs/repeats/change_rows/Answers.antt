@@ -1,4 +1,4 @@
-use Rattle.std.proofs.Common.{◌≡◌, ◌∙◌, ℕ, List, ap, length, map, subst, sym, arith}
+use Rattle.std.proofs.Common.{◌≡◌, ◌∙◌, ℕ, List, ap, length, map, refl, subst, sym, arith}
 use Rattle.std.proofs.lemmas.List.{length-map}
 use Rattle.ng_base.specs.declared.name.ScopeId.{ScopeId}
 use Rattle.ng_core.specs.declared.core_state.Core.{Core}
@@ -6,6 +6,7 @@ use Rattle.ng_drawing.specs.declared.origin.Origin.{Origin}
 use Rattle.ng_drawing.specs.Template.{Repeated}
 use Rattle.ng_changes.proofs.Answered.{ok_then}
 use Rattle.ng_fire.proofs.KeptRows.{rows_wider}
+use Rattle.ng_fire.proofs.RowsLeft.{left_in_order}
 use Rattle.ng_fire.proofs.RowsStay.{inside_other, none_round, row_inside}
 use Rattle.ng_fire.proofs.RowsTaken.{arranged_keeps, arranged_whole, keeps_same, keeps_then, rows_among, rows_rearranged, spot_stays}
 use Rattle.ng_fire.specs.Blocks.{Firing}
@@ -30,45 +31,56 @@ take_rows-requires-clause-rows c =
     let bs : List Body = map body_of c.args.bodies.now in
     let m = c.end_rows.new.works in
     subst (λ (is : List ℕ). AreRowsAt spot.holder.now spot.outlet (bodies_at bs is) (state_of m).instances) (sym c.as_slice-2.ensures)
-    (rows_among spot.holder.now spot.outlet bs c.args.gone.now (rows_of c.args.rows.now) (state_of m).instances
+    (rows_among spot.holder.now spot.outlet bs c.args.plan.now.gone (rows_of c.args.rows.now) (state_of m).instances
     (ap (rows_at spot.holder.now spot.outlet) c.in_ok-end_rows.ensures.instances ∙ c.requires.stand) c.requires.all)
 
-pub arrange-requires-clause-same : goal.arrange-requires-clause-same
-arrange-requires-clause-same c =
+pub arrange_rows-requires-clause-same : goal.arrange_rows-requires-clause-same
+arrange_rows-requires-clause-same c =
     let spot = c.args.spot.now in
     let bs : List Body = map body_of c.args.bodies.now in
     let m = c.end_rows.new.works in
     let t = c.take_rows.new.works in
     let left = subst (λ (is : List ℕ). HaveGone spot.holder.now spot.outlet (bodies_at bs is) (state_of m).instances (state_of t).instances) c.as_slice-2.ensures c.in_ok-take_rows.ensures.gone in
-    rows_rearranged spot.holder.now spot.outlet bs c.args.gone.now (rows_of c.args.rows.now) (state_of m).instances (state_of t).instances _
-    (ap (rows_at spot.holder.now spot.outlet) c.in_ok-end_rows.ensures.instances ∙ c.requires.stand) c.requires.all left c.in_ok-kept_rows.ensures
+    rows_rearranged spot.holder.now spot.outlet bs c.args.plan.now.gone (rows_of c.args.rows.now) (state_of m).instances (state_of t).instances _
+    (ap (rows_at spot.holder.now spot.outlet) c.in_ok-end_rows.ensures.instances ∙ c.requires.stand) c.requires.all left refl
+
+pub arrange_rows-requires-clause-order : goal.arrange_rows-requires-clause-order
+arrange_rows-requires-clause-order c =
+    let spot = c.args.spot.now in
+    let bs : List Body = map body_of c.args.bodies.now in
+    let m = c.end_rows.new.works in
+    let t = c.take_rows.new.works in
+    let left = subst (λ (is : List ℕ). HaveGone spot.holder.now spot.outlet (bodies_at bs is) (state_of m).instances (state_of t).instances) c.as_slice-2.ensures c.in_ok-take_rows.ensures.gone in
+    let taken = c.in_ok-take_rows.ensures.state ∙ ap (λ (is : List ℕ). rows_taken spot.holder.now (bodies_at bs is) (state_of m)) c.as_slice-2.ensures in
+    λ ordered. left_in_order _ _ spot.holder.now spot.outlet bs c.args.plan.now.gone (rows_of c.args.rows.now) (state_of m) (state_of t) c.in_ok-end_rows.ensures.whole.standing.1.built.each
+    (ap (rows_at spot.holder.now spot.outlet) c.in_ok-end_rows.ensures.instances ∙ c.requires.stand) c.requires.all left taken (c.requires.order ordered)
 
 pub fire_rows-requires-clause-whole : goal.fire_rows-requires-clause-whole
 fire_rows-requires-clause-whole c =
-    arranged_whole c.take_rows.new.works c.arrange.new.self c.args.spot.now.holder.now c.args.spot.now.outlet _ c.in_ok-take_rows.ensures.whole c.arrange.ensures.core c.in_ok-arrange.ensures.stands c.in_ok-arrange.ensures.state
+    arranged_whole c.take_rows.new.works c.arrange_rows.new.works c.args.spot.now.holder.now c.args.spot.now.outlet _ c.in_ok-take_rows.ensures.whole c.arrange_rows.ensures.core c.in_ok-arrange_rows.ensures.stands c.in_ok-arrange_rows.ensures.state
 
 pub fire_rows-requires-clause-spot : goal.fire_rows-requires-clause-spot
 fire_rows-requires-clause-spot c =
     let first = c.args.works.now in
     let m = c.end_rows.new.works in
     let t = c.take_rows.new.works in
-    let v = c.arrange.new.self in
+    let v = c.arrange_rows.new.works in
     let spot = c.args.spot.now in
-    let kept = map body_of c.in_ok-kept_rows.field-0.items in
+    let kept : List Body = kept_rows (rows_of c.args.rows.now) in
     let ended = keeps_same spot.holder.now (state_of first).instances (state_of m).instances c.in_ok-end_rows.ensures.instances in
     let taken = keeps_then spot.holder.now (state_of first).instances (state_of m).instances (state_of t).instances ended c.in_ok-take_rows.ensures.keeps in
     let arranged : Keeps spot.holder.now (state_of t).instances (state_of v).instances =
-    subst (λ (is : Instances). Keeps spot.holder.now (state_of t).instances is) (sym (ap (λ (s : State). s.instances) c.in_ok-arrange.ensures.state)) (arranged_keeps spot.holder.now spot.outlet kept (state_of t).instances) in
+    subst (λ (is : Instances). Keeps spot.holder.now (state_of t).instances is) (sym (ap (λ (s : State). s.instances) c.in_ok-arrange_rows.ensures.state)) (arranged_keeps spot.holder.now spot.outlet kept (state_of t).instances) in
     spot_stays (templates_of first) (templates_of v) (state_of first).instances (state_of v).instances spot
-    (c.arrange.ensures.templates ∙ (c.take_rows.ensures.templates ∙ c.end_rows.ensures.templates))
+    (c.arrange_rows.ensures.templates ∙ (c.take_rows.ensures.templates ∙ c.end_rows.ensures.templates))
     (keeps_then spot.holder.now (state_of first).instances (state_of t).instances (state_of v).instances taken arranged) c.requires.spot
 
 pub fire_rows-requires-clause-rows : goal.fire_rows-requires-clause-rows
 fire_rows-requires-clause-rows c =
     let first = c.args.works.now in
     let m = c.end_rows.new.works in
-    let v = c.arrange.new.self in
-    let core = c.arrange.ensures.core ∙ c.take_rows.ensures.core in
+    let v = c.arrange_rows.new.works in
+    let core = c.arrange_rows.ensures.core ∙ c.take_rows.ensures.core in
     subst (λ (x : Core). RowsOfStand (length x.store) (rows_of c.args.rows.now)) (sym core)
     (rows_wider (length first.core.store) (length m.core.store) c.in_ok-end_rows.ensures.grown (rows_of c.args.rows.now) c.requires.rows)
 
@@ -78,15 +90,14 @@ returns-clause-fired c =
     let m = c.end_rows.new.works in
     let after = c.end_rows.new.told in
     let t = c.take_rows.new.works in
-    let v = c.arrange.new.self in
+    let v = c.arrange_rows.new.works in
     let spot = c.args.spot.now in
     let holder : List ℕ = spot.holder.now in
     let o : ℕ = spot.outlet in
     let which : Origin = spot.origin in
     let bs : List Body = map body_of c.args.bodies.now in
     let rows : List Row = rows_of c.args.rows.now in
-    let kept = map body_of c.in_ok-kept_rows.field-0.items in
-    let gone : List Body = bodies_at bs c.args.gone.now in
+    let gone : List Body = bodies_at bs c.args.plan.now.gone in
     let g : Firing = firing first c.args.told.now in
     let w : Repeated = repeated_of c.args.repeated.now in
     let scope : ℕ = spot.scope.0 in
@@ -94,7 +105,7 @@ returns-clause-fired c =
     let ended : firing m after ≡ all_ended gone g = c.in_ok-end_rows.ensures.fired ∙ ap (λ (is : List ℕ). all_ended (bodies_at bs is) g) c.as_slice.ensures in
     let taken : state_of t ≡ rows_taken holder gone (state_of m) = c.in_ok-take_rows.ensures.state ∙ ap (λ (is : List ℕ). rows_taken holder (bodies_at bs is) (state_of m)) c.as_slice-2.ensures in
     let state : state_of v ≡ arranged_at holder o (kept_rows rows) (rows_taken holder gone (state_of m)) =
-    c.in_ok-arrange.ensures.state ∙ (ap (λ (xs : List Body). arranged_at holder o xs (state_of t)) c.in_ok-kept_rows.ensures ∙ ap (arranged_at holder o (kept_rows rows)) taken) in
+    c.in_ok-arrange_rows.ensures.state ∙ ap (arranged_at holder o (kept_rows rows)) taken in
     let ready : firing v after ≡ rows_arranged holder o (kept_rows rows) (rows_gone holder gone g) =
     ap (λ (s : State). with_state s (firing m after)) state ∙ ap (λ (h : Firing). rows_arranged holder o (kept_rows rows) (with_state (rows_taken holder gone h.state) h)) ended in
     let many = c.in_ok-ground.ensures.count ∙ sym (length-map c.args.rows.now _) in
@@ -109,13 +120,13 @@ returns-clause-keeps c =
     let first = c.args.works.now in
     let m = c.end_rows.new.works in
     let t = c.take_rows.new.works in
-    let v = c.arrange.new.self in
+    let v = c.arrange_rows.new.works in
     let spot = c.args.spot.now in
-    let kept = map body_of c.in_ok-kept_rows.field-0.items in
+    let kept : List Body = kept_rows (rows_of c.args.rows.now) in
     let ended = keeps_same spot.holder.now (state_of first).instances (state_of m).instances c.in_ok-end_rows.ensures.instances in
     let taken = keeps_then spot.holder.now (state_of first).instances (state_of m).instances (state_of t).instances ended c.in_ok-take_rows.ensures.keeps in
     let arranged : Keeps spot.holder.now (state_of t).instances (state_of v).instances =
-    subst (λ (is : Instances). Keeps spot.holder.now (state_of t).instances is) (sym (ap (λ (s : State). s.instances) c.in_ok-arrange.ensures.state)) (arranged_keeps spot.holder.now spot.outlet kept (state_of t).instances) in
+    subst (λ (is : Instances). Keeps spot.holder.now (state_of t).instances is) (sym (ap (λ (s : State). s.instances) c.in_ok-arrange_rows.ensures.state)) (arranged_keeps spot.holder.now spot.outlet kept (state_of t).instances) in
     ok_then c.fire_rows.result c.fire_rows.ensures.keeps
     (λ more. keeps_then spot.holder.now (state_of first).instances (state_of v).instances (state_of c.fire_rows.new.works).instances
     (keeps_then spot.holder.now (state_of first).instances (state_of t).instances (state_of v).instances taken arranged) more)
@@ -129,7 +140,7 @@ returns-clause-kept c =
     let holder : List ℕ = spot.holder.now in
     let o : ℕ = spot.outlet in
     let bs : List Body = map body_of c.args.bodies.now in
-    let kept = map body_of c.in_ok-kept_rows.field-0.items in
+    let kept : List Body = kept_rows (rows_of c.args.rows.now) in
     let rest = subst (λ (is : List ℕ). RestStays holder (bodies_at bs is) (state_of m).instances (state_of t).instances) c.as_slice-2.ensures c.in_ok-take_rows.ensures.rest in
     ok_then c.fire_rows.result c.fire_rows.ensures.others
     (λ others q l some at.
@@ -137,11 +148,11 @@ returns-clause-kept c =
     let here = ap (body_count q) c.requires.stand in
     let built = c.requires.whole.standing.1.built in
     let inside = row_inside _ _ holder o (state_of first).instances built.each q (omega (arith, some, both, here)) in
-    let none : body_count q (bodies_at bs c.args.gone.now) ≡ 0 = (let most = inside.2 in omega (arith, some, both, here, most)) in
-    let round = none_round (state_of first).instances built.bodies holder q inside.1 (bodies_at bs c.args.gone.now)
+    let none : body_count q (bodies_at bs c.args.plan.now.gone) ≡ 0 = (let most = inside.2 in omega (arith, some, both, here, most)) in
+    let round = none_round (state_of first).instances built.bodies holder q inside.1 (bodies_at bs c.args.plan.now.gone)
     (λ b lt. (let all = c.requires.all b.path in let stand = ap (body_count b.path) c.requires.stand in let its = row_inside _ _ holder o (state_of first).instances built.each b.path (omega (arith, lt, all, stand)) in (its.1, its.0))) none in
     let off = inside_other holder q inside.0 in
     others q l off
-    (ap (λ (s : State). linked_at q s.instances) c.in_ok-arrange.ensures.state
+    (ap (λ (s : State). linked_at q s.instances) c.in_ok-arrange_rows.ensures.state
     ∙ (changed_other holder (bodies_arranged o kept) (state_of t).instances q off
     ∙ (rest q inside.0 round ∙ (ap (linked_at q) c.in_ok-end_rows.ensures.instances ∙ at))))))

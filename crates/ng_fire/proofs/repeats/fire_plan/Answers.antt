@@ -1,4 +1,4 @@
-use Rattle.std.proofs.Common.{◌∙◌, ℕ, List, ap, length, map, subst, sym}
+use Rattle.std.proofs.Common.{◌≡◌, ◌∙◌, ℕ, true, List, ap, length, map, subst, sym}
 use Rattle.std.specs.Prelude.{Result}
 use Rattle.ng_base.specs.declared.name.ScopeId.{ScopeId}
 use Rattle.ng_blocks.specs.declared.plans.Plan.{Plan}
@@ -7,11 +7,13 @@ use Rattle.ng_drawing.specs.declared.origin.Origin.{Origin}
 use Rattle.ng_drawing.specs.Template.{Repeated}
 use Rattle.ng_changes.proofs.Answered.{ok_then}
 use Rattle.ng_fire.proofs.KeptRows.{kept_or_gone, rows_stand}
+use Rattle.ng_fire.proofs.RowsKept.{plan_part}
 use Rattle.ng_fire.specs.Blocks.{Firing}
 use Rattle.ng_fire.specs.FireOf.{firing}
 use Rattle.ng_rows.specs.RepeatRows.{Row, as_fault, kept_rows}
 use Rattle.ng_fire.specs.Repeats.{bodies_at, by_plan, rows_changed}
 use Rattle.ng_rows.specs.RepeatsOf.{RowsOfStand, rows_of}
+use Rattle.ng_fire.specs.RowsInOrder.{IsPart, in_order}
 use Rattle.ng_fire.specs.RowsKnown.{KeptOrGone}
 use Rattle.ng_fire.specs.Serving.{BodiesStay}
 use Rattle.ng_rows.specs.TrackingOf.{items_of}
@@ -32,6 +34,13 @@ change_rows-requires-clause-all c =
     let bs : List Body = map body_of c.args.bodies.now in
     subst (λ (rs : List Row). KeptOrGone bs c.args.plan.now.gone rs) (sym (ap rows_of c.as_slice.ensures.value ∙ c.in_ok-rows.ensures))
     (kept_or_gone bs (items_of c.args.items.items) c.args.keys.now c.args.plan.now c.requires.old c.requires.plan c.requires.as_many)
+
+pub change_rows-requires-clause-order : goal.change_rows-requires-clause-order
+change_rows-requires-clause-order c =
+    let bs : List Body = map body_of c.args.bodies.now in
+    let ps = c.args.plan.now.from in
+    subst (λ (rs : List Row). in_order bs 0 rs ps ≡ true → IsPart (kept_rows rs) bs) (sym (ap rows_of c.as_slice.ensures.value ∙ c.in_ok-rows.ensures))
+    (plan_part bs (items_of c.args.items.items) c.args.keys.now c.args.plan.now c.requires.plan)
 
 pub returns-clause-fired : goal.returns-clause-fired
 returns-clause-fired c =
