@@ -1,4 +1,4 @@
-pub mod Properties
+pub mod NamePlaces
 pub mod Changes
 pub mod ObjectReads
 pub mod Looks

@@ -1,3 +1,4 @@
+pub mod NamesOf
 pub mod ObjectOf
 pub mod Answers
 pub mod Json

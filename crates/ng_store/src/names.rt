@@ -3,16 +3,16 @@ ghost use Rattle.std.specs.Prelude.{◌≡◌, ◌<◌, ◌^◌, ◌++◌, [], I
 ghost use Rattle.std.specs.List.{range_with_len};
 ghost use Rattle.ng_base.specs.Objects.{names_of, indices_from, with_index, other_names};
 ghost use Rattle.ng_base.specs.declared.fault.Memory.TheVariants.{Refused};
-ghost use Rattle.ng_store.specs.ObjectOf.{object_of};
+ghost use Rattle.ng_store.specs.NamesOf.{all_nameless};
+ghost use Rattle.ng_store.specs.ObjectOf.{object_of, properties_of};
 
+use crate::properties::Properties;
 use crate::stored::Stored;
-use indexmap::IndexMap;
 use ng_base::fault::Memory;
 use ng_base::heap::ObjKind;
 use ng_base::index::index_of;
 use ng_base::lists::Names;
 use ng_base::txt::Txt;
-use ng_base::value::Value;
 use std::alloc::Global;
 use std::collections::BTreeSet;
 
@@ -39,12 +39,12 @@ fn item_names(alloc: Global, count: u32) -> Result<Names, Memory>
 }
 
 /// The indices among the names of properties, ascending.
-fn indices(alloc: Global, properties: &IndexMap<Txt, Value>) -> Result<BTreeSet<u32>, Memory>
-    ensures indices { IfOk result (λ s. s.keys ≡ indices_from [] properties.now.entries) }
+fn indices(alloc: Global, names: &[Txt]) -> Result<BTreeSet<u32>, Memory>
+    ensures indices { IfOk result (λ s. s.keys ≡ indices_from [] (all_nameless names.now)) }
     ensures refused { IfErr result (λ e. e ≡ Refused) }
 {
     let mut indices = BTreeSet::new(alloc);
-    for (name, _) in properties {
+    for name in names {
         if let Some(i) = index_of(name) {
             indices.insert(i)?;
         }
@@ -56,13 +56,13 @@ fn indices(alloc: Global, properties: &IndexMap<Txt, Value>) -> Result<BTreeSet<
 fn all_names(
     alloc: Global,
     indices: &BTreeSet<u32>,
-    properties: &IndexMap<Txt, Value>,
+    own: &[Txt],
 ) -> Result<Names, Memory>
-    ensures names { IfOk result (λ names. names ≡ map decimal indices.now.keys ++ other_names properties.now.entries) }
+    ensures names { IfOk result (λ names. names ≡ map decimal indices.now.keys ++ other_names (all_nameless own.now)) }
     ensures refused { IfErr result (λ e. e ≡ Refused) }
 {
     let mut names = index_names(alloc, indices)?;
-    for (name, _) in properties {
+    for name in own {
         if index_of(name).is_none() {
             names.push(name.copied()?)?;
         }
@@ -82,6 +82,17 @@ fn index_names(alloc: Global, indices: &BTreeSet<u32>) -> Result<Names, Memory>
     Ok(names)
 }
 
+/// The names of properties: indices ascending, then the others in order of insertion.
+fn property_names(alloc: Global, properties: &Properties) -> Result<Names, Memory>
+    ensures names { IfOk result (λ names. names ≡ map decimal (indices_from [] (properties_of properties.now)) ++ other_names (properties_of properties.now)) }
+    ensures refused { IfErr result (λ e. e ≡ Refused) }
+{
+    let own = properties.names();
+    let indices = indices(alloc, own)?;
+    let all = all_names(alloc, &indices, own)?;
+    Ok(all)
+}
+
 /// The object's own names: indices ascending, then the others in order of insertion.
 pub(crate) fn names_of(alloc: Global, x: &Stored) -> Result<Names, Memory>
     requires { length x.now.items.items < 2 ^ 32 }
@@ -90,9 +101,6 @@ pub(crate) fn names_of(alloc: Global, x: &Stored) -> Result<Names, Memory>
 {
     match x.kind {
         ObjKind::Array => item_names(alloc, x.items.len() as u32),
-        _ => {
-            let indices = indices(alloc, &x.properties)?;
-            all_names(alloc, &indices, &x.properties)
-        }
+        _ => property_names(alloc, &x.properties),
     }
 }

@@ -7,7 +7,8 @@ ghost use Rattle.ng_language.specs.Objects.{AreObjects, look, set_name};
 ghost use Rattle.ng_store.specs.ObjectOf.{object_of, objects_of};
 
 use crate::names::names_of;
-use crate::stored::{Stored, property, put_next};
+use crate::shapes::Shapes;
+use crate::stored::Stored;
 use ng_base::fault::Memory;
 use ng_base::heap::ObjKind;
 use ng_base::index::index_of;
@@ -26,7 +27,7 @@ pub(crate) fn own_of<'a>(x: &'a Stored, name: &Txt) -> Option<&'a Value>
             None => None,
             Some(i) => x.items.get(i as usize),
         },
-        _ => property(&x.properties, name),
+        _ => x.properties.get(name),
     }
 }
 
@@ -97,7 +98,9 @@ pub(crate) fn look<'a>(objects: &'a [Stored], o: Oid, name: &Txt) -> Option<&'a 
 
 /// Sets a name of an object.
 pub(crate) fn set(
+    alloc: Global,
     objects: &mut Vec<Stored>,
+    shapes: &mut Shapes,
     next: &mut usize,
     o: Oid,
     name: &Txt,
@@ -110,6 +113,6 @@ pub(crate) fn set(
     ensures refused { IfErr result (λ e. e ≡ Refused) }
 {
     let stored = &mut objects[o.0 as usize];
-    put_next(&mut stored.properties, next, name, v)?;
+    stored.properties.put(alloc, shapes, next, name, v)?;
     Ok(())
 }

@@ -5,11 +5,13 @@ ghost use Rattle.std.specs.Str.{chars};
 ghost use Rattle.serde_json.specs.View.{view, items_view, members_view};
 ghost use Rattle.ng_base.specs.declared.fault.Memory.TheVariants.{Refused};
 ghost use Rattle.ng_store.specs.Json.{objects_in, objects_in_items, objects_in_members, placed, placed_items, placed_members, last_made, array_of, plain_of, int_of, whole, with_json};
-ghost use Rattle.ng_store.specs.ObjectOf.{objects_of};
+ghost use Rattle.ng_store.specs.ObjectOf.{objects_of, properties_of};
 
 use crate::json::whole;
+use crate::properties::Properties;
+use crate::shapes::Shapes;
 use crate::stored::Stored;
-use indexmap::{IndexMap, IndexSet};
+use indexmap::IndexSet;
 use ng_base::fault::Memory;
 use ng_base::heap::ObjKind;
 use ng_base::name::Oid;
@@ -85,6 +87,7 @@ fn put_array(
     alloc: Global,
     base: usize,
     made: &mut Vec<Stored>,
+    shapes: &mut Shapes,
     items: Vec<Value>,
 ) -> Result<Value, Memory>
     requires { base + vec_len made.old < 1000000 }
@@ -97,7 +100,7 @@ fn put_array(
         kind: ObjKind::Array,
         proto: None,
         items,
-        properties: IndexMap::new(alloc),
+        properties: Properties::with_room(alloc, shapes, 0)?,
     })?;
     Ok(Value::Obj(o))
 }
@@ -107,10 +110,10 @@ fn put_object(
     alloc: Global,
     base: usize,
     made: &mut Vec<Stored>,
-    properties: IndexMap<Txt, Value>,
+    properties: Properties,
 ) -> Result<Value, Memory>
     requires { base + vec_len made.old < 1000000 }
-    ensures placed { IfOk result (λ w. (w, objects_of made.new.items) ≡ last_made base (objects_of made.old.items) (plain_of properties.entries)) }
+    ensures placed { IfOk result (λ w. (w, objects_of made.new.items) ≡ last_made base (objects_of made.old.items) (plain_of (properties_of properties))) }
     ensures count { OnOk result (vec_len made.new ≡ vec_len made.old + 1) }
     ensures refused { IfErr result (λ e. e ≡ Refused) }
 {
@@ -145,6 +148,7 @@ pub(crate) fn place(
     alloc: Global,
     base: usize,
     made: &mut Vec<Stored>,
+    shapes: &mut Shapes,
     names: &mut IndexSet<Txt>,
     v: Json,
 ) -> Result<Value, Memory>
@@ -159,11 +163,11 @@ pub(crate) fn place(
         Json::Number(n) => Ok(number(&n)),
         Json::String(s) => Ok(Value::Text(Txt::from_str(alloc, s.as_str())?)),
         Json::Array(items) => {
-            let items = place_items(alloc, base, made, names, items)?;
-            put_array(alloc, base, made, items)
+            let items = place_items(alloc, base, made, shapes, names, items)?;
+            put_array(alloc, base, made, shapes, items)
         }
         Json::Object(members) => {
-            let properties = place_members(alloc, base, made, names, members)?;
+            let properties = place_members(alloc, base, made, shapes, names, members)?;
             put_object(alloc, base, made, properties)
         }
     }
@@ -174,6 +178,7 @@ fn place_items(
     alloc: Global,
     base: usize,
     made: &mut Vec<Stored>,
+    shapes: &mut Shapes,
     names: &mut IndexSet<Txt>,
     items: Vec<Json>,
 ) -> Result<Vec<Value>, Memory>
@@ -185,7 +190,7 @@ fn place_items(
     let mut done = Vec::with_capacity(alloc, items.len())?;
     let mut left = VecDeque::from(items);
     while let Some(item) = next_item(&mut left) {
-        done.push(place(alloc, base, made, names, item)?)?;
+        done.push(place(alloc, base, made, shapes, names, item)?)?;
     }
     Ok(done)
 }
@@ -195,19 +200,21 @@ fn place_members(
     alloc: Global,
     base: usize,
     made: &mut Vec<Stored>,
+    shapes: &mut Shapes,
     names: &mut IndexSet<Txt>,
     members: Map<String, Json>,
-) -> Result<IndexMap<Txt, Value>, Memory>
+) -> Result<Properties, Memory>
     requires { base + vec_len made.old + objects_in_members (members_view members.entries) ≤ 1000000 }
-    ensures placed { IfOk result (λ w. (w.entries, objects_of made.new.items) ≡ placed_members base (members_view members.entries) (objects_of made.old.items) []) }
+    ensures placed { IfOk result (λ w. (properties_of w, objects_of made.new.items) ≡ placed_members base (members_view members.entries) (objects_of made.old.items) []) }
     ensures count { OnOk result (vec_len made.new ≡ vec_len made.old + objects_in_members (members_view members.entries)) }
     ensures refused { IfErr result (λ e. e ≡ Refused) }
 {
-    let mut done = IndexMap::with_capacity(alloc, members.len())?;
+    let mut done = Properties::with_room(alloc, shapes, members.len())?;
+    let mut next = 0;
     for (key, v) in members {
-        let value = place(alloc, base, made, names, v)?;
+        let value = place(alloc, base, made, shapes, names, v)?;
         let name = shared_name(alloc, names, key.as_str())?;
-        done.insert(name, value)?;
+        done.put(alloc, shapes, &mut next, &name, value)?;
     }
     Ok(done)
 }
@@ -246,7 +253,12 @@ fn put_behind(objects: &mut Vec<Stored>, made: Vec<Stored>) -> Result<(), AllocE
 }
 
 /// Puts the objects of JSON behind those that stand.
-pub(crate) fn add(alloc: Global, objects: &mut Vec<Stored>, v: Json) -> Result<Value, Memory>
+pub(crate) fn add(
+    alloc: Global,
+    objects: &mut Vec<Stored>,
+    shapes: &mut Shapes,
+    v: Json,
+) -> Result<Value, Memory>
     requires { vec_len objects.old + objects_in (view v) ≤ 1000000 }
     ensures value { IfOk result (λ w. w ≡ (placed (length (objects_of objects.old.items)) (view v) []).0) }
     ensures made { OnOk result (objects_of objects.new.items ≡ with_json (objects_of objects.old.items) (view v)) }
@@ -256,7 +268,7 @@ pub(crate) fn add(alloc: Global, objects: &mut Vec<Stored>, v: Json) -> Result<V
     let room = room(objects.len(), crate::json::count(&v) as usize);
     let mut made = Vec::with_capacity(alloc, room)?;
     let mut names = IndexSet::new(alloc);
-    let value = place(alloc, objects.len(), &mut made, &mut names, v)?;
+    let value = place(alloc, objects.len(), &mut made, shapes, &mut names, v)?;
     put_behind(objects, made)?;
     Ok(value)
 }

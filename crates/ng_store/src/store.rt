@@ -13,7 +13,9 @@ ghost use Rattle.ng_store.specs.declared.store.StoreFault.TheVariants.{Memory as
 
 use crate::json::{JsonFault, is_long, is_whole};
 use crate::placing::{add, overfills};
-use crate::stored::{Stored, no_properties};
+use crate::properties::Properties;
+use crate::shapes::Shapes;
+use crate::stored::Stored;
 use crate::{arrays, objects};
 use ng_base::fault::Memory;
 use ng_base::heap::ObjKind;
@@ -58,6 +60,8 @@ const OBJECT_LIMIT: usize = 1_000_000;
 pub struct Store {
     alloc: Global,
     objects: Vec<Stored>,
+    /// The names that objects share.
+    shapes: Shapes,
     /// The place behind the property that was set last.
     next: usize,
 }
@@ -84,6 +88,7 @@ impl Store {
         Store {
             alloc,
             objects: Vec::new(alloc),
+            shapes: Shapes::new(alloc),
             next: 0,
         }
     }
@@ -113,7 +118,7 @@ impl Store {
         if count >= OBJECT_LIMIT {
             return Err(StoreFault::Full);
         }
-        let properties = no_properties(self.alloc, kind)?;
+        let properties = Properties::new(self.alloc, &mut self.shapes, kind)?;
         self.objects.push(Stored {
             kind,
             proto,
@@ -194,7 +199,15 @@ impl Store {
         ensures there { is_some (lookup (bytes_eq name.now) (object_at self.old o.0).properties) ≡ true → IsOk result }
         ensures refused { IfErr result (λ e. e ≡ Refused) }
     {
-        objects::set(&mut self.objects, &mut self.next, o, name, v)?;
+        objects::set(
+            self.alloc,
+            &mut self.objects,
+            &mut self.shapes,
+            &mut self.next,
+            o,
+            name,
+            v,
+        )?;
         Ok(())
     }
 
@@ -303,7 +316,7 @@ impl Store {
         ensures stands { IfOk result (λ w. StandsAmong (length self.new) w) }
         ensures unchanged { OnErr result (self.new ≡ self.old) }
     {
-        let value = add(self.alloc, &mut self.objects, v)?;
+        let value = add(self.alloc, &mut self.objects, &mut self.shapes, v)?;
         Ok(value)
     }
 

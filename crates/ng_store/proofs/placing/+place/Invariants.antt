@@ -2,7 +2,7 @@ use Rattle.std.proofs.Common.{◌≡◌, ◌≤◌, ◌+◌, ◌*◌, [], vec_le
 use Rattle.std.specs.VecDeque.{deque_len}
 use Rattle.serde_json.specs.View.{view, items_view, members_view}
 use Rattle.ng_store.specs.Json.{placed_items, placed_members, objects_in_items, objects_in_members}
-use Rattle.ng_store.specs.ObjectOf.{objects_of}
+use Rattle.ng_store.specs.ObjectOf.{objects_of, properties_of}
 use Rattle.ng_store.proofs.Sizes.{values_in, values_in_items, values_in_members}
 use Rattle.ng_store.proofs.placing.+place.Given as goal
 
@@ -29,5 +29,5 @@ abbrev pub invariant-place_members-loop-key : goal.invariant-place_members-loop-
 invariant-place_members-loop-key l = record {
   count : vec_len l.made + objects_in_members (members_view l.key-iterator) ≡ vec_len l.initial.made + objects_in_members (members_view l.fn.members.entries);
   size : values_in_members (members_view l.key-iterator) ≤ values_in_members (members_view l.fn.members.entries);
-  same : placed_members l.base (members_view l.key-iterator) (objects_of l.made.items) l.done.entries ≡ placed_members l.base (members_view l.fn.members.entries) (objects_of l.initial.made.items) [];
+  same : placed_members l.base (members_view l.key-iterator) (objects_of l.made.items) (properties_of l.done) ≡ placed_members l.base (members_view l.fn.members.entries) (objects_of l.initial.made.items) [];
 }

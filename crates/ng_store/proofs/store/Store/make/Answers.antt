@@ -16,5 +16,5 @@ invariant_of-self-2 c =
     let n : length c.args.self.now ≡ length old = ap length (sym c.self.view_is) in
     let stands : IfSome proto (λ p. p < length old) = subst (λ k. IfSome proto (λ p. p < k)) n (proto_stands (length c.args.self.now) c.args.proto c.requires) in
     rw (c.in_ok-push.ensures.items, objects_of-push)
-    (rw (c.new.ensures.items, c.in_ok-properties.ensures)
+    (rw (c.new-2.ensures.items, c.in_ok-properties.ensures)
     (sound_behind old x c.self.invariant (is_new_object (length old) c.args.kind proto stands)))
