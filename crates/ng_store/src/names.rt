@@ -53,11 +53,7 @@ fn indices(alloc: Global, names: &[Txt]) -> Result<BTreeSet<u32>, Memory>
 }
 
 /// The names of indices, and behind them the names that are no indices.
-fn all_names(
-    alloc: Global,
-    indices: &BTreeSet<u32>,
-    own: &[Txt],
-) -> Result<Names, Memory>
+fn all_names(alloc: Global, indices: &BTreeSet<u32>, own: &[Txt]) -> Result<Names, Memory>
     ensures names { IfOk result (λ names. names ≡ map decimal indices.now.keys ++ other_names (all_nameless own.now)) }
     ensures refused { IfErr result (λ e. e ≡ Refused) }
 {

@@ -58,7 +58,11 @@ fn place_among(names: &[Txt], name: &Txt) -> Option<usize>
     ensures { result ≡ position (bytes_eq name.now) names.now }
 {
     let place = count_before(names, name);
-    if place < names.len() { Some(place) } else { None }
+    if place < names.len() {
+        Some(place)
+    } else {
+        None
+    }
 }
 
 /// The place of a name.
@@ -73,7 +77,12 @@ fn place_of(names: &IndexSet<Txt>, name: &Txt) -> Option<usize>
 }
 
 /// The names that follow few: few again while there is room for them.
-fn next_names(alloc: Global, shapes: &mut Shapes, names: &IndexSet<Txt>, name: &Txt) -> Result<OwnNames, Memory>
+fn next_names(
+    alloc: Global,
+    shapes: &mut Shapes,
+    names: &IndexSet<Txt>,
+    name: &Txt,
+) -> Result<OwnNames, Memory>
     requires { list_any (bytes_eq name.now) names.now.keys ≡ false }
     ensures names { IfOk result (λ s. names_in s ≡ names.now.keys ++ name.now ∷ []) }
     ensures refused { IfErr result (λ e. e ≡ Refused) }
@@ -86,7 +95,12 @@ fn next_names(alloc: Global, shapes: &mut Shapes, names: &IndexSet<Txt>, name: &
 }
 
 /// A name comes behind the others.
-fn lengthen(alloc: Global, shapes: &mut Shapes, names: &mut OwnNames, name: &Txt) -> Result<(), Memory>
+fn lengthen(
+    alloc: Global,
+    shapes: &mut Shapes,
+    names: &mut OwnNames,
+    name: &Txt,
+) -> Result<(), Memory>
     requires { list_any (bytes_eq name.now) (names_in names.old) ≡ false }
     ensures ok { OnOk result (names_in names.new ≡ names_in names.old ++ name.now ∷ []) }
     ensures err { OnErr result (names_in names.new ≡ names_in names.old) }
@@ -116,7 +130,11 @@ impl Properties {
     ghost use Rattle.ng_store.specs.ObjectOf.{properties_of};
 
     /// No property, of an object of a kind.
-    pub(crate) fn new(alloc: Global, shapes: &mut Shapes, kind: ObjKind) -> Result<Properties, AllocError>
+    pub(crate) fn new(
+        alloc: Global,
+        shapes: &mut Shapes,
+        kind: ObjKind,
+    ) -> Result<Properties, AllocError>
         ensures { IfOk result (λ p. properties_of p ≡ []) }
     {
         let names = OwnNames::Shared(shapes.empty(alloc)?);
@@ -128,7 +146,11 @@ impl Properties {
     }
 
     /// No property, with room for some.
-    pub(crate) fn with_room(alloc: Global, shapes: &mut Shapes, room: usize) -> Result<Properties, AllocError>
+    pub(crate) fn with_room(
+        alloc: Global,
+        shapes: &mut Shapes,
+        room: usize,
+    ) -> Result<Properties, AllocError>
         ensures { IfOk result (λ p. properties_of p ≡ []) }
     {
         let names = if room > FEW {
@@ -181,7 +203,13 @@ impl Properties {
     }
 
     /// A property comes behind the others.
-    fn add(&mut self, alloc: Global, shapes: &mut Shapes, name: &Txt, v: Value) -> Result<(), Memory>
+    fn add(
+        &mut self,
+        alloc: Global,
+        shapes: &mut Shapes,
+        name: &Txt,
+        v: Value,
+    ) -> Result<(), Memory>
         requires { list_any (bytes_eq name.now) (names_in self.old.names) ≡ false }
         ensures ok { OnOk result (properties_of self.new ≡ properties_of self.old ++ (name.now, v) ∷ []) }
         ensures err { OnErr result (properties_of self.new ≡ properties_of self.old) }
@@ -195,7 +223,14 @@ impl Properties {
 
     /// Sets a property, in its place or at the end. One that is there takes no memory. The place behind the one that was set last is looked
     /// at first, since rows are told the same names in the same order.
-    pub(crate) fn put(&mut self, alloc: Global, shapes: &mut Shapes, next: &mut usize, name: &Txt, v: Value) -> Result<(), Memory>
+    pub(crate) fn put(
+        &mut self,
+        alloc: Global,
+        shapes: &mut Shapes,
+        next: &mut usize,
+        name: &Txt,
+        v: Value,
+    ) -> Result<(), Memory>
         ensures ok { OnOk result (properties_of self.new ≡ insert_entry bytes_eq (properties_of self.old) name.now v) }
         ensures err { OnErr result (properties_of self.new ≡ properties_of self.old) }
         ensures there { is_some (lookup (bytes_eq name.now) (properties_of self.old)) ≡ true → IsOk result }

@@ -67,7 +67,11 @@ fn copied(alloc: Global, names: &IndexSet<Txt>, room: usize) -> Result<IndexSet<
 }
 
 /// Names and one more, which isn't among them.
-pub(crate) fn grown_names(alloc: Global, names: &IndexSet<Txt>, name: &Txt) -> Result<IndexSet<Txt>, Memory>
+pub(crate) fn grown_names(
+    alloc: Global,
+    names: &IndexSet<Txt>,
+    name: &Txt,
+) -> Result<IndexSet<Txt>, Memory>
     requires { list_any (bytes_eq name.now) names.now.keys ≡ false }
     ensures names { IfOk result (λ s. s.keys ≡ names.now.keys ++ name.now ∷ []) }
     ensures refused { IfErr result (λ e. e ≡ Refused) }
@@ -103,7 +107,12 @@ impl Shapes {
     }
 
     /// The shape at a place, if it is that of some names and one more.
-    fn grown_at(&self, place: usize, names: &IndexSet<Txt>, name: &Txt) -> Result<Option<Shape>, AllocError>
+    fn grown_at(
+        &self,
+        place: usize,
+        names: &IndexSet<Txt>,
+        name: &Txt,
+    ) -> Result<Option<Shape>, AllocError>
         ensures { IfOk result (λ found. IfSome found (λ s. s.value.keys ≡ names.now.keys ++ name.now ∷ [])) }
     {
         match self.shapes.get(place) {
@@ -153,7 +162,12 @@ impl Shapes {
     }
 
     /// The shape of some names and one more, which isn't among them.
-    pub(crate) fn grown(&mut self, alloc: Global, names: &IndexSet<Txt>, name: &Txt) -> Result<Shape, Memory>
+    pub(crate) fn grown(
+        &mut self,
+        alloc: Global,
+        names: &IndexSet<Txt>,
+        name: &Txt,
+    ) -> Result<Shape, Memory>
         requires { list_any (bytes_eq name.now) names.now.keys ≡ false }
         ensures names { IfOk result (λ s. s.value.keys ≡ names.now.keys ++ name.now ∷ []) }
         ensures refused { IfErr result (λ e. e ≡ Refused) }
