@@ -7,7 +7,7 @@ use Rattle.ng_store.specs.declared.properties.OwnNames.TheVariants.{Shared, Own}
 
 abbrev pub names_in : OwnNames → List (List ℕ)
 names_in (Shared names) = names.value.keys
-names_in (Own names) = names.keys
+names_in (Own names) = names.value.keys
 
 -- names as properties without values, where the names alone matter
 abbrev pub nameless : List ℕ → List ℕ × Value

@@ -11,7 +11,7 @@
 //! makes the objects inside a value before the value's own, sets names in the order of their bytes, and drops what
 //! it has read at once; `of_json` does the same with a copy.
 //!
-//! `stored` is one object, `properties` its names and values, `shapes` the names that objects share, `objects` and `arrays` are functions over the vector of them, `store` is the type that
+//! `stored` is one object, `properties` its names and values, `shapes` the names that objects share, `rooms` the room for values of scopes, `objects` and `arrays` are functions over the vector of them, `store` is the type that
 //! contracts see as a list, `heap` is the store as a list that is read, `json` and `placing` bring JSON in.
 //!
 //! It is not for values, which have no identity and stand in ng_base, nor for scopes as a tree, which have paths
@@ -26,6 +26,7 @@ mod names;
 mod objects;
 mod placing;
 mod properties;
+mod rooms;
 mod shapes;
 pub mod store;
 mod stored;

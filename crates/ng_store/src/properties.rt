@@ -7,6 +7,7 @@ ghost use Rattle.ng_base.specs.declared.value.Value.{Value as ValueOf};
 ghost use Rattle.ng_base.specs.declared.fault.Memory.TheVariants.{Refused};
 ghost use Rattle.ng_store.specs.NamesOf.{names_in};
 
+use crate::rooms::Rooms;
 use crate::shapes::{Shape, Shapes, grown_names};
 use indexmap::IndexSet;
 use ng_base::fault::Memory;
@@ -18,14 +19,11 @@ use std::alloc::{AllocError, Global};
 /// So many names are looked through one after another, which takes less than a hash of the name, and are shared.
 const FEW: usize = 12;
 
-/// A scope has room for so many properties from the start: the three that each scope has, and those of a row of ng-repeat.
-const SCOPE_ROOM: usize = 10;
-
 /// The names of an object: few, which others may have too, or many of its own.
 #[derive(Drop)]
 pub(crate) enum OwnNames {
     Shared(Shape),
-    Own(IndexSet<Txt>),
+    Own(Box<IndexSet<Txt>>),
 }
 
 /// Names, and a value for each.
@@ -90,7 +88,7 @@ fn next_names(
     if names.len() < FEW {
         Ok(OwnNames::Shared(shapes.grown(alloc, names, name)?))
     } else {
-        Ok(OwnNames::Own(grown_names(alloc, names, name)?))
+        Ok(OwnNames::Own(Box::new(alloc, grown_names(alloc, names, name)?)?))
     }
 }
 
@@ -133,13 +131,14 @@ impl Properties {
     pub(crate) fn new(
         alloc: Global,
         shapes: &mut Shapes,
+        rooms: &mut Rooms,
         kind: ObjKind,
     ) -> Result<Properties, AllocError>
         ensures { IfOk result (λ p. properties_of p ≡ []) }
     {
         let names = OwnNames::Shared(shapes.empty(alloc)?);
         let values = match kind {
-            ObjKind::Scope => Vec::with_capacity(alloc, SCOPE_ROOM)?,
+            ObjKind::Scope => rooms.take(alloc)?,
             _ => Vec::new(alloc),
         };
         Ok(Properties { names, values })
@@ -154,7 +153,7 @@ impl Properties {
         ensures { IfOk result (λ p. properties_of p ≡ []) }
     {
         let names = if room > FEW {
-            OwnNames::Own(IndexSet::with_capacity(alloc, room)?)
+            OwnNames::Own(Box::new(alloc, IndexSet::with_capacity(alloc, room)?)?)
         } else {
             OwnNames::Shared(shapes.empty(alloc)?)
         };

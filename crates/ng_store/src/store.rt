@@ -14,6 +14,7 @@ ghost use Rattle.ng_store.specs.declared.store.StoreFault.TheVariants.{Memory as
 use crate::json::{JsonFault, is_long, is_whole};
 use crate::placing::{add, overfills};
 use crate::properties::Properties;
+use crate::rooms::Rooms;
 use crate::shapes::Shapes;
 use crate::stored::Stored;
 use crate::{arrays, objects};
@@ -62,6 +63,7 @@ pub struct Store {
     objects: Vec<Stored>,
     /// The names that objects share.
     shapes: Shapes,
+    rooms: Rooms,
     /// The place behind the property that was set last.
     next: usize,
 }
@@ -89,6 +91,7 @@ impl Store {
             alloc,
             objects: Vec::new(alloc),
             shapes: Shapes::new(alloc),
+            rooms: Rooms::new(alloc),
             next: 0,
         }
     }
@@ -118,7 +121,7 @@ impl Store {
         if count >= OBJECT_LIMIT {
             return Err(StoreFault::Full);
         }
-        let properties = Properties::new(self.alloc, &mut self.shapes, kind)?;
+        let properties = Properties::new(self.alloc, &mut self.shapes, &mut self.rooms, kind)?;
         self.objects.push(Stored {
             kind,
             proto,
