@@ -7,7 +7,7 @@
 //! `view` is the value of such a program: the definition `evaluated_program` in specs/Evaluation.antt, by cases on the
 //! tree, from left to right, and the first fault stands. It makes no object: a literal gives a fresh list or record,
 //! which has no identity, and a stored array stays a name of an object until a method asks for its items. A store is
-//! read and never changed.
+//! read and never changed. `seen_value` is the same of a dotted path whose names all stand for something, and copies nothing.
 //!
 //! In reading order: `purity` and `filters` are the two tests, `paths` reads a dotted path where it stands, `evaluation`
 //! is the walk over the tree, `program` the public call, and `laws` what a reader may take from all this.
@@ -25,5 +25,5 @@ mod program;
 mod purity;
 
 pub use filters::filters_known;
-pub use program::view;
+pub use program::{seen_value, view};
 pub use purity::is_pure;

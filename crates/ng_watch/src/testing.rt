@@ -1,5 +1,5 @@
 //! The verdict of one watcher.
-ghost use Rattle.std.specs.Prelude.{◌≡◌, ◌<◌, ◌++◌, [], Ok, List, IsTrue, length, map, option_map, IfOk, OnOk};
+ghost use Rattle.std.specs.Prelude.{◌≡◌, ◌<◌, ◌++◌, [], Ok, Some, List, IsTrue, length, map, option_map, IfOk, OnOk};
 ghost use Rattle.ng_base.specs.Faults.{is_memory};
 ghost use Rattle.ng_base.specs.Meets.{Gives};
 ghost use Rattle.ng_base.specs.Objects.{Object};
@@ -26,10 +26,11 @@ use ng_base::view::{View, Views};
 use ng_language::snapshots::SnapKind;
 use ng_store::store::Store;
 use ng_value::classes::class_words;
+use ng_value::operators::same;
 use ng_value::snapping::snap;
 use ng_value::snapshot::{Snap, differs};
 use ng_value::texts::show_text;
-use ng_view::view;
+use ng_view::{seen_value, view};
 use std::alloc::{AllocError, Global};
 
 /// The value of a watch's program over its scope.
@@ -78,15 +79,51 @@ fn shows(value: &Value, text: &Txt) -> bool
 }
 
 /// Whether a value shows as the text that was kept, told without spelling it.
-fn shows_kept(value: &View, kept: &Option<Snap>) -> bool
-    ensures { IsTrue result → (objects : List Object) → verdict_of kinds.Text (option_map snap_of kept.now) objects (view_of value.now) ≡ Ok clean }
+fn shows_kept(value: &Value, kept: &Snap) -> bool
+    ensures { IsTrue result → (objects : List Object) → verdict_of kinds.Text (Some (snap_of kept.now)) objects (prim value.now) ≡ Ok clean }
 {
-    let (View::Prim(value), Some(kept)) = (value, kept) else {
-        return false;
-    };
     match kept.view() {
         View::Prim(Value::Text(text)) => shows(value, text),
         _ => false,
+    }
+}
+
+/// Whether a value is the one that was kept by reference.
+fn is_kept(value: &Value, kept: &Snap) -> bool
+    ensures { IsTrue result → (objects : List Object) → verdict_of kinds.Reference (Some (snap_of kept.now)) objects (prim value.now) ≡ Ok clean }
+{
+    match kept.view() {
+        View::Prim(last) => same(value, last),
+        _ => false,
+    }
+}
+
+/// Whether a watch is told to be clean by what was kept without a snapshot of the value: a hole that still shows its text, a value by reference.
+fn stays(watched: &Watched, value: &Value) -> bool
+    ensures { IsTrue result → (objects : List Object) → verdict_of watched.now.watch.kind (option_map snap_of watched.now.kept) objects (prim value.now) ≡ Ok clean }
+{
+    match (&watched.watch.kind, &watched.kept) {
+        (WatchKind::Text, Some(kept)) => shows_kept(value, kept),
+        (WatchKind::Reference, Some(kept)) => is_kept(value, kept),
+        _ => false,
+    }
+}
+
+/// Whether a watch of a dotted path is told to be clean by the value where that stands.
+#[tactic(auto, unfolding(crate::specs::Now::value_now))]
+fn is_seen_clean(alloc: Global, store: &Store, watched: &Watched) -> bool
+    requires { WatchStands (length store.now) (watching_of watched.now.watch) }
+    ensures { IsTrue result → verdict store.now (watcher_of watched.now) ≡ Ok clean }
+{
+    let locals = Locals::new(alloc);
+    match seen_value(
+        store,
+        watched.watch.scope,
+        &locals,
+        &watched.watch.program,
+    ) {
+        None => false,
+        Some(value) => stays(watched, value),
     }
 }
 
@@ -147,21 +184,25 @@ fn verdict_of(
     Ok(against(kept, now))
 }
 
-/// Whether a watch is told to be clean without a snapshot: a hole that still shows the text that was kept.
+/// Whether a watch is told to be clean without a snapshot of a value.
 fn is_shown(watched: &Watched, value: &View) -> bool
     ensures { IsTrue result → (objects : List Object) → verdict_of watched.now.watch.kind (option_map snap_of watched.now.kept) objects (view_of value.now) ≡ Ok clean }
 {
-    match watched.watch.kind {
-        WatchKind::Text => shows_kept(value, &watched.kept),
+    match value {
+        View::Prim(value) => stays(watched, value),
         _ => false,
     }
 }
 
-/// The verdict of a watcher: a value that is no object is spelled only where the kept text is another.
+/// The verdict of a watcher: a value that is no object is spelled only where the kept text is another, and that of a dotted path is copied only
+/// where it isn't the one that was kept.
 pub(crate) fn verdict(alloc: Global, store: &Store, watched: &Watched) -> Result<Verdict, Fault>
     requires { WatchStands (length store.now) (watching_of watched.now.watch) }
     ensures { Gives is_memory judged_of (verdict store.now (watcher_of watched.now)) result }
 {
+    if is_seen_clean(alloc, store, watched) {
+        return Ok(Verdict::Clean);
+    }
     let value = value_now(alloc, store, &watched.watch)?;
     if is_shown(watched, &value) {
         return Ok(Verdict::Clean);
