@@ -1,3 +1,4 @@
+pub mod ByReference
 pub mod Judging
 pub mod Literals
 pub mod Rows

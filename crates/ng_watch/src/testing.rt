@@ -116,12 +116,7 @@ fn is_seen_clean(alloc: Global, store: &Store, watched: &Watched) -> bool
     ensures { IsTrue result → verdict store.now (watcher_of watched.now) ≡ Ok clean }
 {
     let locals = Locals::new(alloc);
-    match seen_value(
-        store,
-        watched.watch.scope,
-        &locals,
-        &watched.watch.program,
-    ) {
+    match seen_value(store, watched.watch.scope, &locals, &watched.watch.program) {
         None => false,
         Some(value) => stays(watched, value),
     }
