@@ -1,5 +1,6 @@
 //! Paths of scopes and nodes, and the keys of watchers.
 ghost use Rattle.std.specs.Prelude.{◌≡◌, ◌++◌, ◌∷◌, [], IfOk, OnOk, OnErr};
+ghost use Rattle.ng_base.specs.Order.{path_cmp};
 
 use crate::name::Serial;
 use crate::txt::Txt;
@@ -20,6 +21,23 @@ impl Model for Path {
     ghost Value = { List ℕ };
 
     ghost view = { λ p. p.numbers.items };
+}
+
+/// The order of two lists of numbers. Most differ in their first number, so these are compared before the lists are.
+#[inline]
+#[tactic(auto, using(crate::proofs::Orderings::first_less, crate::proofs::Orderings::first_greater))]
+fn order_of(numbers: &[u32], others: &[u32]) -> Ordering
+    ensures { result ≡ path_cmp numbers.now others.now }
+{
+    if let (Some((first, _)), Some((other, _))) = (numbers.split_first(), others.split_first()) {
+        if *first < *other {
+            return Ordering::Less;
+        }
+        if *other < *first {
+            return Ordering::Greater;
+        }
+    }
+    numbers.cmp(others)
 }
 
 impl Path {
@@ -108,7 +126,7 @@ impl Ord for Path {
     ghost matches_eq = { path_cmp-eq };
 
     fn cmp(&self, other: &Path) -> Ordering {
-        self.numbers.cmp(&other.numbers)
+        order_of(self.numbers.as_slice(), other.numbers.as_slice())
     }
 }
 
