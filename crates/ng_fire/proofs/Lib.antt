@@ -16,3 +16,4 @@ pub mod RowsStay
 pub mod Parts
 pub mod RowsKept
 pub mod RowsLeft
+pub mod KeptScopes

@@ -1,5 +1,5 @@
 //! The fire of a repeat's site: rows go, are kept, and are made (API: ngRepeat).
-ghost use Rattle.std.specs.Prelude.{ℕ, ◌≡◌, ◌<◌, ◌≤◌, ◌+◌, length, map, slice_get, false, true, Ok, IfOk, OnOk};
+ghost use Rattle.std.specs.Prelude.{ℕ, ◌≡◌, ◌<◌, ◌≤◌, ◌+◌, length, map, slice_get, false, true, Ok, IfOk, IfSome, OnOk};
 ghost use Rattle.ng_base.specs.Objects.{StandsAmong};
 ghost use Rattle.ng_base.specs.ViewOf.{view_of};
 ghost use Rattle.ng_blocks.specs.Plans.{planned, has_double as has_double_of};
@@ -10,7 +10,7 @@ ghost use Rattle.ng_rows.specs.RepeatRows.{keys_of, kept_rows as kept_rows_of, r
 ghost use Rattle.ng_fire.specs.Repeats.{all_ended, bodies_at, body_at, by_items, by_keys, filled_to, repeat_fired, row_fired, rows_at, rows_changed, rows_fired, rows_taken};
 ghost use Rattle.ng_rows.specs.RepeatsOf.{row_of, rows_of, AreNames, RowsOfStand};
 ghost use Rattle.ng_fire.specs.RowsInOrder.{in_order, IsPart};
-ghost use Rattle.ng_fire.specs.RowsKnown.{AreRowsAt, HaveGone, IsSpot, KeptOrGone};
+ghost use Rattle.ng_fire.specs.RowsKnown.{AreKeptOn, AreRowsAt, HaveGone, IsSpot, KeptOrGone};
 ghost use Rattle.ng_fire.specs.Serving.{BodiesStay, Keeps, OthersStay, RestStays};
 ghost use Rattle.ng_rows.specs.TrackingOf.{item_of, items_of, ItemsStand};
 ghost use Rattle.ng_changes.specs.Whole.{IsWhole};
@@ -27,6 +27,7 @@ ghost use Rattle.ng_link.specs.State.{state_of, templates_of};
 ghost use Rattle.ng_parts.specs.RepeatedOf.{repeated_of};
 
 use crate::blocks::{end_body, fault, link_body};
+use crate::keeping::scope_for;
 use crate::ordering::are_in_order;
 use ng_base::fault::{Fault, Memory};
 use ng_base::lists::Sources;
@@ -147,19 +148,19 @@ fn keep_row(
     works: &mut Works,
     ground: &Ground<'_>,
     i: u32,
-    body: &SharedBody,
+    scope: ScopeId,
     row: &Row<'_>,
 ) -> Result<(), Memory>
     requires whole { IsWhole works.old }
     requires names { AreNames ground.now.names }
     requires place { i < ground.now.count }
+    requires scope { scope.0 < length works.old.core.scopes }
     requires row { StandsAmong (length works.old.core.store) row.now.item.value }
-    ensures state { OnOk result (state_of works.new ≡ with_core (told_on (scope_in (linked_at body.now.path (state_of works.old).instances)) (row_names (repeated_of ground.now.repeated.now) ground.now.count i (item_of row.now.item)) (state_of works.old).core) (state_of works.old)) }
+    ensures state { OnOk result (state_of works.new ≡ with_core (told_on scope.0 (row_names (repeated_of ground.now.repeated.now) ground.now.count i (item_of row.now.item)) (state_of works.old).core) (state_of works.old)) }
     ensures whole { OnOk result (IsWhole works.new) }
     ensures store { length works.new.core.store ≡ length works.old.core.store }
     ensures templates { templates_of works.new ≡ templates_of works.old }
 {
-    let scope = works.scope_on(body.path());
     tell_row(&mut works.core, scope, ground, i, &row.item)
 }
 
@@ -219,7 +220,7 @@ fn make_row(
     }
 }
 
-/// The row of an entry is kept, or made unless one before it could not be made. The answer is how many rows stand then before the next.
+/// The row of an entry is kept on its scope, or made unless one before it could not be made. The answer is how many rows stand then before the next.
 fn fire_row(
     works: &mut Works,
     alloc: Global,
@@ -228,6 +229,7 @@ fn fire_row(
     i: u32,
     at: u32,
     row: &Row<'_>,
+    scope: ScopeId,
     told: &mut Followed,
 ) -> Result<u32, Memory>
     requires whole { IsWhole works.old }
@@ -236,6 +238,7 @@ fn fire_row(
     requires place { i < ground.now.count }
     requires few { at ≤ i }
     requires row { StandsAmong (length works.old.core.store) row.now.item.value }
+    requires scope { IfSome (row_of row.now).from (λ p. scope.0 ≡ scope_in (linked_at p (state_of works.old).instances)) }
     ensures fired { IfOk result (λ n. filled_to n (firing works.new told.new) ≡ row_fired spot.now.holder.now spot.now.scope.0 (map (λ s. s.0) spot.now.outsides.now) spot.now.outlet spot.now.origin (row_of row.now) (row_names (repeated_of ground.now.repeated.now) ground.now.count i (item_of row.now.item)) (row_of row.now).from (filled_to at (firing works.old told.old))) }
     ensures few { IfOk result (λ n. n ≤ i + 1) }
     ensures keeps { OnOk result (Keeps spot.now.holder.now (state_of works.old).instances (state_of works.new).instances) }
@@ -245,8 +248,8 @@ fn fire_row(
     ensures templates { templates_of works.new ≡ templates_of works.old }
 {
     match row.from {
-        Some(body) => {
-            keep_row(works, ground, i, body, row)?;
+        Some(_) => {
+            keep_row(works, ground, i, scope, row)?;
             place_of(at as usize + 1)
         }
         None => {
@@ -263,13 +266,14 @@ fn fire_row(
     }
 }
 
-/// The rows of all entries, in order.
+/// The rows of all entries, in order. These are the scopes of those that are kept.
 fn fire_rows(
     works: &mut Works,
     alloc: Global,
     spot: &Spot<'_>,
     ground: &Ground<'_>,
     rows: &[Row<'_>],
+    scopes: &[ScopeId],
     told: &mut Followed,
 ) -> Result<(), Memory>
     requires whole { IsWhole works.old }
@@ -277,6 +281,7 @@ fn fire_rows(
     requires names { AreNames ground.now.names }
     requires count { length rows.now ≡ ground.now.count }
     requires rows { RowsOfStand (length works.old.core.store) (rows_of rows.now) }
+    requires scopes { AreKeptOn spot.now.holder.now (state_of works.old).instances (kept_rows_of (rows_of rows.now)) (map (λ s. s.0) scopes.now) }
     ensures fired { OnOk result (firing works.new told.new ≡ (rows_fired spot.now.holder.now spot.now.scope.0 (map (λ s. s.0) spot.now.outsides.now) spot.now.outlet spot.now.origin (repeated_of ground.now.repeated.now) ground.now.count 0 (rows_of rows.now) (filled_to 0 (firing works.old told.old))).firing) }
     ensures keeps { OnOk result (Keeps spot.now.holder.now (state_of works.old).instances (state_of works.new).instances) }
     ensures others { OnOk result (OthersStay spot.now.holder.now (state_of works.old).instances (state_of works.new).instances) }
@@ -285,9 +290,12 @@ fn fire_rows(
     ensures templates { templates_of works.new ≡ templates_of works.old }
 {
     let mut at = 0;
+    let mut left = scopes;
     for i in 0..rows.len() {
         let place = place_of(i)?;
-        at = fire_row(works, alloc, spot, ground, place, at, &rows[i], told)?;
+        let (scope, others) = scope_for(&rows[i], left);
+        at = fire_row(works, alloc, spot, ground, place, at, &rows[i], scope, told)?;
+        left = others;
     }
     Ok(())
 }
@@ -343,7 +351,8 @@ fn change_rows(
     end_rows(works, alloc, bodies, plan.gone.as_slice(), told)?;
     take_rows(works, spot, bodies, plan.gone.as_slice())?;
     arrange_rows(works, alloc, spot, bodies, &plan.from, rows)?;
-    fire_rows(works, alloc, spot, &ground, rows, told)
+    let scopes = works.scopes_in(spot.holder, spot.outlet)?;
+    fire_rows(works, alloc, spot, &ground, rows, scopes.as_slice(), told)
 }
 
 /// Rows by a plan.

@@ -61,3 +61,4 @@ pub mod Arranged
 pub mod ArrangedNames
 pub mod BuiltArranged
 pub mod Rearranged
+pub mod Walked

@@ -1,5 +1,5 @@
 -- The document of a page with the names of its nodes, and what handles its events there.
-use Rattle.std.specs.Prelude.{ℕ, Bool, List, [], Option, Some, None, option_and_then, unwrap_or}
+use Rattle.std.specs.Prelude.{ℕ, Bool, List, [], map, Option, Some, None, option_and_then, unwrap_or}
 use Rattle.std.specs.BTreeMap.{is_at}
 use Rattle.std.specs.Map.{lookup}
 use Rattle.std.specs.Ordering.{nat_cmp}
@@ -10,7 +10,7 @@ use Rattle.ng_control.specs.State.{ControlState}
 use Rattle.ng_control.specs.declared.kind.ControlKind.{ControlKind}
 use Rattle.ng_build.specs.Controls.{ControlHere, Controlled, controlled_at, state_under, kind_in}
 use Rattle.ng_build.specs.Handlers.{Handled, programs_at, is_entered}
-use Rattle.ng_instances.specs.Instances.{Linked, linked_at, scope_number, stands_at, owner_of}
+use Rattle.ng_instances.specs.Instances.{Body, Linked, Instances, linked_at, scope_number, stands_at, owner_of}
 use Rattle.ng_link.specs.State.{State, looks_in}
 
 -- what stands of what is linked
@@ -32,6 +32,10 @@ handled_in (Some l) = l.page.handlers
 abbrev pub scope_in : Option Linked → ℕ
 scope_in None = 0
 scope_in (Some l) = l.page.scope
+
+-- the scopes of the instances on the paths of bodies
+abbrev pub scopes_at : List Body → Instances → List ℕ
+scopes_at bs is = map (λ (b : Body). scope_in (linked_at b.path is)) bs
 
 -- the programs that handle an event at a node, in order; none where no such node stands
 abbrev pub handlers_at : State → ℕ → List ℕ → List Trees

@@ -13,3 +13,4 @@ pub mod Firing
 pub mod Laws
 pub mod Untroubled
 pub mod SiteAt
+pub mod Walking

@@ -4,21 +4,25 @@ use Rattle.ng_base.specs.declared.name.ScopeId.{ScopeId}
 use Rattle.ng_core.specs.declared.core_state.Core.{Core}
 use Rattle.ng_drawing.specs.declared.origin.Origin.{Origin}
 use Rattle.ng_drawing.specs.Template.{Repeated}
-use Rattle.ng_changes.proofs.Answered.{ok_then}
+use Rattle.ng_changes.proofs.Answered.{ok_then, there}
+use Rattle.ng_fire.proofs.BlockBodies.{outlet_there}
 use Rattle.ng_fire.proofs.KeptRows.{rows_wider}
+use Rattle.ng_fire.proofs.KeptScopes.{arranged_rows, rows_kept}
 use Rattle.ng_fire.proofs.RowsLeft.{left_in_order}
 use Rattle.ng_fire.proofs.RowsStay.{inside_other, none_round, row_inside}
 use Rattle.ng_fire.proofs.RowsTaken.{arranged_keeps, arranged_whole, keeps_same, keeps_then, rows_among, rows_rearranged, spot_stays}
 use Rattle.ng_fire.specs.Blocks.{Firing}
 use Rattle.ng_fire.specs.FireOf.{firing}
 use Rattle.ng_rows.specs.RepeatRows.{Row, kept_rows}
-use Rattle.ng_fire.specs.Repeats.{all_ended, bodies_at, filled_to, rows_arranged, rows_at, rows_fired, rows_gone, rows_taken, with_state}
+use Rattle.ng_fire.specs.Repeats.{all_ended, bodies_at, bodies_or, filled_to, rows_arranged, rows_at, rows_fired, rows_gone, rows_taken, with_state}
 use Rattle.ng_rows.specs.RepeatsOf.{RowsOfStand, rows_of}
-use Rattle.ng_fire.specs.RowsKnown.{AreRowsAt, HaveGone}
+use Rattle.ng_fire.specs.RowsKnown.{AreKeptOn, AreRowsAt, HaveGone}
 use Rattle.ng_fire.specs.Serving.{Keeps, RestStays}
 use Rattle.ng_link.proofs.Lookups.{changed_other}
 use Rattle.ng_link.specs.Calls.{arranged_at}
 use Rattle.ng_instances.specs.Instances.{Body, Instances, bodies_arranged, linked_at}
+use Rattle.ng_instances.specs.PlaceOf.{outlet_of_linked}
+use Rattle.ng_link.specs.Events.{scopes_at}
 use Rattle.ng_link.specs.Standing.{body_count}
 use Rattle.ng_instances.specs.InstanceOf.{body_of}
 use Rattle.ng_link.specs.State.{State, state_of, templates_of}
@@ -83,6 +87,24 @@ fire_rows-requires-clause-rows c =
     let core = c.arrange_rows.ensures.core ∙ c.take_rows.ensures.core in
     subst (λ (x : Core). RowsOfStand (length x.store) (rows_of c.args.rows.now)) (sym core)
     (rows_wider (length first.core.store) (length m.core.store) c.in_ok-end_rows.ensures.grown (rows_of c.args.rows.now) c.requires.rows)
+
+-- those that are kept are the rows that stand once they are put in order
+pub fire_rows-requires-clause-scopes : goal.fire_rows-requires-clause-scopes
+fire_rows-requires-clause-scopes c =
+    let t = c.take_rows.new.works in
+    let v = c.arrange_rows.new.works in
+    let spot = c.args.spot.now in
+    let holder : List ℕ = spot.holder.now in
+    let o : ℕ = spot.outlet in
+    let is : Instances = (state_of v).instances in
+    let kept : List Body = kept_rows (rows_of c.args.rows.now) in
+    let built = c.in_ok-arrange_rows.ensures.stands.1.built in
+    let state = ap (λ (s : State). s.instances) c.in_ok-arrange_rows.ensures.state in
+    let spot_now = fire_rows-requires-clause-spot c in
+    let one = there (outlet_of_linked o (linked_at holder is)) (outlet_there holder o spot.scope.0 (map (λ (n : ScopeId). n.0) spot.outsides.now) is spot_now.outlet) in
+    let same : one.0.bodies ≡ kept = arranged_rows holder o kept (state_of t).instances one.0 (sym (ap (λ (x : Instances). outlet_of_linked o (linked_at holder x)) state) ∙ one.1) in
+    let found : map (λ (n : ScopeId). n.0) c.as_slice-3.result.now ≡ scopes_at kept is = ap (map (λ (n : ScopeId). n.0)) c.as_slice-3.ensures.value ∙ (c.in_ok-scopes.ensures one.0 one.1 ∙ ap (λ (bs : List Body). scopes_at bs is) same) in
+    subst (AreKeptOn holder is kept) (sym found) (rows_kept _ _ holder o is built.each built.bodies kept (ap bodies_or one.1 ∙ same))
 
 pub returns-clause-fired : goal.returns-clause-fired
 returns-clause-fired c =

@@ -3,6 +3,8 @@ use Rattle.ng_base.specs.declared.name.ScopeId.{ScopeId}
 use Rattle.ng_fire.specs.FireOf.{firing}
 use Rattle.ng_fire.specs.Repeats.{filled_to, rows_fired}
 use Rattle.ng_rows.specs.RepeatsOf.{RowsOfStand, rows_of}
+use Rattle.ng_rows.specs.RepeatRows.{kept_rows}
+use Rattle.ng_fire.specs.RowsKnown.{AreKeptOn}
 use Rattle.ng_fire.specs.Serving.{Keeps, OthersStay}
 use Rattle.ng_changes.specs.Whole.{IsWhole}
 use Rattle.ng_link.specs.State.{state_of, templates_of}
@@ -16,6 +18,7 @@ invariant-loop-i l = record {
   few : l.at ≤ l.i;
   keeps : Keeps l.spot.holder.now (state_of l.initial.works).instances (state_of l.works).instances;
   others : OthersStay l.spot.holder.now (state_of l.initial.works).instances (state_of l.works).instances;
+  kept : AreKeptOn l.spot.holder.now (state_of l.works).instances (kept_rows (rows_of (drop l.i l.rows))) (map (λ (n : ScopeId). n.0) l.left);
   rows : RowsOfStand (length l.works.core.store) (rows_of (drop l.i l.rows));
   grown : length l.initial.works.core.store ≤ length l.works.core.store;
   whole : IsWhole l.works;
