@@ -293,8 +293,9 @@ fn fire_rows(
     let mut left = scopes;
     for i in 0..rows.len() {
         let place = place_of(i)?;
-        let (scope, others) = scope_for(&rows[i], left);
-        at = fire_row(works, alloc, spot, ground, place, at, &rows[i], scope, told)?;
+        let row = &rows[i];
+        let (scope, others) = scope_for(row, left);
+        at = fire_row(works, alloc, spot, ground, place, at, row, scope, told)?;
         left = others;
     }
     Ok(())

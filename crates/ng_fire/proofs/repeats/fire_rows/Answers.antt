@@ -36,7 +36,7 @@ fire_row-requires-clause-scope c =
     let rows = c.args.rows.now in
     let holder : List ℕ = c.args.spot.now.holder.now in
     let is : Instances = (state_of l.works).instances in
-    let ns : List ℕ = map (λ (n : ScopeId). n.0) l.left in
+    let ns : List ℕ = map (λ (n : ScopeId). n.0) l.left.now in
     let r : Row = row_of c.index-rows-i.result in
     let rest : List Row = rows_of (drop (l.i + 1) rows) in
     let e : rows_of (drop l.i rows) ≡ r ∷ rest = ap rows_of (dropped rows l.i c.index-rows-i.result c.loop-i-test.true c.index-rows-i.is) in
@@ -87,7 +87,7 @@ loop-i-preserved c =
       keeps = keeps_then holder (state_of first).instances (state_of l.works).instances (state_of w).instances l.invariant.keeps done.keeps;
       others = others_then holder (state_of first).instances (state_of l.works).instances (state_of w).instances l.invariant.others done.others;
       kept = kept_stay holder (state_of l.works).instances (state_of w).instances done.others (kept_rows rest) (map (λ (n : ScopeId). n.0) c.scope_for.result.1.now)
-          (c.scope_for.ensures holder (state_of l.works).instances rest (subst (λ (rs : List Row). AreKeptOn holder (state_of l.works).instances (kept_rows rs) (map (λ (n : ScopeId). n.0) l.left)) e l.invariant.kept)).1;
+          (c.scope_for.ensures holder (state_of l.works).instances rest (subst (λ (rs : List Row). AreKeptOn holder (state_of l.works).instances (kept_rows rs) (map (λ (n : ScopeId). n.0) l.left.now)) e l.invariant.kept)).1;
       rows = rows_wider (length l.works.core.store) (length w.core.store) done.grown rest (subst (λ (rs : List Row). RowsOfStand (length l.works.core.store) rs) e l.invariant.rows).1;
       grown = (let one = done.grown in let all = l.invariant.grown in omega (arith, one, all));
       whole = done.whole;
