@@ -1,4 +1,4 @@
-use Rattle.std.proofs.Common.{◌≡◌, ◌∙◌, None, ap, sym, true, false}
+use Rattle.std.proofs.Common.{◌≡◌, ◌∙◌, None, sym, true, false}
 use Rattle.std.proofs.lemmas.Slice.Eq.{bytes_eq-Decides}
 use Rattle.ng_link.proofs.Walked.{first_scope, found_scope, none_from, other_from, range_of, rest_of}
 use Rattle.ng_link.proofs.filling.next_scope.Goals as goal

@@ -1,4 +1,4 @@
-use Rattle.std.proofs.Common.{◌+◌, ◌++◌, ◌≡◌, ◌∙◌, ℕ, List, ap, append-nil, drop, map, sym}
+use Rattle.std.proofs.Common.{◌+◌, ◌++◌, ◌∙◌, ℕ, List, ap, append-nil, drop, map, sym}
 use Rattle.std.proofs.lemmas.List.{drop_all}
 use Rattle.ng_base.specs.declared.name.ScopeId.{ScopeId}
 use Rattle.ng_build.proofs.Loops.{next_seen, pushed}

@@ -1,7 +1,6 @@
 use Rattle.std.proofs.Common.{◌≡◌, Some, None, ap, sym, ◌∙◌, map}
 use Rattle.std.specs.Prelude.{option_map}
-use Rattle.ng_instances.specs.Instances.{OutletState, linked_at}
-use Rattle.ng_instances.specs.PlaceOf.{outlet_of_linked}
+use Rattle.ng_instances.specs.Instances.{OutletState}
 use Rattle.ng_instances.specs.InstanceOf.{body_of, outlet_of}
 use Rattle.ng_link.specs.Events.{scopes_at}
 use Rattle.ng_link.specs.State.{state_of, templates_of}
