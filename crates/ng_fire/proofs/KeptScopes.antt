@@ -1,10 +1,10 @@
 -- The scopes of the rows that are kept, while rows are made.
-use Rattle.std.proofs.Common.{◌≡◌, ◌∙◌, ◌<◌, ◌++◌, ℕ, zero, suc, Bool, true, false, cond, List, [], ◌∷◌, slice_get, option_map, Option, Some, None, refl, ap, sym, subst, arith}
+use Rattle.std.proofs.Common.{◌≡◌, ◌∙◌, ◌<◌, ◌++◌, ℕ, zero, suc, Bool, false, cond, List, [], ◌∷◌, slice_get, option_map, Option, Some, None, ap, sym, subst, arith}
 use Rattle.std.specs.Prelude.{IfSome, IsSome}
 use Rattle.ng_base.specs.declared.path.Key.{Key}
 use Rattle.ng_changes.proofs.Answered.{there}
 use Rattle.ng_fire.proofs.RowsStay.{inside_other, row_inside}
-use Rattle.ng_fire.specs.Repeats.{bodies_or, rows_at}
+use Rattle.ng_fire.specs.Repeats.{rows_at}
 use Rattle.ng_fire.specs.RowsKnown.{AreKeptOn, IsKeptOn, TakesScope}
 use Rattle.ng_fire.specs.Serving.{OthersStay}
 use Rattle.ng_instances.specs.Instances.{Body, Instances, Linked, OutletState, bodies_arranged, is_path, linked_at, outlets_changed, with_outlets}

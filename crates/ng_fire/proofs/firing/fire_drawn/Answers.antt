@@ -1,4 +1,4 @@
-use Rattle.std.proofs.Common.{◌≡◌, ◌∙◌, ap, map, subst}
+use Rattle.std.proofs.Common.{◌∙◌, ap, map, subst}
 use Rattle.ng_instances.specs.Due.{all_due, due_of}
 use Rattle.ng_instances.specs.Instances.{bound_for, linked_for}
 use Rattle.ng_instances.specs.SiteHere.{FillsAs}

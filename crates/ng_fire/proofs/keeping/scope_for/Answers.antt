@@ -1,6 +1,6 @@
 use Rattle.std.proofs.Common.{ap, map}
 use Rattle.ng_rows.specs.RepeatsOf.{path_of, row_of}
-use Rattle.ng_fire.proofs.KeptScopes.{none_taken, nothing_taken, one_taken}
+use Rattle.ng_fire.proofs.KeptScopes.{none_taken}
 use Rattle.ng_fire.proofs.keeping.scope_for.Goals as goal
 
 pub returns-in-None : goal.returns-in-None
