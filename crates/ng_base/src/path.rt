@@ -4,15 +4,16 @@ ghost use Rattle.ng_base.specs.Order.{path_cmp};
 
 use crate::name::Serial;
 use crate::txt::Txt;
+use smallvec::SmallVec;
 use std::alloc::{AllocError, Global};
 use std::cmp::Ordering;
 use std::marker::Model;
 
 /// The numbers of the children on the way down from the top, which has the empty path. Paths are ordered by
-/// their numbers, a prefix first.
+/// their numbers, a prefix first. A short one stands in the value itself, so that keys are copied and compared without the heap.
 #[derive(Drop)]
 pub struct Path {
-    numbers: Vec<u32>,
+    numbers: SmallVec<u32, 4>,
 }
 
 impl Model for Path {
@@ -46,7 +47,7 @@ impl Path {
         ensures { result ≡ [] }
     {
         Path {
-            numbers: Vec::new(alloc),
+            numbers: SmallVec::new(alloc),
         }
     }
 
@@ -70,7 +71,7 @@ impl Path {
     pub fn copied(&self) -> Result<Path, AllocError>
         ensures { IfOk result (λ p. p ≡ self.now) }
     {
-        let numbers = self.numbers.clone()?;
+        let numbers = SmallVec::from_slice(*self.numbers.allocator(), self.as_slice())?;
         Ok(Path { numbers })
     }
 }
@@ -86,7 +87,7 @@ impl PartialEq for Path {
     ghost laws = { Prim.search (comparing, rules) };
 
     fn eq(&self, other: &Path) -> bool {
-        self.numbers == other.numbers
+        self.as_slice() == other.as_slice()
     }
 }
 
