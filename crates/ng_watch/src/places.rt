@@ -22,6 +22,22 @@ pub(crate) struct Place {
     pub(crate) row: usize,
 }
 
+/// The place that may be the next one, in the same chunk.
+pub(crate) fn after(at: Place) -> Place {
+    Place {
+        chunk: at.chunk,
+        row: at.row.saturating_add(1),
+    }
+}
+
+/// The place that may be the one before, in the same chunk.
+pub(crate) fn before(at: Place) -> Place {
+    Place {
+        chunk: at.chunk,
+        row: at.row.saturating_sub(1),
+    }
+}
+
 /// The row of a place.
 pub(crate) fn row_at(chunks: &[Chunk], at: Place) -> Option<&(Key, Watched)>
     ensures { option_copied result ≡ row_at chunks.now at.chunk at.row }

@@ -1,6 +1,6 @@
 //! The rows of the watchers in key order, in chunks, so that a row comes and goes at the cost of its chunk, with the
 //! place where a walk stands, so that a walk finds its rows without a search.
-ghost use Rattle.std.specs.Prelude.{◌≡◌, [], Some, find, length, not, IfErr, IfOk, MatchOption, OnOk, OnErr, option_copied, option_map, slice_get};
+ghost use Rattle.std.specs.Prelude.{◌≡◌, [], Some, find, length, not, IfErr, IfOk, IfSome, MatchOption, OnOk, OnErr, option_copied, option_map, slice_get};
 ghost use Rattle.std.specs.BTreeMap.{insert_entry};
 ghost use Rattle.std.specs.List.{filter};
 ghost use Rattle.std.specs.List.Sorted.{IsStrictlySortedBy};
@@ -15,7 +15,8 @@ ghost use Rattle.ng_watch.specs.Walks.{Walks, reached_of};
 use crate::chunk::Chunk;
 use crate::edits::{drop_under, put_in, set_kept, set_watched, take_row};
 use crate::places::{
-    Place, edge, find, first_row, is_at, is_of, next_place, place_from, row_at, search,
+    Place, after, before, edge, find, first_row, is_at, is_of, next_place, place_from, row_at,
+    search,
 };
 use crate::walking::{Walk, walk_on};
 use crate::watched::Watched;
@@ -132,14 +133,40 @@ impl RowTable {
         Ok(stop.walk)
     }
 
+    /// The watcher of a key, where its row stands at a place.
+    #[inline]
+    fn at_place(&self, at: Place, key: &Key) -> Option<&Watched>
+        ensures value { IfSome result (λ w. lookup (is_key key.now) self.now ≡ Some w.now) }
+    {
+        match row_at(&self.chunks, at) {
+            Some(row) if is_of(row, key) => Some(&row.1),
+            _ => None,
+        }
+    }
+
     /// The watcher of a key.
     #[inline]
     pub(crate) fn get(&self, key: &Key) -> Option<&Watched>
         ensures value { option_copied result ≡ lookup (is_key key.now) self.now }
     {
-        match row_at(&self.chunks, self.at.get()) {
-            Some(row) if is_of(row, key) => Some(&row.1),
-            _ => self.search(key),
+        match self.at_place(self.at.get(), key) {
+            Some(watched) => Some(watched),
+            None => self.beside(key),
+        }
+    }
+
+    /// The watcher of a key, of which the row may stand after or before that which was found last, as the holes of one text do; else by a search.
+    #[inline(never)]
+    fn beside(&self, key: &Key) -> Option<&Watched>
+        ensures value { option_copied result ≡ lookup (is_key key.now) self.now }
+    {
+        let at = self.at.get();
+        if let Some(watched) = self.at_place(after(at), key) {
+            return Some(watched);
+        }
+        match self.at_place(before(at), key) {
+            Some(watched) => Some(watched),
+            None => self.search(key),
         }
     }
 

@@ -109,19 +109,6 @@ fn stays(watched: &Watched, value: &Value) -> bool
     }
 }
 
-/// Whether a watch of a dotted path is told to be clean by the value where that stands.
-#[tactic(auto, unfolding(crate::specs::Now::value_now))]
-fn is_seen_clean(alloc: Global, store: &Store, watched: &Watched) -> bool
-    requires { WatchStands (length store.now) (watching_of watched.now.watch) }
-    ensures { IsTrue result → verdict store.now (watcher_of watched.now) ≡ Ok clean }
-{
-    let locals = Locals::new(alloc);
-    match seen_value(store, watched.watch.scope, &locals, &watched.watch.program) {
-        None => false,
-        Some(value) => stays(watched, value),
-    }
-}
-
 /// The text that a value shows, as a snapshot.
 fn text_snap(alloc: Global, store: &Store, value: &View) -> Result<Snap, Fault>
     requires { ViewStands (length store.now) (view_of value.now) }
@@ -189,18 +176,53 @@ fn is_shown(watched: &Watched, value: &View) -> bool
     }
 }
 
-/// The verdict of a watcher: a value that is no object is spelled only where the kept text is another, and that of a dotted path is copied only
-/// where it isn't the one that was kept.
+/// The verdict of a watcher of a value that stands in the store: it is copied only where it isn't the one that was kept.
+fn seen_verdict(
+    alloc: Global,
+    store: &Store,
+    watched: &Watched,
+    value: &Value,
+) -> Result<Verdict, Fault>
+    requires dest { DestStands (length store.now) watched.now.watch.kind }
+    requires value { ViewStands (length store.now) (prim value.now) }
+    ensures { Gives is_memory judged_of (verdict_of watched.now.watch.kind (option_map snap_of watched.now.kept) store.now (prim value.now)) result }
+{
+    if stays(watched, value) {
+        return Ok(Verdict::Clean);
+    }
+    verdict_of(alloc, store, watched, &View::of_value(value.copied()?))
+}
+
+/// The verdict of a watcher of a value that was evaluated.
+fn evaluated_verdict(
+    alloc: Global,
+    store: &Store,
+    watched: &Watched,
+    value: &View,
+) -> Result<Verdict, Fault>
+    requires dest { DestStands (length store.now) watched.now.watch.kind }
+    requires value { ViewStands (length store.now) (view_of value.now) }
+    ensures { Gives is_memory judged_of (verdict_of watched.now.watch.kind (option_map snap_of watched.now.kept) store.now (view_of value.now)) result }
+{
+    if is_shown(watched, value) {
+        return Ok(Verdict::Clean);
+    }
+    verdict_of(alloc, store, watched, value)
+}
+
+/// The verdict of a watcher: a value that is no object is spelled only where the kept text is another, and the value of a dotted path is read
+/// where it stands.
+#[tactic(auto, unfolding(crate::specs::Now::value_now))]
 pub(crate) fn verdict(alloc: Global, store: &Store, watched: &Watched) -> Result<Verdict, Fault>
     requires { WatchStands (length store.now) (watching_of watched.now.watch) }
     ensures { Gives is_memory judged_of (verdict store.now (watcher_of watched.now)) result }
 {
-    if is_seen_clean(alloc, store, watched) {
-        return Ok(Verdict::Clean);
+    let locals = Locals::new(alloc);
+    match seen_value(store, watched.watch.scope, &locals, &watched.watch.program) {
+        Some(value) => seen_verdict(alloc, store, watched, value),
+        None => {
+            let value = value_now(alloc, store, &watched.watch)?;
+            evaluated_verdict(alloc, store, watched, &value)
+        }
     }
-    let value = value_now(alloc, store, &watched.watch)?;
-    if is_shown(watched, &value) {
-        return Ok(Verdict::Clean);
-    }
-    verdict_of(alloc, store, watched, &value)
 }
