@@ -5,6 +5,7 @@ pub mod FiresStay
 pub mod Bodies
 pub mod Altered
 pub mod Arranging
+pub mod KeptKinds
 pub mod KeptRows
 pub mod TrackedKeys
 pub mod RowsFit

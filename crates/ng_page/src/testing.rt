@@ -1,5 +1,5 @@
 //! What a test and a fire of a watcher do.
-ghost use Rattle.std.specs.Prelude.{◌≡◌, ℕ, List, IsSome, OnOk, IfOk, Err, true, false, is_some, option_copied, option_map};
+ghost use Rattle.std.specs.Prelude.{◌≡◌, ℕ, List, IsSome, IsTrue, OnOk, IfOk, Err, true, false, is_some, option_copied, option_map};
 ghost use Rattle.std.specs.Option.{ForSome};
 ghost use Rattle.ng_base.specs.declared.path.Key.{Key as Name};
 ghost use Rattle.ng_fire.specs.Fires.{fired, fire_adds, IsDirtyWith};
@@ -19,11 +19,11 @@ use ng_base::fault::{Fault, Memory};
 use ng_base::path::Key;
 use ng_digest::progress::Progress;
 use ng_digest::world::Tested;
-use ng_fire::firing;
+use ng_fire::firing::{self, FireResult};
 use ng_link::works::Works;
 use ng_value::snapshot::Snap;
 use ng_watch::walking::{Reached, Walk};
-use ng_watch::watch::{Verdict, Watch, WatchKind};
+use ng_watch::watch::{Verdict, WatchKind};
 use std::alloc::{AllocError, Global};
 use std::collections::BTreeSet;
 
@@ -138,15 +138,29 @@ pub(crate) fn nothing() -> Ended
     }
 }
 
-/// Whether a watch is a two-way binding, which isn't clean by what it keeps alone.
-fn is_two_way(watch: &Watch) -> bool
-    ensures { result ≡ is_two_way watch.now.kind }
+/// Whether the watch of a key is known to be clean by what it keeps alone, as a two-way binding isn't.
+fn is_plain(works: &Works, key: &Key) -> bool
+    requires there { IsSome (found key.now (state_of works.now).watchers) }
+    ensures { IsTrue result → ForSome (found key.now (state_of works.now).watchers) (λ w. is_two_way w.watch.kind ≡ false) }
 {
-    matches!(watch.kind, WatchKind::TwoWay { .. })
+    !matches!(works.watchers().watch(key).kind, WatchKind::TwoWay { .. })
+}
+
+/// What a fire came to. Only of one that was quiet the kind of its watch is asked.
+fn end_of(works: &Works, key: &Key, fired: FireResult) -> Ended
+    requires there { fired.quiet ≡ true → IsSome (found key.now (state_of works.now).watchers) }
+    ensures added { result.added ≡ fired.followed.added }
+    ensures quiet { result.quiet ≡ true → (fired.quiet ≡ true) × ForSome (found key.now (state_of works.now).watchers) (λ w. is_two_way w.watch.kind ≡ false) }
+{
+    Ended {
+        added: fired.followed.added,
+        quiet: fired.quiet && is_plain(works, key),
+    }
 }
 
 /// Fires the watcher of a key: it keeps the snapshot that its test handed on, and then it fires. A fire that faulted is
 /// remembered.
+#[tactic(auto, using(crate::proofs::KeptKinds::kept_there, crate::proofs::KeptKinds::plain_before))]
 pub(crate) fn fire(
     alloc: Global,
     works: &mut Works,
@@ -162,13 +176,9 @@ pub(crate) fn fire(
     ensures quiet { IfOk result (λ e. e.quiet ≡ true → (state_of works.new ≡ keeping_at key.now (snap_of snapshot) (state_of works.old)) × ForSome (found key.now (state_of works.old).watchers) (λ w. is_two_way w.watch.kind ≡ false)) }
     ensures works { OnOk result (WorksAre works.new) }
 {
-    let plain = !is_two_way(works.watchers().watch(key));
     let fired = firing::fire(works, alloc, key, snapshot)?;
     if fired.followed.faulted {
         faulted.insert(copied(key)?)?;
     }
-    Ok(Ended {
-        added: fired.followed.added,
-        quiet: fired.quiet && plain,
-    })
+    Ok(end_of(works, key, fired))
 }
