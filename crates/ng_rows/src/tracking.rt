@@ -1,8 +1,8 @@
 //! The entries of a repeat's collection as values, and their track keys (API: ngRepeat, "Tracking and Duplicates").
-ghost use Rattle.std.specs.Prelude.{◌≡◌, ◌<◌, ◌≤◌, [], ◌∷◌, length, pos, List, IfOk, IsTrue, Ok, OnOk};
+ghost use Rattle.std.specs.Prelude.{◌≡◌, ◌<◌, ◌≤◌, [], ◌∷◌, length, pos, List, IfOk, IfSome, IsTrue, Ok, OnOk};
 ghost use Rattle.ng_core.specs.Frames.{state_of, IsSound, Acts};
 ghost use Rattle.ng_base.specs.Faults.{is_memory};
-ghost use Rattle.ng_base.specs.Meets.{Meets};
+ghost use Rattle.ng_base.specs.Meets.{Meets, ◌>>=◌};
 ghost use Rattle.ng_base.specs.Objects.{Object, StandsAmong};
 ghost use Rattle.ng_base.specs.ViewOf.{view_of};
 ghost use Rattle.ng_base.specs.Views.{prim};
@@ -16,6 +16,7 @@ ghost use Rattle.ng_language.specs.Views.{ViewStands};
 ghost use Rattle.ng_parts.specs.RepeatedOf.{track_of, repeated_of};
 ghost use Rattle.ng_value.specs.Snaps.{snap_of};
 ghost use Rattle.ng_members.specs.Leaves.{LocalsStand};
+ghost use Rattle.ng_view.specs.Evaluation.{evaluated_program};
 
 use ng_base::fault::{Fault, Memory};
 use ng_base::locals::Locals;
@@ -33,7 +34,7 @@ use ng_parts::{Repeated, Track};
 use ng_store::store::Store;
 use ng_value::snapshot::Snap;
 use ng_value::texts::to_text;
-use ng_view::view;
+use ng_view::{seen_value, view};
 use std::alloc::{AllocError, Global};
 
 /// An entry with its value; that of a fresh list or record is a new object.
@@ -177,22 +178,30 @@ fn spells(value: &Value, text: &Txt) -> bool
     }
 }
 
-/// The text of a number, which is shared where a key has it.
+/// The text of the key that is guessed, where a number has it.
+fn guessed_text<'a>(number: &Value, guess: Option<&'a TrackKey>) -> Option<&'a Txt>
+    ensures { IfSome result (λ t. (objects : List Object) → to_text_of objects (prim number.now) ≡ Ok t.now) }
+{
+    match guess {
+        Some(TrackKey::Text(text)) if spells(number, text) => Some(text),
+        _ => None,
+    }
+}
+
+/// The text of a value that is no fresh list or record. It is shared where the key that is guessed has it.
 fn shared_text(
     alloc: Global,
     store: &Store,
-    value: &View,
-    number: &Value,
-    text: &Txt,
+    value: &Value,
+    guess: Option<&TrackKey>,
 ) -> Result<Txt, Fault>
-    requires stands { ViewStands (length store.now) (view_of value.now) }
-    requires number { view_of value.now ≡ prim number.now }
-    ensures { Meets is_memory (to_text_of store.now (view_of value.now)) result }
+    requires { ViewStands (length store.now) (prim value.now) }
+    ensures { Meets is_memory (to_text_of store.now (prim value.now)) result }
 {
-    if spells(number, text) {
-        return Ok(text.copied()?);
+    match guessed_text(value, guess) {
+        Some(text) => Ok(text.copied()?),
+        None => to_text(alloc, store, &View::of_value(value.copied()?)),
     }
-    to_text(alloc, store, value)
 }
 
 /// The text of a value, which is shared where the key that is guessed has it.
@@ -206,17 +215,36 @@ fn text_by(
     ensures { Meets is_memory (to_text_of store.now (view_of value.now)) result }
 {
     match value {
-        View::Prim(number) => match guess {
-            Some(TrackKey::Text(text)) => shared_text(alloc, store, value, number, text),
-            _ => to_text(alloc, store, value),
-        },
+        View::Prim(value) => shared_text(alloc, store, value, guess),
         View::List(_) => to_text(alloc, store, value),
         View::Rec(_) => to_text(alloc, store, value),
     }
 }
 
-/// The key of an entry by a track expression: its text.
+/// The text of what a track expression gives. The value of a dotted path is read where it stands.
 #[tactic(auto, using(ng_view::proofs::Pure::pure_are, ng_view::proofs::Pure::known_are))]
+fn tracked_text(
+    alloc: Global,
+    store: &Store,
+    object: Oid,
+    locals: &Locals,
+    track: &Track,
+    guess: Option<&TrackKey>,
+) -> Result<Txt, Fault>
+    requires object { object.0 < length store.now }
+    requires locals { LocalsStand (length store.now) locals.now }
+    ensures { Meets is_memory (evaluated_program store.now object.0 locals.now (track_of track.now) >>= to_text_of store.now) result }
+{
+    match seen_value(store, object, locals, track.program()) {
+        Some(value) => shared_text(alloc, store, value, guess),
+        None => {
+            let value = view(alloc, store, object, locals, track.program())?;
+            text_by(alloc, store, &value, guess)
+        }
+    }
+}
+
+/// The key of an entry by a track expression: its text.
 fn tracked_key(
     alloc: Global,
     store: &Store,
@@ -229,8 +257,8 @@ fn tracked_key(
     requires locals { LocalsStand (length store.now) locals.now }
     ensures { Meets is_memory (tracked_by store.now object.0 locals.now (track_of track.now)) result }
 {
-    let value = view(alloc, store, object, locals, track.program())?;
-    Ok(TrackKey::Text(text_by(alloc, store, &value, guess)?))
+    let text = tracked_text(alloc, store, object, locals, track, guess)?;
+    Ok(TrackKey::Text(text))
 }
 
 /// The key of an entry. Where it has a track expression the locals get the entry's values.
