@@ -45,10 +45,10 @@ fn first_on<V>(table: &BTreeMap<Key, V>, start: &Key, p: &Path) -> Result<Option
 }
 
 /// A key is taken out.
-fn forget_key<V: Drop>(table: &mut BTreeMap<Key, V>, key: &Key)
-    ensures { table.new.entries ≡ remove_entry (is_key key.now) table.old.entries }
+fn forget_key<V: Drop>(table: &mut BTreeMap<Key, V>, key: Key)
+    ensures { table.new.entries ≡ remove_entry (is_key key) table.old.entries }
 {
-    let _ = table.remove(key);
+    let _ = table.remove(&key);
 }
 
 /// The keys on a path and below it are taken out.
@@ -57,7 +57,7 @@ pub fn forget_on<V: Drop>(table: &mut BTreeMap<Key, V>, p: &Path) -> Result<(), 
 {
     let start = key_on(p, 0)?;
     while let Some(key) = first_on(table, &start, p)? {
-        forget_key(table, &key);
+        forget_key(table, key);
     }
     Ok(())
 }
