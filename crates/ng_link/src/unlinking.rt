@@ -187,22 +187,29 @@ fn first_inner(inner: &BTreeMap<Path, Path>, p: &Path) -> Result<Option<Path>, A
     }
 }
 
+/// A path is taken out.
+fn forget_path(inner: &mut BTreeMap<Path, Path>, path: Path)
+    ensures { inner.new.entries ≡ remove_entry (is_path path) inner.old.entries }
+{
+    let _ = inner.remove(&path);
+}
+
 /// The inner scopes on a path and below it are taken out.
 fn forget_inner(inner: &mut BTreeMap<Path, Path>, p: &Path) -> Result<(), AllocError>
     ensures { OnOk result (inner.new.entries ≡ filter (λ e. not (begins_with p.now e.0)) inner.old.entries) }
 {
     while let Some(path) = first_inner(inner, p)? {
-        let _ = inner.remove(&path);
+        forget_path(inner, path);
     }
     Ok(())
 }
 
 /// An instance is taken out, and the name of its first node with it.
-fn forget_one(instances: &mut BTreeMap<Path, Linked>, owners: &mut BTreeMap<u64, Path>, path: &Path)
-    ensures instances { instances.new.entries ≡ remove_entry (is_path path.now) instances.old.entries }
-    ensures owners { MatchOption (lookup (is_path path.now) instances.old.entries) (owners.new.entries ≡ owners.old.entries) (λ one. owners.new.entries ≡ remove_entry (is_at (nat_cmp one.node)) owners.old.entries) }
+fn forget_one(instances: &mut BTreeMap<Path, Linked>, owners: &mut BTreeMap<u64, Path>, path: Path)
+    ensures instances { instances.new.entries ≡ remove_entry (is_path path) instances.old.entries }
+    ensures owners { MatchOption (lookup (is_path path) instances.old.entries) (owners.new.entries ≡ owners.old.entries) (λ one. owners.new.entries ≡ remove_entry (is_at (nat_cmp one.node)) owners.old.entries) }
 {
-    match instances.remove(path) {
+    match instances.remove(&path) {
         None => {}
         Some(one) => {
             let _ = owners.remove(&one.node);
@@ -220,7 +227,7 @@ fn forget_below(
     ensures owners { OnOk result (owners.new.entries ≡ owners_less (λ one. one.node) p.now instances.old.entries owners.old.entries) }
 {
     while let Some(path) = first_below(instances, p)? {
-        forget_one(instances, owners, &path);
+        forget_one(instances, owners, path);
     }
     Ok(())
 }
