@@ -45,8 +45,11 @@ plain_key i None (list ts) = keys.Place i
 plain_key i None (rec fs) = keys.Place i
 
 -- with one it is known by the text of that
+abbrev pub tracked_text : List Object → ℕ → List Local → Trees → Result (List ℕ) Fault
+tracked_text objects o locals p = evaluated_program objects o locals p >>= to_text objects
+
 abbrev pub tracked_by : List Object → ℕ → List Local → Trees → Result TrackKey Fault
-tracked_by objects o locals p = evaluated_program objects o locals p >>= to_text objects >>= λ t. Ok (keys.Text t)
+tracked_by objects o locals p = tracked_text objects o locals p >>= λ t. Ok (keys.Text t)
 
 abbrev pub track_key : List Object → ℕ → Repeated → Option Trees → ℕ → Item → Result TrackKey Fault
 track_key objects o r None i x = Ok (plain_key i x.entry.name x.entry.value)

@@ -2,21 +2,20 @@
 ghost use Rattle.std.specs.Prelude.{◌≡◌, ◌<◌, ◌≤◌, [], ◌∷◌, length, pos, List, IfOk, IfSome, IsTrue, Ok, OnOk};
 ghost use Rattle.ng_core.specs.Frames.{state_of, IsSound, Acts};
 ghost use Rattle.ng_base.specs.Faults.{is_memory};
-ghost use Rattle.ng_base.specs.Meets.{Meets, ◌>>=◌};
+ghost use Rattle.ng_base.specs.Meets.{Meets};
 ghost use Rattle.ng_base.specs.Objects.{Object, StandsAmong};
 ghost use Rattle.ng_base.specs.ViewOf.{view_of};
 ghost use Rattle.ng_base.specs.Views.{prim};
 ghost use Rattle.ng_base.specs.declared.value.Value.TheVariants.{Int, Undefined};
 ghost use Rattle.ng_drawing.specs.RolesOf.{entry_of, entries_of};
 ghost use Rattle.ng_rows.specs.RepeatRows.{item_made, items_made};
-ghost use Rattle.ng_rows.specs.Tracking.{index_name as index_name_of, key_value as key_value_of, track_locals as track_locals_of, plain_key as plain_key_of, key_local, tracked_by, track_key as track_key_of, track_keys as track_keys_of};
+ghost use Rattle.ng_rows.specs.Tracking.{index_name as index_name_of, key_value as key_value_of, track_locals as track_locals_of, plain_key as plain_key_of, key_local, tracked_by, tracked_text, track_key as track_key_of, track_keys as track_keys_of};
 ghost use Rattle.ng_rows.specs.TrackingOf.{item_of, items_of, AreLocals, EntriesStand, ItemsStand};
 ghost use Rattle.ng_language.specs.Texts.{to_text as to_text_of};
 ghost use Rattle.ng_language.specs.Views.{ViewStands};
 ghost use Rattle.ng_parts.specs.RepeatedOf.{track_of, repeated_of};
 ghost use Rattle.ng_value.specs.Snaps.{snap_of};
 ghost use Rattle.ng_members.specs.Leaves.{LocalsStand};
-ghost use Rattle.ng_view.specs.Evaluation.{evaluated_program};
 
 use ng_base::fault::{Fault, Memory};
 use ng_base::locals::Locals;
@@ -233,7 +232,7 @@ fn tracked_text(
 ) -> Result<Txt, Fault>
     requires object { object.0 < length store.now }
     requires locals { LocalsStand (length store.now) locals.now }
-    ensures { Meets is_memory (evaluated_program store.now object.0 locals.now (track_of track.now) >>= to_text_of store.now) result }
+    ensures { Meets is_memory (tracked_text store.now object.0 locals.now (track_of track.now)) result }
 {
     match seen_value(store, object, locals, track.program()) {
         Some(value) => shared_text(alloc, store, value, guess),
