@@ -24,13 +24,8 @@ still_some : (o : Option ViewTree) (x : Option Watcher) → IsSome x → IsSome 
 still_some o None h = h
 still_some o (Some w) h = h
 
-was_plain : (o : Option ViewTree) (x : Option Watcher) → ForSome (option_map (keeping o) x) (λ w. is_two_way w.watch.kind ≡ false) → ForSome x (λ w. is_two_way w.watch.kind ≡ false)
-was_plain o None h = h
-was_plain o (Some w) h = h
-
 pub kept_there : (k : Key) (v : ViewTree) (s u : link.State) → u ≡ keeping_at k v s → IsSome (found k s.watchers) → IsSome (found k u.watchers)
 kept_there k v s u same h = subst (λ (z : link.State). IsSome (found k z.watchers)) (sym same) (subst IsSome (sym (found_kept k (Some v) s.watchers)) (still_some (Some v) (found k s.watchers) h))
 
 pub plain_before : (k : Key) (v : ViewTree) (s u : link.State) → u ≡ keeping_at k v s → ForSome (found k u.watchers) (λ w. is_two_way w.watch.kind ≡ false) → ForSome (found k s.watchers) (λ w. is_two_way w.watch.kind ≡ false)
-plain_before k v s u same h =
-    was_plain (Some v) (found k s.watchers) (subst (λ (x : Option Watcher). ForSome x (λ w. is_two_way w.watch.kind ≡ false)) (found_kept k (Some v) s.watchers) (subst (λ (z : link.State). ForSome (found k z.watchers) (λ w. is_two_way w.watch.kind ≡ false)) same h))
+plain_before k v s u same h = λ x e. h (keeping (Some v) x) (ap (λ (z : link.State). found k z.watchers) same ∙ (found_kept k (Some v) s.watchers ∙ ap (option_map (keeping (Some v))) e))

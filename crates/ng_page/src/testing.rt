@@ -160,7 +160,6 @@ fn end_of(works: &Works, key: &Key, fired: FireResult) -> Ended
 
 /// Fires the watcher of a key: it keeps the snapshot that its test handed on, and then it fires. A fire that faulted is
 /// remembered.
-#[tactic(auto, using(crate::proofs::KeptKinds::kept_there, crate::proofs::KeptKinds::plain_before))]
 pub(crate) fn fire(
     alloc: Global,
     works: &mut Works,
