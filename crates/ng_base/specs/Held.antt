@@ -1,11 +1,14 @@
 -- The characters that a text holds, in bytes.
-use Rattle.std.specs.Prelude.{ℕ, List, [], Option, None, Some}
+use Rattle.std.specs.Prelude.{ℕ, List, take}
 use Rattle.std.specs.String.{string_bytes}
-use Rattle.std.specs.declared.rc.Rc.{Rc}
-use Rattle.std.specs.declared.string.String.{String}
+use Rattle.ng_base.specs.declared.short.ShortText.{ShortText}
+use Rattle.ng_base.specs.declared.txt.Held.{Held}
+use Rattle.ng_base.specs.declared.txt.Held.TheVariants.{Short, Long}
 
--- nothing is held of a text without characters that no one filled yet
-module _ {Y Z : Type 0} where
-  abbrev pub held_bytes : Option (Rc (String Z) Y) → List ℕ
-  held_bytes None = []
-  held_bytes (Some text) = string_bytes text.value
+-- the bytes of a short text stand at the front of its room
+abbrev pub short_bytes : ShortText → List ℕ
+short_bytes text = take text.len text.bytes
+
+abbrev pub held_bytes : Held → List ℕ
+held_bytes (Short text) = short_bytes text
+held_bytes (Long text) = string_bytes text.value
