@@ -4,5 +4,6 @@ pub mod Told
 pub mod FirstItems
 pub mod SameRoles
 pub mod Spliced
+pub mod RowKeys
 pub mod KeysRise
 pub mod TrackLocals

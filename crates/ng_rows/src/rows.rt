@@ -7,7 +7,7 @@ ghost use Rattle.ng_base.specs.Word.{IsWord};
 ghost use Rattle.ng_blocks.specs.Plans.{planned, has_double as has_double_of};
 ghost use Rattle.ng_drawing.specs.RolesOf.{entry_of, role_of};
 ghost use Rattle.ng_rows.specs.Chosen.{told_on};
-ghost use Rattle.ng_rows.specs.RepeatRows.{key_of as key_of_role, keys_of as keys_of_bodies, path_from, same_row, rows_from as rows_from_all, role_for as role_for_row, kept_rows as kept_rows_of, place_names as names_of_place, row_names, as_fault};
+ghost use Rattle.ng_rows.specs.RepeatRows.{keys_of as keys_of_bodies, path_from, same_row, rows_from as rows_from_all, role_for as role_for_row, kept_rows as kept_rows_of, place_names as names_of_place, row_names, as_fault};
 ghost use Rattle.ng_rows.specs.RepeatsOf.{path_of, row_of, rows_of, AreNames};
 ghost use Rattle.ng_rows.specs.Tracking.{key_local, key_value as value_of_key};
 ghost use Rattle.ng_rows.specs.TrackingOf.{item_of, items_of};
@@ -16,7 +16,7 @@ ghost use Rattle.ng_instances.specs.InstanceOf.{body_of};
 ghost use Rattle.ng_parts.specs.RepeatedOf.{repeated_of};
 ghost use Rattle.ng_write.specs.Storing.{with_names};
 
-use crate::splicing::{has_double, plan_spliced};
+use crate::splicing::{has_double, keys_of, plan_spliced};
 use crate::tracking::{Item, index_name, key_value, place_of};
 use ng_base::fault::{Fault, Memory};
 use ng_base::lists::Sources;
@@ -173,27 +173,6 @@ pub fn tell_row(
     tell_place(&mut core.store, object, &ground.names, ground.count, i)
 }
 
-/// The key of a row that stands.
-fn key_of(role: &Role) -> Result<TrackKey, AllocError>
-    ensures { IfOk result (λ k. k ≡ key_of_role (role_of role.now)) }
-{
-    match role {
-        Role::Body | Role::Named(_) => Ok(TrackKey::Place(0)),
-        Role::Row(key, _) => key.copied(),
-    }
-}
-
-/// The keys of the rows that stand.
-fn keys_of(alloc: Global, bodies: &[SharedBody]) -> Result<TrackKeys, AllocError>
-    ensures { IfOk result (λ ks. ks ≡ keys_of_bodies (map body_of bodies.now)) }
-{
-    let mut keys = TrackKeys::new(alloc);
-    for body in bodies {
-        keys.push(key_of(body.role())?)?;
-    }
-    Ok(keys)
-}
-
 /// The body of the row at a place.
 #[tactic(auto, using(crate::proofs::RowAt::path_at))]
 fn body_from(bodies: &[SharedBody], from: Option<u32>) -> Option<&SharedBody>
@@ -290,11 +269,11 @@ pub fn plan_rows(
     ensures plan { IfOk result (λ p. p ≡ as_fault (planned (keys_of_bodies (map body_of bodies.now)) keys.now)) }
     ensures old { OnOk result (has_double_of (keys_of_bodies (map body_of bodies.now)) ≡ false) }
 {
-    let old = keys_of(alloc, bodies)?;
     let _few = place_of(bodies.len())?;
-    if let Some(plan) = plan_spliced(alloc, &old, keys)? {
+    if let Some(plan) = plan_spliced(alloc, bodies, keys)? {
         return Ok(Ok(plan));
     }
+    let old = keys_of(alloc, bodies)?;
     if has_double(alloc, &old)? {
         return Err(Memory::Worn);
     }

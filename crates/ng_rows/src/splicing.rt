@@ -1,6 +1,9 @@
 //! Which rows a repeat keeps where rows came or went at one place alone: it takes no look-up of a key (API: ngRepeat).
-ghost use Rattle.std.specs.Prelude.{◌≡◌, ◌+◌, ◌-◌, ◌≤◌, [], ◌++◌, length, take, drop, IfOk, IfSome, IsTrue, OnOk};
+ghost use Rattle.std.specs.Prelude.{◌≡◌, ◌↔◌, ◌-◌, ◌≤◌, [], ◌++◌, length, map, take, drop, IfOk, IfSome, IsTrue, OnOk};
 ghost use Rattle.ng_blocks.specs.Plans.{has_double as has_double_of};
+ghost use Rattle.ng_drawing.specs.RolesOf.{role_of};
+ghost use Rattle.ng_instances.specs.InstanceOf.{body_of};
+ghost use Rattle.ng_rows.specs.RepeatRows.{key_of as key_of_role, keys_of as keys_of_bodies};
 ghost use Rattle.ng_rows.specs.Splices.{places_on, sources_on, no_sources, number_of as number_of_key, next_after as next_number, rise_from, IsPlan};
 
 use crate::tracking::place_of;
@@ -9,7 +12,40 @@ use ng_base::fault::Memory;
 use ng_base::index::index_of;
 use ng_base::lists::{Numbers, Sources};
 use ng_blocks::{Plan, TrackKey, TrackKeys};
+use ng_drawing::roles::Role;
+use ng_instances::instances::SharedBody;
 use std::alloc::{AllocError, Global};
+
+/// The key of a row that stands.
+fn key_of(role: &Role) -> Result<TrackKey, AllocError>
+    ensures { IfOk result (λ k. k ≡ key_of_role (role_of role.now)) }
+{
+    match role {
+        Role::Body | Role::Named(_) => Ok(TrackKey::Place(0)),
+        Role::Row(key, _) => key.copied(),
+    }
+}
+
+/// The keys of the rows that stand.
+pub(crate) fn keys_of(alloc: Global, bodies: &[SharedBody]) -> Result<TrackKeys, AllocError>
+    ensures { IfOk result (λ ks. ks ≡ keys_of_bodies (map body_of bodies.now)) }
+{
+    let mut keys = TrackKeys::new(alloc);
+    for body in bodies {
+        keys.push(key_of(body.role())?)?;
+    }
+    Ok(keys)
+}
+
+/// Whether a row that stands has a key, which is read where it is.
+fn has_key(role: &Role, key: &TrackKey) -> bool
+    ensures { IsTrue result ↔ (key_of_role (role_of role.now) ≡ key.now) }
+{
+    match role {
+        Role::Body | Role::Named(_) => TrackKey::Place(0).same(key),
+        Role::Row(own, _) => own.same(key),
+    }
+}
 
 /// Whether two of these keys are the same.
 pub(crate) fn has_double(alloc: Global, keys: &TrackKeys) -> Result<bool, Memory>
@@ -32,6 +68,16 @@ fn number_of(key: &TrackKey) -> Option<u32>
         TrackKey::Prim(_) => None,
         TrackKey::Place(place) => Some(*place),
         TrackKey::Text(text) => index_of(text),
+    }
+}
+
+/// The number of the key of a row that stands.
+fn number_of_row(role: &Role) -> Option<u32>
+    ensures { result ≡ number_of_key (key_of_role (role_of role.now)) }
+{
+    match role {
+        Role::Body | Role::Named(_) => Some(0),
+        Role::Row(key, _) => number_of(key),
     }
 }
 
@@ -65,6 +111,20 @@ fn are_rising(keys: &[TrackKey]) -> bool
     true
 }
 
+/// Whether the numbers of the keys of rows that stand rise.
+fn rows_rise(bodies: &[SharedBody]) -> bool
+    ensures { result ≡ rise_from 0 (keys_of_bodies (map body_of bodies.now)) }
+{
+    let mut least = 0;
+    for body in bodies {
+        match next_after(least, number_of_row(body.role())) {
+            None => return false,
+            Some(next) => least = next,
+        }
+    }
+    true
+}
+
 /// Whether two of these keys are the same, which is seen at once where their numbers rise.
 fn are_doubled(alloc: Global, keys: &TrackKeys) -> Result<bool, Memory>
     ensures { IfOk result (λ b. b ≡ has_double_of keys.now) }
@@ -75,32 +135,42 @@ fn are_doubled(alloc: Global, keys: &TrackKeys) -> Result<bool, Memory>
     has_double(alloc, keys)
 }
 
-/// How many keys in front are the same.
-fn same_front(short: &[TrackKey], long: &[TrackKey]) -> usize
-    requires { length short.now ≤ length long.now }
-    ensures within { result ≤ length short.now }
-    ensures same { take result long.now ≡ take result short.now }
+/// Whether two of the rows that stand have one key, which is seen at once where the numbers of their keys rise.
+fn rows_doubled(alloc: Global, bodies: &[SharedBody]) -> Result<bool, Memory>
+    ensures { IfOk result (λ b. b ≡ has_double_of (keys_of_bodies (map body_of bodies.now))) }
 {
-    for i in 0..short.len() {
-        if !short[i].same(&long[i]) {
+    if rows_rise(bodies) {
+        return Ok(false);
+    }
+    let keys = keys_of(alloc, bodies)?;
+    has_double(alloc, &keys)
+}
+
+/// How many rows in front have the keys that are in front, of at most as many as there are of both.
+fn same_front(bodies: &[SharedBody], keys: &[TrackKey], most: usize) -> usize
+    requires bodies { most ≤ length bodies.now }
+    requires keys { most ≤ length keys.now }
+    ensures within { result ≤ most }
+    ensures same { take result (keys_of_bodies (map body_of bodies.now)) ≡ take result keys.now }
+{
+    for i in 0..most {
+        if !has_key(bodies[i].role(), &keys[i]) {
             return i;
         }
     }
-    short.len()
+    most
 }
 
-/// Whether the keys from a place on are the last of others.
-fn is_end(long: &[TrackKey], short: &[TrackKey], first: usize) -> bool
-    requires fits { length short.now ≤ length long.now }
-    requires first { first ≤ length short.now }
-    ensures { IsTrue result → drop (first + (length long.now - length short.now)) long.now ≡ drop first short.now }
+/// Whether as many rows at the end have the keys that are at the end.
+fn is_end(bodies: &[SharedBody], keys: &[TrackKey], count: usize) -> bool
+    requires bodies { count ≤ length bodies.now }
+    requires keys { count ≤ length keys.now }
+    ensures { IsTrue result → drop (length bodies.now - count) (keys_of_bodies (map body_of bodies.now)) ≡ drop (length keys.now - count) keys.now }
 {
-    let mut i = short.len();
-    let mut j = long.len();
-    while i > first {
-        i -= 1;
-        j -= 1;
-        if !long[j].same(&short[i]) {
+    for behind in 0..count {
+        let i = bodies.len() - 1 - behind;
+        let j = keys.len() - 1 - behind;
+        if !has_key(bodies[i].role(), &keys[j]) {
             return false;
         }
     }
@@ -170,58 +240,55 @@ fn plan_went(alloc: Global, old: u32, front: u32, end: u32) -> Result<Plan, Allo
 }
 
 /// A plan where entries came at one place alone.
-fn came(alloc: Global, old: &TrackKeys, new: &TrackKeys) -> Result<Option<Plan>, Memory>
-    requires { length old.now ≤ length new.now }
-    ensures { IfOk result (λ r. IfSome r (IsPlan old.now new.now)) }
+fn came(alloc: Global, bodies: &[SharedBody], keys: &TrackKeys) -> Result<Option<Plan>, Memory>
+    requires { length bodies.now ≤ length keys.now }
+    ensures { IfOk result (λ r. IfSome r (IsPlan (keys_of_bodies (map body_of bodies.now)) keys.now)) }
 {
-    let short = old.as_slice();
-    let long = new.as_slice();
-    let first = same_front(short, long);
-    if !is_end(long, short, first) {
+    let entries = keys.as_slice();
+    let first = same_front(bodies, entries, bodies.len());
+    if !is_end(bodies, entries, bodies.len() - first) {
         return Ok(None);
     }
-    if are_doubled(alloc, new)? {
+    if are_doubled(alloc, keys)? {
         return Ok(None);
     }
-    let count = place_of(short.len())?;
-    let more = place_of(long.len() - short.len())?;
+    let count = place_of(bodies.len())?;
+    let more = place_of(entries.len() - bodies.len())?;
     let front = place_of(first)?;
     Ok(Some(plan_came(alloc, count, more, front)?))
 }
 
 /// A plan where rows went at one place alone.
-fn went(alloc: Global, old: &TrackKeys, new: &TrackKeys) -> Result<Option<Plan>, Memory>
-    requires { length new.now ≤ length old.now }
-    ensures { IfOk result (λ r. IfSome r (IsPlan old.now new.now)) }
+fn went(alloc: Global, bodies: &[SharedBody], keys: &TrackKeys) -> Result<Option<Plan>, Memory>
+    requires { length keys.now ≤ length bodies.now }
+    ensures { IfOk result (λ r. IfSome r (IsPlan (keys_of_bodies (map body_of bodies.now)) keys.now)) }
 {
-    let long = old.as_slice();
-    let short = new.as_slice();
-    let first = same_front(short, long);
-    if !is_end(long, short, first) {
+    let entries = keys.as_slice();
+    let first = same_front(bodies, entries, entries.len());
+    if !is_end(bodies, entries, entries.len() - first) {
         return Ok(None);
     }
-    if are_doubled(alloc, old)? {
+    if rows_doubled(alloc, bodies)? {
         return Ok(None);
     }
-    let count = place_of(long.len())?;
-    let end = place_of(first + (long.len() - short.len()))?;
+    let count = place_of(bodies.len())?;
+    let end = place_of(first + (bodies.len() - entries.len()))?;
     let front = place_of(first)?;
     Ok(Some(plan_went(alloc, count, front, end)?))
 }
 
-/// A plan where rows came or went at one place alone and no two have one key, as most often.
+/// A plan where rows came or went at one place alone and no two have one key, as most often. The keys of the rows are read where they are.
 pub(crate) fn plan_spliced(
     alloc: Global,
-    old: &TrackKeys,
-    new: &TrackKeys,
+    bodies: &[SharedBody],
+    keys: &TrackKeys,
 ) -> Result<Option<Plan>, Memory>
-    ensures { IfOk result (λ r. IfSome r (IsPlan old.now new.now)) }
+    ensures { IfOk result (λ r. IfSome r (IsPlan (keys_of_bodies (map body_of bodies.now)) keys.now)) }
 {
-    let rows = old.as_slice();
-    let entries = new.as_slice();
-    if rows.len() <= entries.len() {
-        came(alloc, old, new)
+    let entries = keys.as_slice();
+    if bodies.len() <= entries.len() {
+        came(alloc, bodies, keys)
     } else {
-        went(alloc, old, new)
+        went(alloc, bodies, keys)
     }
 }

@@ -1,37 +1,30 @@
 use Rattle.std.proofs.Common.{◌≡◌, ◌<◌, ◌-◌, ◌+◌, ◌∙◌, ℕ, ap, drop, length, arith}
+use Rattle.ng_rows.proofs.RowKeys.{count, key_there, row_key, row_keys, within}
 use Rattle.ng_rows.proofs.Spliced.{end_more, no_end}
 use Rattle.ng_rows.proofs.splicing.is_end.Goals as goal
 
-pub loop-i-init : goal.loop-i-init
-loop-i-init c = record {
-  within = omega arith;
-  first = c.requires.first;
-  apart = omega arith;
-  same = no_end c.args.long.now c.args.short.now;
-}
+pub loop-behind-init : goal.loop-behind-init
+loop-behind-init c =
+    let bodies = c.args.bodies.now in
+    let keys = c.args.keys.now in
+    let all : length bodies - 0 ≡ length (row_keys bodies) = omega (arith, count bodies) in
+    let last : length keys ≡ length keys - 0 = omega arith in
+    ap (λ (n : ℕ). drop n (row_keys bodies)) all ∙ (no_end (row_keys bodies) keys ∙ ap (λ (n : ℕ). drop n keys) last)
 
-pub loop-i-preserved : goal.loop-i-preserved
-loop-i-preserved c =
-    let long = c.args.long.now in
-    let short = c.args.short.now in
-    let i = c.loop-i.i - 1 in
-    let j = c.loop-i.j - 1 in
-    let behind : drop (j + 1) long ≡ drop (i + 1) short =
-    ap (λ (n : ℕ). drop n long) (omega (arith, c.loop-i.invariant.apart, c.loop-i-test.true, c.requires.fits))
-    ∙ (c.loop-i.invariant.same ∙ ap (λ (n : ℕ). drop n short) (omega (arith, c.loop-i-test.true))) in
-    let in_short : i < length short = omega (arith, c.loop-i.invariant.within, c.loop-i-test.true) in
-    let in_long : j < length long = omega (arith, c.loop-i.invariant.apart, c.loop-i.invariant.within, c.loop-i-test.true, c.requires.fits) in
-    record {
-      within = omega (arith, c.loop-i.invariant.within);
-      first = omega (arith, c.loop-i-test.true);
-      apart = omega (arith, c.loop-i.invariant.apart, c.loop-i-test.true, c.requires.fits);
-      same = end_more long short j i c.index-long-j.result c.index-short-i.result in_long in_short c.index-long-j.is c.index-short-i.is (c.same.ensures.same.0 c.if-not-same.false) behind;
-    }
-
-pub returns : goal.returns
-returns c = λ t.
-    let long = c.args.long.now in
-    let short = c.args.short.now in
-    let i : c.loop-i.i ≡ c.args.first = omega (arith, c.loop-i.invariant.first, c.loop-i-test.false) in
-    let j : c.args.first + (length long - length short) ≡ c.loop-i.j = omega (arith, i, c.loop-i.invariant.apart, c.requires.fits) in
-    ap (λ (n : ℕ). drop n long) j ∙ (c.loop-i.invariant.same ∙ ap (λ (n : ℕ). drop n short) i)
+pub loop-behind-preserved : goal.loop-behind-preserved
+loop-behind-preserved c =
+    let bodies = c.args.bodies.now in
+    let keys = c.args.keys.now in
+    let n = c.loop-behind.behind in
+    let i = length bodies - 1 - n in
+    let j = length keys - 1 - n in
+    let r = c.role.result.now in
+    let k = c.index-keys-j.result in
+    let in_bodies : i < length bodies = omega (arith, c.loop-behind-test.true, c.requires.bodies) in
+    let in_keys : j < length keys = omega (arith, c.loop-behind-test.true, c.requires.keys) in
+    let behind : drop (i + 1) (row_keys bodies) ≡ drop (j + 1) keys =
+    ap (λ (m : ℕ). drop m (row_keys bodies)) (omega (arith, c.loop-behind-test.true, c.requires.bodies))
+    ∙ (c.loop-behind.invariant ∙ ap (λ (m : ℕ). drop m keys) (omega (arith, c.loop-behind-test.true, c.requires.keys))) in
+    ap (λ (m : ℕ). drop m (row_keys bodies)) (omega arith)
+    ∙ (end_more (row_keys bodies) keys i j (row_key r) k (within bodies i in_bodies) in_keys (key_there bodies i c.index-bodies-i.result r in_bodies c.index-bodies-i.is c.role.ensures) c.index-keys-j.is (c.has_key.ensures.0 c.if-not-has_key.false) behind
+    ∙ ap (λ (m : ℕ). drop m keys) (omega arith))

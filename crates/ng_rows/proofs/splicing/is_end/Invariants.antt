@@ -1,13 +1,7 @@
-use Rattle.std.proofs.Common.{◌≡◌, ◌≤◌, ◌+◌, length, drop}
+use Rattle.std.proofs.Common.{◌≡◌, ◌-◌, drop, length, map}
+use Rattle.ng_instances.specs.InstanceOf.{body_of}
+use Rattle.ng_rows.specs.RepeatRows.{keys_of}
 use Rattle.ng_rows.proofs.splicing.is_end.Given as goal
 
-abbrev pub invariant-loop-i : goal.invariant-loop-i
-invariant-loop-i l = record {
-  within : l.i ≤ length l.short;
-  first : l.first ≤ l.i;
-  apart : l.j + length l.short ≡ l.i + length l.long;
-  same : drop l.j l.long ≡ drop l.i l.short;
-}
-
-abbrev pub decreases-loop-i : goal.decreases-loop-i
-decreases-loop-i l = l.i
+abbrev pub invariant-loop-behind : goal.invariant-loop-behind
+invariant-loop-behind l = drop (length l.bodies - l.behind) (keys_of (map body_of l.bodies)) ≡ drop (length l.keys - l.behind) l.keys

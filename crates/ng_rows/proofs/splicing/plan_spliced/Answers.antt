@@ -4,12 +4,10 @@ use Rattle.ng_rows.proofs.splicing.plan_spliced.Goals as goal
 
 pub came-requires : goal.came-requires
 came-requires c =
-    let rows = ap (λ (l : List TrackKey). length l) c.as_slice-rows.ensures in
     let entries = ap (λ (l : List TrackKey). length l) c.as_slice-entries.ensures in
-    omega (arith, rows, entries, c.if-rows-entries.true)
+    omega (arith, entries, c.if-bodies-entries.true)
 
 pub went-requires : goal.went-requires
 went-requires c =
-    let rows = ap (λ (l : List TrackKey). length l) c.as_slice-rows.ensures in
     let entries = ap (λ (l : List TrackKey). length l) c.as_slice-entries.ensures in
-    omega (arith, rows, entries, c.if-rows-entries.false)
+    omega (arith, entries, c.if-bodies-entries.false)

@@ -1,21 +1,16 @@
-use Rattle.std.proofs.Common.{◌≡◌, ◌<◌, ◌∙◌, ℕ, ap, length, sym, take, arith}
+use Rattle.std.proofs.Common.{◌≡◌, ◌<◌, ◌≤◌, ◌∙◌, ℕ, ap, length, sym, take, arith}
+use Rattle.ng_rows.proofs.RowKeys.{key_there, row_key, row_keys, within}
 use Rattle.ng_rows.proofs.Spliced.{front_more}
 use Rattle.ng_rows.proofs.splicing.same_front.Goals as goal
 
 pub loop-i-preserved : goal.loop-i-preserved
 loop-i-preserved c =
-    let short = c.args.short.now in
-    let long = c.args.long.now in
+    let bodies = c.args.bodies.now in
+    let keys = c.args.keys.now in
     let i = c.loop-i.i in
-    let in_long : i < length long = omega (arith, c.loop-i-test.true, c.requires) in
-    record {
-      within = omega (arith, c.loop-i-test.true);
-      same = front_more long short i c.index-long-i.result c.index-short-i.result in_long c.loop-i-test.true c.index-long-i.is c.index-short-i.is (sym (c.same.ensures.same.0 c.if-not-same.false)) c.loop-i.invariant.same;
-    }
-
-pub returns-clause-same : goal.returns-clause-same
-returns-clause-same c =
-    let short = c.args.short.now in
-    let long = c.args.long.now in
-    let all : c.loop-i.i ≡ length short = omega (arith, c.loop-i.invariant.within, c.loop-i-test.false) in
-    ap (λ (n : ℕ). take n long) (sym all) ∙ (c.loop-i.invariant.same ∙ ap (λ (n : ℕ). take n short) all)
+    let r = c.role.result.now in
+    let k = c.index-keys-i.result in
+    let in_bodies : i < length bodies = omega (arith, c.loop-i-test.true, c.requires.bodies) in
+    let in_keys : i < length keys = omega (arith, c.loop-i-test.true, c.requires.keys) in
+    front_more (row_keys bodies) keys i (row_key r) k (within bodies i in_bodies) in_keys
+    (key_there bodies i c.index-bodies-i.result r in_bodies c.index-bodies-i.is c.role.ensures) c.index-keys-i.is (c.has_key.ensures.0 c.if-not-has_key.false) c.loop-i.invariant
