@@ -6,7 +6,7 @@ use Rattle.ng_base.specs.declared.fault.Fault.{Fault}
 use Rattle.ng_behaviour.specs.Scopes.{object_at}
 use Rattle.ng_language.specs.Trees.{Tree, Trees, a_number, a_text, a_name, the_scope, a_constant, member_of, item_of, call_of, a_list, a_record, in_brackets, signed, combined, both_of, either_of, choice_of, assigned, filtered, no_trees, tree_then}
 use Rattle.ng_language.specs.Operators.{truthy}
-use Rattle.ng_view.specs.Evaluation.{evaluated, evaluated_statements}
+use Rattle.ng_evaluation.specs.Evaluation.{evaluated, evaluated_statements}
 use Rattle.ng_core.specs.Keeping.{nothing}
 use Rattle.ng_act.specs.Asked.{Doing}
 use Rattle.ng_act.specs.Expressions.{acted, statements}

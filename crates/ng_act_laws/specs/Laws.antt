@@ -4,7 +4,7 @@ use Rattle.ng_base.specs.Views.{ViewTree}
 use Rattle.ng_behaviour.specs.Listeners.{Listener, Heard, stands_at, heard_at, RiseTo}
 use Rattle.ng_behaviour.specs.Scopes.{begins, path_at, object_at, live_at, IsScopeTree}
 use Rattle.ng_language.specs.Trees.{Tree, Trees, a_number, a_text, a_name, the_scope, a_constant, member_of, item_of, call_of, a_list, a_record, in_brackets, signed, combined, both_of, either_of, choice_of, assigned, filtered, no_trees, tree_then}
-use Rattle.ng_view.specs.Evaluation.{evaluated_program}
+use Rattle.ng_evaluation.specs.Evaluation.{evaluated_program}
 use Rattle.ng_write.specs.Reading.{OnlyAt}
 use Rattle.ng_core.specs.Keeping.{assigns_name}
 use Rattle.ng_core.specs.Events.{Event}

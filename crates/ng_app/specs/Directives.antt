@@ -7,7 +7,7 @@ use Rattle.ng_collect.specs.Definitions.{is_directive_name, is_restrict, specs_o
 use Rattle.ng_collect.specs.declared.definition.DirectiveDef.{DirectiveDef}
 use Rattle.ng_drawing.specs.Template.{Template}
 use Rattle.ng_parts.specs.Directing.{Programs}
-use Rattle.ng_compose.specs.Kept.{Named}
+use Rattle.ng_drawing.specs.Named.{Named}
 use Rattle.ng_app.specs.Programs.{Declared, Watched, Heard, function_read, watch_read, listener_read, program_at}
 use Rattle.ng_entries.specs.Refused.{fault_at}
 use Rattle.ng_app.specs.Templates.{text_template}

@@ -5,7 +5,7 @@ use Rattle.ng_base.specs.Meets.{◌>>=◌}
 use Rattle.ng_base.specs.declared.fault.Fault.{Fault}
 use Rattle.ng_language.specs.Trees.{Trees}
 use Rattle.ng_parts.specs.Directing.{Function, Watching, Hearing}
-use Rattle.ng_view.specs.Purity.{are_pure}
+use Rattle.ng_evaluation.specs.Purity.{are_pure}
 use Rattle.ng_entries.specs.Refused.{fault_at}
 use Rattle.ng_entries.specs.declared.fault.Member.{Member}
 use Rattle.ng_entries.specs.declared.fault.Member.TheVariants as the

@@ -9,7 +9,7 @@ use Rattle.ng_tags.specs.declared.fault.HtmlFault.{HtmlFault}
 use Rattle.ng_tags.specs.declared.fault.HtmlKind.{HtmlKind}
 use Rattle.ng_tags.specs.declared.fault.HtmlKind.TheVariants as html
 use Rattle.ng_template.specs.Compiles.{compiled}
-use Rattle.ng_compose.specs.Kept.{Named}
+use Rattle.ng_drawing.specs.Named.{Named}
 use Rattle.ng_directives.specs.declared.fault.TplFault.{TplFault}
 use Rattle.ng_directives.specs.declared.fault.TplKind.{TplKind}
 use Rattle.ng_directives.specs.declared.fault.TplKind.TheVariants as tpl

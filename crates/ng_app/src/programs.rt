@@ -2,7 +2,7 @@
 ghost use Rattle.std.specs.Prelude.{◌≡◌, [], map, true, IfOk};
 ghost use Rattle.ng_base.specs.Meets.{Gives};
 ghost use Rattle.ng_parse.specs.ProgramOf.{program as trees_of};
-ghost use Rattle.ng_view.specs.Purity.{all_filters_known};
+ghost use Rattle.ng_evaluation.specs.Purity.{all_filters_known};
 ghost use Rattle.ng_entries.specs.Free.{is_app_want};
 ghost use Rattle.ng_parts.specs.ProgramsOf.{function_of, watch_of, listener_of};
 ghost use Rattle.ng_app.specs.Programs.{program_at, function_read, watch_read, listener_read, functions_read, watches_read, listeners_read};
@@ -17,7 +17,7 @@ use ng_entries::fault::{AppFault, AppKind, Member};
 use ng_entries::members::fault_at;
 use ng_parse::Program;
 use ng_parts::programs::{Function as AppFunction, Listener as AppListener, Watch as AppWatch};
-use ng_view::is_pure;
+use ng_purity::is_pure;
 use std::alloc::Global;
 
 /// The program that the text of an entry spells.

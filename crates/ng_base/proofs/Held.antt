@@ -8,7 +8,7 @@ use Rattle.ng_base.specs.declared.txt.Held.{Held}
 use Rattle.ng_base.specs.declared.txt.Held.TheVariants.{Short, Long}
 
 pub IsUtf8-short : (text : ShortText) → IsUtf8 (short_bytes text)
-IsUtf8-short text = IsUtf8-from_is_utf8 _ text.spelled
+IsUtf8-short text = IsUtf8-from_is_utf8 _ text.holds.spelled
 
 pub IsUtf8-held : (held : Held) → IsUtf8 (held_bytes held)
 IsUtf8-held (Short text) = IsUtf8-short text

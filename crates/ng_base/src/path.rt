@@ -24,21 +24,19 @@ impl Model for Path {
     ghost view = { λ p. p.numbers.items };
 }
 
-/// The order of two lists of numbers. Most differ in their first number, so these are compared before the lists are.
+/// The order of two lists of numbers. Most differ in their first or second number.
 #[inline]
-#[tactic(auto, using(crate::proofs::Orderings::first_less, crate::proofs::Orderings::first_greater))]
+#[tactic(auto, using(crate::proofs::Orderings::at_same, crate::proofs::Orderings::at_unequal, crate::proofs::Orderings::at_end))]
 fn order_of(numbers: &[u32], others: &[u32]) -> Ordering
     ensures { result ≡ path_cmp numbers.now others.now }
 {
-    if let (Some((first, _)), Some((other, _))) = (numbers.split_first(), others.split_first()) {
-        if *first < *other {
-            return Ordering::Less;
-        }
-        if *other < *first {
-            return Ordering::Greater;
+    let both = numbers.len().min(others.len());
+    for i in 0..both {
+        if numbers[i] != others[i] {
+            return numbers[i].cmp(&others[i]);
         }
     }
-    numbers.cmp(others)
+    numbers.len().cmp(&others.len())
 }
 
 impl Path {

@@ -1,3 +1,4 @@
 pub mod Scopes
 pub mod ScopeObjects
 pub mod Listeners
+pub mod Keys

@@ -6,8 +6,9 @@ use ng_base::name::Oid;
 use ng_base::value::Value;
 use ng_lex::lex;
 use ng_parse::parse;
+use ng_purity::{filters_known, is_pure};
 use ng_store::store::Store;
-use ng_view::{filters_known, is_pure, view};
+use ng_view::view;
 use serde_json::Value as Json;
 use std::alloc::Global;
 

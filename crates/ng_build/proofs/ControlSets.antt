@@ -4,7 +4,7 @@ use Rattle.std.specs.BTreeMap.{insert_entry}
 use Rattle.std.specs.Map.{set_value}
 use Rattle.ng_base.specs.declared.path.Key.{Key}
 use Rattle.ng_control.specs.State.{ControlState, fresh}
-use Rattle.ng_watch.specs.Keys.{key_cmp, is_key}
+use Rattle.ng_behaviour.specs.Keys.{key_cmp, is_key}
 use Rattle.ng_build.specs.Controls.{Controls, state_under, controls_begun, control_changed}
 use Rattle.ng_build.specs.HandledOf.{controlled_of}
 use Rattle.ng_build.specs.declared.controlled.ControlHere as code

@@ -14,7 +14,7 @@ use Rattle.std.proofs.lemmas.Cmp.{ranked}
 use Rattle.std.proofs.lemmas.Map.Keys.{sorted_head, sorted_tail}
 use Rattle.ng_base.specs.Order.{path_cmp}
 use Rattle.ng_base.specs.declared.path.Key.{Key}
-use Rattle.ng_watch.specs.Keys.{key_cmp, begins}
+use Rattle.ng_behaviour.specs.Keys.{key_cmp, begins}
 use Rattle.ng_build.specs.Shape.{key_on}
 use Rattle.ng_build.proofs.Paths.{begins_after, begins_between}
 

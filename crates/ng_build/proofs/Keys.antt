@@ -7,7 +7,7 @@ use Rattle.std.proofs.lemmas.Cmp.{tied_itself}
 use Rattle.std.proofs.lemmas.Slice.Eq.{bytes_eq-Decides}
 use Rattle.ng_base.specs.Order.{path_cmp, path_cmp-eq}
 use Rattle.ng_base.specs.declared.path.Key.{Key}
-use Rattle.ng_watch.specs.Keys.{key_cmp_total, is_key}
+use Rattle.ng_behaviour.specs.Keys.{key_cmp_total, is_key}
 use Rattle.ng_build.specs.Shape.{key_on}
 
 pub same_key : (k : Key) → is_key k k ≡ true

@@ -7,7 +7,7 @@ use Rattle.std.specs.declared.cmp.Ordering.TheVariants.{Less, Equal, Greater}
 use Rattle.std.proofs.lemmas.Bool.{eqb-true, eq-eqb}
 use Rattle.std.proofs.lemmas.Cmp.{tied_itself, nat_cmp_total, ranked}
 use Rattle.ng_base.specs.Order.{path_cmp}
-use Rattle.ng_watch.specs.Keys.{begins}
+use Rattle.ng_behaviour.specs.Keys.{begins}
 
 equal_first : (x : ℕ) (o : Ordering) → ordering_then (nat_cmp x x) o ≡ o
 equal_first x o = ap (λ (c : Ordering). ordering_then c o) (tied_itself nat_cmp_total x)

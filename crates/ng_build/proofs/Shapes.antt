@@ -9,7 +9,7 @@ use Rattle.ng_drawing.specs.Nodes.{part_nodes, content_nodes, nodes}
 use Rattle.ng_drawing.specs.Template as template
 use Rattle.ng_drawing.specs.Template.{word, hole, Part, Contents, Parts, text_part, comment_part, element_part, anchor_part, children, bound, no_parts, part_then, parts_from}
 use Rattle.ng_build.specs.Shape.{part_shape, content_shape, shape, unfilled, piece_holes, part_holes, holes}
-use Rattle.ng_parts.specs.Numbering.{hole_numbers}
+use Rattle.ng_drawing.specs.Numbering.{hole_numbers}
 use Rattle.ng_build.specs.Building.{Homed, HomedAll}
 
 -- one forest after another

@@ -11,9 +11,7 @@ use Rattle.std.specs.declared.cmp.Ordering.{Ordering}
 use Rattle.std.specs.declared.cmp.Ordering.TheVariants.{Less, Equal, Greater}
 use Rattle.std.proofs.lemmas.Map.Keys.{sorted_head, sorted_tail}
 use Rattle.ng_base.specs.declared.path.Key.{Key}
-use Rattle.ng_base.specs.Views.{ViewTree}
-use Rattle.ng_watch.specs.Keys.{key_cmp, is_key}
-use Rattle.ng_watch.specs.Table.{Table, found, keeping, with_kept}
+use Rattle.ng_behaviour.specs.Keys.{key_cmp, is_key}
 use Rattle.ng_build.proofs.Keys.{key_is, same_key, other_key}
 
 ordered_then : (k : Key) (ks : List Key) → AllByRecursion (λ y. key_cmp k y ≡ Less) ks → IsStrictlySortedBy key_cmp ks → IsStrictlySortedBy key_cmp (k ∷ ks)
@@ -143,15 +141,6 @@ module _ {K X Y : Type 0} (f : X → Y) where
           → seen (cond b (e ∷ filter (λ e. test e.0) es) (filter (λ e. test e.0) es)) ≡ cond b ((e.0, f e.1) ∷ filter (λ e. test e.0) (seen es)) (filter (λ e. test e.0) (seen es))
       by_test true more = ap (λ (ys : List (K × Y)). (e.0, f e.1) ∷ ys) more
       by_test false more = more
-
--- at another key than that of the watcher that keeps something, the same is found
-pub kept-other : (k q : Key) (s : Option ViewTree) (t : Table) → (q ≡ k → ⊥) → found q (with_kept k s t) ≡ found q t
-kept-other k q s [] ne = refl
-kept-other k q s (e ∷ es) ne = by_test (is_key k e.0) refl (kept-other k q s es ne)
-  where
-    by_test : (b : Bool) → is_key k e.0 ≡ b → found q (with_kept k s es) ≡ found q es → found q (cond b ((e.0, keeping s e.1) ∷ es) (e ∷ with_kept k s es)) ≡ cond (is_key q e.0) (Some e.1) (found q es)
-    by_test true is more = let same : k ≡ e.0 = key_is k e.0 is in let apart : is_key q e.0 ≡ false = rw (← same) (other_key q k (λ g. ne (sym g))) in rw apart refl
-    by_test false is more = ap (cond (is_key q e.0) (Some e.1)) more
 
 -- what stands behind a reference that a look-up gives
 pub seen_through : {X Y : Type 0} (f : X → Y) (r : Option (Bor X)) (o : Option X) → option_copied r ≡ o → option_map (λ (b : Bor X). f b.now) r ≡ option_map f o

@@ -13,7 +13,7 @@ use Rattle.ng_control.specs.declared.kind.ControlKind.{ControlKind}
 use Rattle.ng_drawing.specs.Nodes.{part_nodes}
 use Rattle.ng_drawing.specs.Template.{Control, Part, Contents, Parts, text_part, comment_part, element_part, anchor_part, children, bound, no_parts, part_then}
 use Rattle.ng_language.specs.Trees.{Trees}
-use Rattle.ng_watch.specs.Keys.{key_cmp, is_key}
+use Rattle.ng_behaviour.specs.Keys.{key_cmp, is_key}
 
 -- the key of its model's site, its kind, the program that writes what was put in to the model, and those that run after that
 pub record ControlHere : Type 0 where

@@ -9,7 +9,7 @@ use Rattle.ng_base.specs.declared.fault.Fault.{Fault}
 use Rattle.ng_base.specs.declared.fault.Fault.TheVariants.{NodeLimit, Depth}
 use Rattle.ng_drawing.specs.Template.{Piece, word, hole, Source, of_text, of_nothing, one_way, two_way, of_call, Binding, Uses, Outside, Scopes, Acts, Part, Contents, Parts, text_part, comment_part, element_part, anchor_part, children, bound, no_parts, part_then}
 use Rattle.ng_language.specs.Trees.{Trees}
-use Rattle.ng_parts.specs.Numbering.{source_numbers}
+use Rattle.ng_drawing.specs.Numbering.{source_numbers}
 
 -- A scope that is made, beside those of the instance that are there: a child of one of these, an isolate child, or one whose parent is one of these
 -- and which inherits from the scope outside a directive's element.

@@ -10,7 +10,7 @@ use Rattle.ng_dom.specs.declared.record.Piece.TheVariants.{Words, Hole}
 use Rattle.ng_drawing.specs.Nodes.{part_nodes, nodes, node_limit}
 use Rattle.ng_drawing.specs.Template as template
 use Rattle.ng_drawing.specs.Template.{word, hole, PartAttributes, Part, Contents, Parts, text_part, comment_part, element_part, anchor_part, children, bound, no_parts, part_then}
-use Rattle.ng_parts.specs.Numbering.{bound_numbers}
+use Rattle.ng_drawing.specs.Numbering.{bound_numbers}
 
 -- the key of a number on a scope's path
 abbrev pub key_on : List ℕ → ℕ → Key

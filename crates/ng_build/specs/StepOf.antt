@@ -3,7 +3,7 @@ use Rattle.std.specs.Prelude.{◌≡◌, true}
 use Rattle.ng_language.specs.Trees.{Trees}
 use Rattle.ng_parse.specs.ProgramOf.{program}
 use Rattle.ng_parts.specs.ActsOf.{binding_of, outside_of}
-use Rattle.ng_view.specs.Purity.{are_pure, all_filters_known}
+use Rattle.ng_evaluation.specs.Purity.{are_pure, all_filters_known}
 use Rattle.ng_build.specs.Linking.{Opening, a_child, an_isolate, a_slot, LinkStep, makes, stops, opens, binds, installs, starts, starts_at, registers, leaves}
 use Rattle.ng_build.specs.declared.ordering.LinkStep as code
 use Rattle.ng_build.specs.declared.ordering.LinkStep.TheVariants as variants

@@ -10,7 +10,7 @@ ghost use Rattle.std.specs.List.{flat_map};
 ghost use Rattle.ng_drawing.specs.Template.{Binding as BindingOf, parts_from, text_part, bound};
 ghost use Rattle.ng_parts.specs.PieceOf.{piece_of as seen_piece};
 ghost use Rattle.ng_parts.specs.ActsOf.{acts_of, binding_of, source_of};
-ghost use Rattle.ng_parts.specs.Numbering.{source_numbers, bound_numbers};
+ghost use Rattle.ng_drawing.specs.Numbering.{source_numbers, bound_numbers};
 ghost use Rattle.ng_parts.specs.Seen.{part_of, contents_of};
 ghost use Rattle.ng_build.specs.Building.{unset, parent_name, IsThere, IsMade, Builds};
 ghost use Rattle.ng_build.specs.Shape.{keys_by, linked_values, part_shape, content_shape, shape, unfilled, own_node, piece_holes, part_holes, content_holes, holes};

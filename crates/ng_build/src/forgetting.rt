@@ -2,7 +2,7 @@
 ghost use Rattle.std.specs.Prelude.{◌≡◌, not, OnOk, IfOk};
 ghost use Rattle.std.specs.List.{filter};
 ghost use Rattle.std.specs.Map.{lookup_key, remove_entry};
-ghost use Rattle.ng_watch.specs.Keys.{is_key, begins as begins_with};
+ghost use Rattle.ng_behaviour.specs.Keys.{is_key, begins as begins_with};
 ghost use Rattle.ng_build.specs.Shape.{key_on as key_of};
 
 use crate::copying::key_on;

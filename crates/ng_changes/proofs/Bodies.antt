@@ -27,7 +27,7 @@ use Rattle.ng_link.specs.State.{State}
 use Rattle.ng_scopes.specs.Answers.{named_scope, next_number, next_scope_name}
 use Rattle.ng_store.specs.declared.store.StoreFault.{StoreFault}
 use Rattle.ng_store.specs.declared.store.StoreFault.TheVariants.{Full}
-use Rattle.ng_watch.specs.Keys.{begins}
+use Rattle.ng_behaviour.specs.Keys.{begins}
 
 -- the scope of what is linked is one of the scopes
 pub scope_stands : (t : List Scope) (inner : Inners) (is : Instances) (p : List ℕ) → 0 < length t → HaveScopes t inner is → scope_in (linked_at p is) < length t

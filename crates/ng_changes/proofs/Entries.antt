@@ -12,7 +12,7 @@ use Rattle.ng_base.specs.declared.path.Key.{Key}
 use Rattle.ng_changes.specs.Whole.{KeptStands, ListenersStand, RowStands}
 use Rattle.ng_build.proofs.Keys.{key_is}
 use Rattle.ng_link.specs.State.{Listening, Declared}
-use Rattle.ng_watch.specs.Keys.{key_cmp, is_key}
+use Rattle.ng_behaviour.specs.Keys.{key_cmp, is_key}
 use Rattle.ng_watch.specs.Seen.{Watching, Watcher}
 use Rattle.ng_watch.specs.Table.{Table, found, keeping, kept_at, with_kept, with_watch}
 use Rattle.ng_write.proofs.More.{view_more}

@@ -18,7 +18,7 @@ use Rattle.ng_instances.specs.Instances.{Inner, Inners, Instances, Linked, Outle
 use Rattle.ng_link.specs.FreePlace.{IsFree, IsUsed}
 use Rattle.ng_link.specs.Standing.{AreInner, IsBelow}
 use Rattle.ng_link.specs.State.{State}
-use Rattle.ng_watch.specs.Keys.{begins}
+use Rattle.ng_behaviour.specs.Keys.{begins}
 
 -- a path begins with its first part
 pub begins_more : (p q : List ℕ) → begins p (p ++ q) ≡ true

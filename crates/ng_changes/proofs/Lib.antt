@@ -5,10 +5,8 @@ pub mod Entries
 pub mod Wholes
 pub mod InnerPaths
 pub mod Runs
-pub mod Names
 pub mod ProgramRuns
 pub mod Answered
 pub mod AllAt
 pub mod Bodies
 pub mod Children
-pub mod Written

@@ -1,15 +1,13 @@
 -- Running a program on a core, as it is called.
-use Rattle.std.proofs.Common.{◌≡◌, ◌-◌, ℕ, List, [], ◌∷◌, Result, Ok, Err, ap, sym, subst, ◌∙◌}
+use Rattle.std.proofs.Common.{◌≡◌, ◌-◌, ℕ, List, [], Result, Ok, Err, ap, sym, subst, ◌∙◌}
 use Rattle.ng_core.specs.Frames.{Acts}
 use Rattle.ng_act.specs.Running.{act_run, same}
 use Rattle.ng_core.specs.State.{State, Run, with_locals}
 use Rattle.ng_base.specs.declared.fault.Fault.{Fault}
 use Rattle.ng_base.specs.declared.value.Value.{Value}
-use Rattle.ng_changes.specs.Inputs.{write_run}
 use Rattle.ng_changes.specs.Runs.{back, program_run}
 use Rattle.ng_language.specs.Trees.{Trees}
 use Rattle.ng_members.specs.Leaves.{Local}
-use Rattle.ng_directives.specs.Writing.{input_name}
 
 same_locals : (n c : State) → n.locals ≡ c.locals → with_locals c.locals n ≡ n
 same_locals n c e = ap (λ ls. with_locals ls n) (sym e)
@@ -22,10 +20,3 @@ back_of (Err f) n c ls run e h = λ m. ap (back c) (h m) ∙ ap (λ s. (s, Err f
 pub program_acts : (r : Result Value Fault) (n c : State) (ls : List Local) (depth scope : ℕ) (p : Trees) → depth ≡ 0 → n.locals ≡ c.locals → Acts same r (with_locals ls n) (act_run (64 - depth) scope [] p c) → Acts same r n (program_run scope p c)
 unfolding program_run
 program_acts r n c ls depth scope p z e h = back_of r n c ls (act_run 64 scope [] p c) e (subst (λ d. Acts same r (with_locals ls n) (act_run (64 - d) scope [] p c)) z h)
-
--- a program that is run with its one local, what was put in, gives the core's back
-pub write_acts : (r : Result Value Fault) (n c : State) (ls : List Local) (depth scope : ℕ) (p : Trees) (v : Value) → depth ≡ 0 → n.locals ≡ c.locals
-    → Acts same r (with_locals ls n) (act_run (64 - depth) scope ((input_name, v) ∷ []) p c) → Acts same r n (write_run scope p v c)
-unfolding write_run
-write_acts r n c ls depth scope p v z e h =
-    back_of r n c ls (act_run 64 scope ((input_name, v) ∷ []) p c) e (subst (λ d. Acts same r (with_locals ls n) (act_run (64 - d) scope ((input_name, v) ∷ []) p c)) z h)

@@ -1,5 +1,5 @@
 -- What a run as a value leaves, and what it comes to.
-use Rattle.std.proofs.Common.{◌≡◌, ◌-◌, ℕ, [], ◌∷◌, refl, sym, subst}
+use Rattle.std.proofs.Common.{◌≡◌, ◌-◌, ℕ, [], refl, sym, subst}
 use Rattle.std.specs.Prelude.{Result, Ok, Err}
 use Rattle.ng_core.specs.Keeping.{nothing}
 use Rattle.ng_act.specs.Asked.{Asked}
@@ -10,13 +10,10 @@ use Rattle.ng_act.specs.Running.{as_value_run}
 use Rattle.ng_core.specs.State.{State, Run, with_locals}
 use Rattle.ng_base.specs.Views.{ViewTree}
 use Rattle.ng_base.specs.declared.fault.Fault.{Fault}
-use Rattle.ng_base.specs.declared.value.Value.{Value}
 use Rattle.ng_language.specs.Trees.{Trees}
 use Rattle.ng_changes.proofs.Rising.{mark, Rises}
 use Rattle.ng_changes.proofs.RisingPrograms.{does-rises, statements-rises, destroys-rises}
-use Rattle.ng_changes.specs.Inputs.{write_run}
 use Rattle.ng_changes.specs.Runs.{asked_first, program_run, destroyed}
-use Rattle.ng_directives.specs.Writing.{input_name}
 
 value_state : (s : State) (o : Result ViewTree Fault) → (as_value_run (s, o)).0 ≡ s
 value_state s (Ok v) = refl
@@ -40,14 +37,6 @@ pub program_rises : (scope : ℕ) (p : Trees) (c : State) → Rises (mark c) (ma
 unfolding program_run
 program_rises scope p c =
     let d : State = with_locals [] c in
-    let r : Run ViewTree = programmed (does 64) scope p d in
-    subst (λ (s : State). Rises (mark c) (mark s)) (sym (value_run_state r)) (statements-rises 64 scope nothing p d)
-
--- nor does one that writes a model
-pub write_rises : (scope : ℕ) (p : Trees) (v : Value) (c : State) → Rises (mark c) (mark (write_run scope p v c).0)
-unfolding write_run
-write_rises scope p v c =
-    let d : State = with_locals ((input_name, v) ∷ []) c in
     let r : Run ViewTree = programmed (does 64) scope p d in
     subst (λ (s : State). Rises (mark c) (mark s)) (sym (value_run_state r)) (statements-rises 64 scope nothing p d)
 

@@ -20,7 +20,6 @@ use Rattle.ng_changes.proofs.Runs.{value_run_state}
 use Rattle.ng_changes.proofs.ScopePaths.{AreMore, more_count, more_path, more_same, paths_of, same_count}
 use Rattle.ng_changes.specs.Changes.{applied, applied_all, changed, without_changes, key_in, watching_in, listening_in}
 use Rattle.ng_changes.specs.Runs.{followed}
-use Rattle.ng_changes.specs.Settling.{unset_all}
 use Rattle.ng_changes.specs.Whole.{HasInner, HaveBodies, HaveScopes, IsWhole, ListenersStand, OutletStands, RowStands, RowsStand, Unless}
 use Rattle.ng_link.proofs.Same.{core_stands}
 use Rattle.ng_link.specs.Calls.{with_core, keeping_at, is_drawn, unset_at, declared_at, undeclared_at, left_at, ended_at}
@@ -30,7 +29,7 @@ use Rattle.ng_link.specs.State.{State, Listening, state_of}
 use Rattle.ng_link.specs.Standing.{IsStanding, Standing}
 use Rattle.ng_link.specs.declared.works.Works.{Works}
 use Rattle.ng_watch.specs.Ended.{is_over}
-use Rattle.ng_watch.specs.Keys.{begins, is_key, key_cmp}
+use Rattle.ng_behaviour.specs.Keys.{begins, is_key, key_cmp}
 use Rattle.ng_watch.specs.Seen.{Watching, Watcher}
 use Rattle.ng_watch.specs.Table.{with_kept, with_watch, without_watch}
 use Rattle.std.specs.BTreeMap.{insert_entry}
@@ -253,9 +252,3 @@ unset_same k s = linked_choice (is_drawn s k) s (record s { watchers = with_kept
 
 pub unset_linked : (k : Key) (s : State) → (unset_at k s).instances ≡ s.instances
 unset_linked k s = (unset_same k s).0
-
-pub unset_all_linked : (ks : List Key) (s : State) → (unset_all ks s).instances ≡ s.instances
-unset_all_linked [] s = refl
-unset_all_linked (k ∷ ks) s = unset_all_linked ks (unset_at k s) ∙ unset_linked k s
-
-pub ruleset still_linked = (unset_all_linked)

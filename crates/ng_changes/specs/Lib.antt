@@ -1,9 +1,6 @@
 pub mod Changes
 pub mod Runs
-pub mod Inputs
 pub mod ScopeRuns
 pub mod ChildRun
 pub mod FiringOf
-pub mod ListenerRuns
-pub mod Settling
 pub mod Whole

@@ -14,7 +14,7 @@ use Rattle.ng_instances.specs.Bindings.{Bound, BoundStands}
 use Rattle.ng_instances.specs.Instances.{OutletState, Inner, Linked, Instances, Inners, instance_path, is_site}
 use Rattle.ng_link.specs.State.{Listening, Declared, state_of}
 use Rattle.ng_link.specs.declared.works.Works.{Works}
-use Rattle.ng_compose.specs.Kept.{Named, fragment_in}
+use Rattle.ng_drawing.specs.Named.{Named, fragment_in}
 use Rattle.ng_watch.specs.Seen.{Watcher}
 use Rattle.ng_watch.specs.Table.{Table}
 

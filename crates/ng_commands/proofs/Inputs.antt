@@ -9,7 +9,7 @@ use Rattle.ng_control.specs.State.{ControlState, typed_in, checked_in}
 use Rattle.ng_control.specs.Typed.{number_or_undefined, parsed}
 use Rattle.ng_control.specs.declared.kind.ControlKind.{ControlKind}
 use Rattle.ng_control.specs.declared.kind.ControlKind.TheVariants.{Text, Number, Checkbox}
-use Rattle.ng_changes.specs.Inputs.{written}
+use Rattle.ng_settling.specs.Inputs.{written}
 use Rattle.ng_language.specs.Operators.{number_in}
 use Rattle.ng_link.specs.Calls.{with_control_at}
 use Rattle.ng_build.specs.Controls.{ControlHere, IsOfKind, state_under, read_as}

@@ -12,7 +12,7 @@ use Rattle.ng_link.specs.State.{State, Listening}
 use Rattle.ng_link.proofs.Sorted.{insert_sorted, filter_sorted, remove_sorted}
 use Rattle.ng_build.proofs.Tables.{put-other, removed-other, passed, found_filtered}
 use Rattle.ng_watch.specs.Ended.{is_over}
-use Rattle.ng_watch.specs.Keys.{key_cmp, key_cmp_total, is_key, begins}
+use Rattle.ng_behaviour.specs.Keys.{key_cmp, key_cmp_total, is_key, begins}
 use Rattle.ng_watch.specs.Seen.{Watching, Watcher}
 use Rattle.ng_watch.specs.Table.{Table, found, with_watch, without_watch}
 use Rattle.ng_commands.proofs.EventsStay.{part, Stays, stays_refl, stays_trans}

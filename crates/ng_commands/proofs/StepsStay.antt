@@ -18,10 +18,10 @@ use Rattle.ng_base.specs.declared.value.Value.TheVariants as value
 use Rattle.ng_behaviour.specs.Scopes.{path_at}
 use Rattle.ng_control.specs.State.{ControlState, typed_in, checked_in}
 use Rattle.ng_changes.specs.Changes.{key_in, watching_in, listening_in, applied, applied_all, changed, without_changes}
-use Rattle.ng_changes.specs.ListenerRuns.{former_value, listener_locals, listener_run}
-use Rattle.ng_changes.specs.Inputs.{write_run, all_run, written}
+use Rattle.ng_settling.specs.ListenerRuns.{former_value, listener_locals, listener_run}
+use Rattle.ng_settling.specs.Inputs.{write_run, all_run, written}
 use Rattle.ng_changes.specs.Runs.{asked_first, followed, task_run, ran_of, ran, without_task, program_run, destroyed}
-use Rattle.ng_changes.specs.Settling.{without_probes}
+use Rattle.ng_settling.specs.Settling.{without_probes}
 use Rattle.ng_language.specs.Trees.{Trees}
 use Rattle.ng_link.specs.Calls.{with_core, with_control_at, ended_at}
 use Rattle.ng_build.specs.Controls.{ControlHere, state_under, read_as}

@@ -20,9 +20,9 @@ use Rattle.ng_instances.specs.Registering.{mark_in, way_of}
 use Rattle.ng_instances.specs.Rows.{watching_site}
 use Rattle.ng_link.specs.State.{State}
 use Rattle.ng_link.proofs.Inner.{inner_all}
-use Rattle.ng_compose.specs.Kept.{Named}
-use Rattle.ng_parts.specs.Numbering.{is_regular}
-use Rattle.ng_watch.specs.Keys.{key_cmp, is_key}
+use Rattle.ng_drawing.specs.Named.{Named}
+use Rattle.ng_drawing.specs.Numbering.{is_regular}
+use Rattle.ng_behaviour.specs.Keys.{key_cmp, is_key}
 use Rattle.ng_watch.specs.Seen.{Watching, Watcher}
 use Rattle.ng_watch.specs.Table.{Table, found, keeping, with_kept}
 use Rattle.ng_commands.specs.Settled.{WatchesAt, site_keys, watching_at, AreWatched, IsInner, IsChild, IsRound, IsLinked, leads_in, IsWatched}

@@ -14,7 +14,7 @@ use Rattle.ng_base.specs.declared.value.Value.TheVariants as value
 use Rattle.ng_behaviour.specs.Scopes.{live_at}
 use Rattle.ng_control.specs.State.{typed_in, checked_in}
 use Rattle.ng_changes.specs.Changes.{changed}
-use Rattle.ng_changes.specs.Inputs.{written}
+use Rattle.ng_settling.specs.Inputs.{written}
 use Rattle.ng_changes.specs.Runs.{asked_first, followed, program_run, destroyed}
 use Rattle.ng_language.specs.Objects.{items_at}
 use Rattle.ng_language.specs.Trees.{Trees}

@@ -20,9 +20,9 @@ use Rattle.ng_instances.specs.Registering.{mark_in, way_of}
 use Rattle.ng_instances.specs.Rows.{watching_site}
 use Rattle.ng_link.specs.Standing.{held_count}
 use Rattle.ng_link.specs.State.{State, roles_in}
-use Rattle.ng_compose.specs.Kept.{Named}
-use Rattle.ng_parts.specs.Numbering.{is_regular}
-use Rattle.ng_watch.specs.Keys.{key_cmp, is_key}
+use Rattle.ng_drawing.specs.Named.{Named}
+use Rattle.ng_drawing.specs.Numbering.{is_regular}
+use Rattle.ng_behaviour.specs.Keys.{key_cmp, is_key}
 use Rattle.ng_watch.specs.Seen.{Watching, Watcher}
 use Rattle.ng_watch.specs.Table.{Table, found}
 use Rattle.ng_watch.specs.Verdicts.{clean, verdict}

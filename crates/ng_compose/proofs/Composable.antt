@@ -4,9 +4,9 @@ use Rattle.std.proofs.lemmas.Bool.{and_parts, and_from, lt-ltb, ltb-true, eq-eqb
 use Rattle.std.specs.List.{list_all}
 use Rattle.std.specs.Prelude.{◌&&◌, ◌==◌, not, nat_lt, slice_index_or}
 use Rattle.ng_drawing.specs.Template.{Filling, body_if, on_case, for_each, by_name, Site, SiteScopes, Outlet, Fragment}
-use Rattle.ng_copies.specs.Moved.{found_in}
-use Rattle.ng_compose.specs.Composing.{Region, Composed, ◌▸◌, with_site, site_on, sites_on}
-use Rattle.ng_parts.specs.Numbering.{after_own}
+use Rattle.ng_drawing.specs.Moved.{found_in}
+use Rattle.ng_drawing.specs.Composing.{Region, Composed, ◌▸◌, with_site, site_on, sites_on}
+use Rattle.ng_drawing.specs.Numbering.{after_own}
 use Rattle.ng_compose.proofs.Movers.{had, got, own_rise, next_last, next_old, next_cases, next_size, Moved}
 use Rattle.ng_parts.proofs.More.{all_more}
 

@@ -5,9 +5,9 @@ use Rattle.std.specs.List.{list_all, list_any}
 use Rattle.std.specs.Prelude.{◌-◌, ◌&&◌, ◌||◌, ◌==◌, not, nat_le, nat_lt, is_some, option_and_then, slice_get, if◌then◌else◌}
 use Rattle.ng_drawing.specs.Template.{Piece, PartAttributes, Acts, Scopes, Contents, Parts, text_part, anchor_part, children, bound, no_parts, part_then, Filling, body_if, on_case, for_each, by_name, SiteScopes, Outlet, Fragment}
 use Rattle.ng_language.specs.Trees.{Trees}
-use Rattle.ng_copies.specs.Moved.{found_in, moved_by, moved_piece, moved_attributes}
-use Rattle.ng_compose.specs.Composing.{Region, Composed, Doing, ◌▸◌, gives, ends, sites_on, on, numbers, outlet_in, with_outlet, has_site, anchor_composed, text_composed, written_by, alone, scope_if, asks_child, asks_isolate, given_in, outside_in, bound_composed, scopes_composed, followed}
-use Rattle.ng_parts.specs.Numbering.{after_pieces, after_own, hole_numbers, bound_numbers, is_within, is_apart, is_piece_drawn, are_drawn, after_part, after_contents, after_parts, part_draws, contents_draw, parts_draw, outlets_of_part, after_outlets, outlets_of_contents, is_number, is_body, is_outlet, is_undrawn, are_outlets, are_undrawn, is_numbered, HasOrder}
+use Rattle.ng_drawing.specs.Moved.{found_in, moved_by, moved_piece, moved_attributes}
+use Rattle.ng_drawing.specs.Composing.{Region, Composed, Doing, ◌▸◌, gives, ends, sites_on, on, numbers, outlet_in, with_outlet, has_site, anchor_composed, text_composed, written_by, alone, scope_if, asks_child, asks_isolate, given_in, outside_in, bound_composed, scopes_composed, followed}
+use Rattle.ng_drawing.specs.Numbering.{after_pieces, after_own, hole_numbers, bound_numbers, is_within, is_apart, is_piece_drawn, are_drawn, after_part, after_contents, after_parts, part_draws, contents_draw, parts_draw, outlets_of_part, after_outlets, outlets_of_contents, is_number, is_body, is_outlet, is_undrawn, are_outlets, are_undrawn, is_numbered, HasOrder}
 use Rattle.ng_compose.proofs.Composable.{is_free, drawable, Extends, extends_self, extends_then, extends_draws, is_filled, is_sound, Well, Known, known_later, Sited, sites_sited, sited_again}
 use Rattle.ng_parts.proofs.Within.{both_all, within_parts, within_from, apart_make}
 use Rattle.ng_compose.proofs.Movers.{had, had_then, own_member, number_moved, own_moved, pieces_moved, pieces_within, holes_after}

@@ -7,8 +7,8 @@ use Rattle.std.specs.Prelude.{◌&&◌, not, nat_le, nat_lt}
 use Rattle.ng_base.specs.declared.name.TplId.{TplId}
 use Rattle.ng_drawing.specs.Template.{Site, Parts, Filling, body_if, on_case, for_each, by_name, Outlet, Fragment}
 use Rattle.ng_drawing.specs.declared.origin.Home.{Home}
-use Rattle.ng_compose.specs.Composing.{Composed, composed_in, fuel_for, region_of, nothing_composed, fragment_by, is_directed, composed}
-use Rattle.ng_parts.specs.Numbering.{is_apart, parts_draw, is_body, is_outlet, is_undrawn, HasOrder}
+use Rattle.ng_drawing.specs.Composing.{Composed, composed_in, fuel_for, region_of, nothing_composed, fragment_by, is_directed, composed}
+use Rattle.ng_drawing.specs.Numbering.{is_apart, parts_draw, is_body, is_outlet, is_undrawn, HasOrder}
 use Rattle.ng_compose.proofs.Composable.{drawable, drawable_below, is_filled, is_sound}
 use Rattle.ng_compose.proofs.ComposedLeaves.{Made}
 use Rattle.ng_compose.proofs.ComposedParts.{composed_made}

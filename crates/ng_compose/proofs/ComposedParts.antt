@@ -6,9 +6,9 @@ use Rattle.std.specs.Prelude.{◌-◌, ◌&&◌, nat_lt, option_and_then}
 use Rattle.ng_base.specs.declared.name.TplId.{TplId}
 use Rattle.ng_drawing.specs.Template.{PartAttributes, Uses, Acts, Scopes, Part, Contents, Parts, text_part, comment_part, element_part, anchor_part, children, bound, no_parts, part_then, Site, Outlet, Fragment}
 use Rattle.ng_drawing.specs.declared.origin.Content.{Content}
-use Rattle.ng_copies.specs.Moved.{moved_by, moved_attributes, composed_acts}
-use Rattle.ng_compose.specs.Composing.{Region, Composed, Doing, gives, ends, sites_on, on, anchor_composed, text_composed, writes, alone, directive_count, region_in, content_region, template_region, given_in, deep_part, scopes_composed, followed, entered, slot_entered, given_composed, template_in, used_by, used_composed, element_composed, part_composed, contents_composed, parts_composed, composed_in}
-use Rattle.ng_parts.specs.Numbering.{after_own, bound_numbers, is_within, are_drawn, after_part, after_contents, after_parts, part_draws, contents_draw, parts_draw, after_outlets, outlets_of_contents, HasOrder}
+use Rattle.ng_drawing.specs.Moved.{moved_by, moved_attributes, composed_acts}
+use Rattle.ng_drawing.specs.Composing.{Region, Composed, Doing, gives, ends, sites_on, on, anchor_composed, text_composed, writes, alone, directive_count, region_in, content_region, template_region, given_in, deep_part, scopes_composed, followed, entered, slot_entered, given_composed, template_in, used_by, used_composed, element_composed, part_composed, contents_composed, parts_composed, composed_in}
+use Rattle.ng_drawing.specs.Numbering.{after_own, bound_numbers, is_within, are_drawn, after_part, after_contents, after_parts, part_draws, contents_draw, parts_draw, after_outlets, outlets_of_contents, HasOrder}
 use Rattle.ng_compose.proofs.Composable.{is_free, drawable, extends_self, extends_then, extends_draws, is_sound, Well, Known, known_later, known_none, Sited, sites_sited}
 use Rattle.ng_parts.proofs.Within.{within_parts}
 use Rattle.ng_compose.proofs.Movers.{had, had_then, own_rise, own_within, contents_rise, contents_drawn, parts_rise, number_moved, own_moved, bound_moved}

@@ -6,9 +6,9 @@ use Rattle.ng_base.specs.declared.name.TplId.{TplId}
 use Rattle.ng_drawing.specs.Template.{PartAttributes, Uses, Outside, Acts, no_acts, Scopes, Part, Contents, Parts, text_part, comment_part, element_part, anchor_part, children, bound, no_parts, part_then, Filling, Site, SiteScopes, Outlet, OutletScope, Fragment}
 use Rattle.ng_drawing.specs.declared.origin.Content.{Content}
 use Rattle.ng_drawing.specs.declared.origin.Home.{Home}
-use Rattle.ng_copies.specs.Moved.{moved_by}
-use Rattle.ng_compose.specs.Composing.{Region, Composed, Doing, ◌▸◌, gives, ends, with_site, site_on, sites_on, on, outlet_in, has_site, anchor_there, anchor_composed, text_composed, written_by, writes, alone, scope_if, asks_child, asks_isolate, directive_count, region_in, content_region, template_region, given_in, outside_in, deep_part, numbers, scopes_for, scopes_composed, followed, entered, given_composed, template_in, used_by, element_composed, part_composed, contents_composed, parts_composed, composed_in, fuel_for, region_of, nothing_composed, fragment_by, is_directed, composed}
-use Rattle.ng_parts.specs.Numbering.{hole_numbers, bound_numbers}
+use Rattle.ng_drawing.specs.Moved.{moved_by}
+use Rattle.ng_drawing.specs.Composing.{Region, Composed, Doing, ◌▸◌, gives, ends, with_site, site_on, sites_on, on, outlet_in, has_site, anchor_there, anchor_composed, text_composed, written_by, writes, alone, scope_if, asks_child, asks_isolate, directive_count, region_in, content_region, template_region, given_in, outside_in, deep_part, numbers, scopes_for, scopes_composed, followed, entered, given_composed, template_in, used_by, element_composed, part_composed, contents_composed, parts_composed, composed_in, fuel_for, region_of, nothing_composed, fragment_by, is_directed, composed}
+use Rattle.ng_drawing.specs.Numbering.{hole_numbers, bound_numbers}
 
 -- each outlet with where it stands
 abbrev pub ArePaired : (TplId → Filling → Type 0) → List Outlet → List OutletScope → Type 0

@@ -9,9 +9,9 @@ use Rattle.ng_drawing.specs.Template.{Piece, word, hole, PartAttributes, Uses, O
 use Rattle.ng_drawing.specs.declared.origin.Content.{Content}
 use Rattle.ng_drawing.specs.declared.origin.Home.{Home}
 use Rattle.ng_language.specs.Trees.{Trees}
-use Rattle.ng_copies.specs.Moved.{moved_by, moved_piece, moved_attributes, composed_acts}
-use Rattle.ng_compose.specs.Composing.{Region, Composed, Doing, ◌▸◌, gives, ends, padded, with_site, site_on, sites_on, on, with_outlet, outlet_in, has_site, anchor_there, anchor_composed, text_composed, written, written_by, unless_full, alone, scope_if, asks_child, asks_isolate, directive_count, region_in, within, deep_part, unless_deep, writes, scopes_for, scopes_composed, template_in, followed, entered, template_entered, used_by, used_composed, element_composed, part_composed, parts_composed, composed_in, tail_of, handed_all}
-use Rattle.ng_parts.specs.Numbering.{hole_numbers, bound_numbers}
+use Rattle.ng_drawing.specs.Moved.{moved_by, moved_piece, moved_attributes, composed_acts}
+use Rattle.ng_drawing.specs.Composing.{Region, Composed, Doing, ◌▸◌, gives, ends, padded, with_site, site_on, sites_on, on, with_outlet, outlet_in, has_site, anchor_there, anchor_composed, text_composed, written, written_by, unless_full, alone, scope_if, asks_child, asks_isolate, directive_count, region_in, within, deep_part, unless_deep, writes, scopes_for, scopes_composed, template_in, followed, entered, template_entered, used_by, used_composed, element_composed, part_composed, parts_composed, composed_in, tail_of, handed_all}
+use Rattle.ng_drawing.specs.Numbering.{hole_numbers, bound_numbers}
 
 -- where a node more may be written or not
 pub full_is : {A : Type 0} (none : A) (go : Doing A) (c d : Composed) → (false, d) ≡ written c → (none, d) ≡ unless_full none go c

@@ -3,9 +3,10 @@ use Rattle.std.proofs.Common.{◌≡◌, ℕ, zero, suc, List, [], ◌∷◌, So
 use Rattle.ng_base.specs.declared.name.TplId.{TplId}
 use Rattle.ng_drawing.specs.Template.{Fragment}
 use Rattle.ng_drawing.specs.declared.origin.Home.{Home}
-use Rattle.ng_compose.specs.Composing.{composed_in, fuel_for, region_of, nothing_composed, fragment_by, is_directed, composed}
-use Rattle.ng_compose.specs.Kept.{named_of, templates_of, fragment_in, fragments_at}
-use Rattle.ng_parts.specs.Numbering.{HasOrder}
+use Rattle.ng_drawing.specs.Composing.{composed_in, fuel_for, region_of, nothing_composed, fragment_by, is_directed, composed}
+use Rattle.ng_drawing.specs.Named.{fragment_in, fragments_at}
+use Rattle.ng_compose.specs.Kept.{named_of, templates_of}
+use Rattle.ng_drawing.specs.Numbering.{HasOrder}
 use Rattle.ng_parts.specs.TemplateOf.{template_of}
 use Rattle.ng_compose.specs.declared.templates.Kept.{Kept}
 use Rattle.ng_compose.specs.declared.templates.Templates.{Templates}

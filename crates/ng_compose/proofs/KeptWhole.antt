@@ -6,8 +6,8 @@ use Rattle.ng_drawing.specs.Included.{included}
 use Rattle.ng_drawing.specs.Origins.{home_in, inner_home}
 use Rattle.ng_drawing.specs.Template.{Fragment, fragment_at}
 use Rattle.ng_drawing.specs.declared.origin.Origin.{Origin}
-use Rattle.ng_compose.specs.Kept.{Named, fragment_in, including}
-use Rattle.ng_parts.specs.Numbering.{is_whole, is_regular}
+use Rattle.ng_drawing.specs.Named.{Named, fragment_in, including}
+use Rattle.ng_drawing.specs.Numbering.{is_whole, is_regular}
 use Rattle.ng_parts.proofs.WholeAt.{whole_at}
 use Rattle.ng_copies.proofs.Inclusion.{had_then, included_whole}
 

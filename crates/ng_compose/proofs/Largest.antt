@@ -3,7 +3,7 @@ use Rattle.std.proofs.Common.{◌≡◌, ◌≤◌, ◌<◌, ◌+◌, ◌-◌, �
 use Rattle.std.specs.Prelude.{slice_get}
 use Rattle.ng_drawing.specs.Nodes.{nodes}
 use Rattle.ng_drawing.specs.Template.{Fragment}
-use Rattle.ng_compose.specs.Kept.{Named, fragment_in}
+use Rattle.ng_drawing.specs.Named.{Named, fragment_in}
 
 abbrev all_nodes : List Fragment → ℕ
 all_nodes [] = 0

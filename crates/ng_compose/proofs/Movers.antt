@@ -5,9 +5,9 @@ use Rattle.std.proofs.lemmas.List.{length-replicate, map-append}
 use Rattle.std.specs.List.{flat_map, list_all, list_any}
 use Rattle.std.specs.Prelude.{◌==◌, ◌&&◌, ◌||◌, not, option_and_then, slice_get, unwrap_or}
 use Rattle.ng_drawing.specs.Template.{Piece, word, hole, PartAttributes, Source, of_text, of_nothing, one_way, two_way, of_call, Binding, Uses, Acts, Scopes, Part, Contents, Parts, text_part, comment_part, element_part, anchor_part, children, bound, no_parts, part_then}
-use Rattle.ng_copies.specs.Moved.{found_in, moved_by, moved_piece, moved_source, moved_binding, composed_acts}
-use Rattle.ng_compose.specs.Composing.{padded}
-use Rattle.ng_parts.specs.Numbering.{after_pieces, after_own, after_part, after_contents, after_parts, is_within, is_apart, is_piece_drawn, are_drawn, hole_numbers, source_numbers, bound_numbers}
+use Rattle.ng_drawing.specs.Moved.{found_in, moved_by, moved_piece, moved_source, moved_binding, composed_acts}
+use Rattle.ng_drawing.specs.Composing.{padded}
+use Rattle.ng_drawing.specs.Numbering.{after_pieces, after_own, after_part, after_contents, after_parts, is_within, is_apart, is_piece_drawn, are_drawn, hole_numbers, source_numbers, bound_numbers}
 use Rattle.ng_parts.proofs.Within.{within_from}
 use Rattle.ng_parts.proofs.More.{attributes_more}
 

@@ -5,8 +5,8 @@ use Rattle.std.proofs.lemmas.Bool.{and_parts, and_from}
 use Rattle.std.specs.List.{list_all}
 use Rattle.std.specs.Prelude.{◌&&◌}
 use Rattle.ng_drawing.specs.Template.{Piece, word, hole, Hiding, while_true, while_false, PartClass, PartValue, always, unless_empty, flag, classes, PartAttributes, Part, Contents, Parts, text_part, comment_part, element_part, anchor_part, children, bound, no_parts, part_then}
-use Rattle.ng_copies.specs.Moved.{moved_piece, moved_hiding, moved_class, moved_value, moved_attributes}
-use Rattle.ng_parts.specs.Numbering.{bound_numbers, is_piece_drawn, is_hiding_drawn, is_class_drawn, is_value_drawn, are_drawn, part_draws, contents_draw, parts_draw}
+use Rattle.ng_drawing.specs.Moved.{moved_piece, moved_hiding, moved_class, moved_value, moved_attributes}
+use Rattle.ng_drawing.specs.Numbering.{bound_numbers, is_piece_drawn, is_hiding_drawn, is_class_drawn, is_value_drawn, are_drawn, part_draws, contents_draw, parts_draw}
 
 -- what holds of all holds of all that they come to
 pub all_come : {A B : Type 0} (p : A → Bool) (q : B → Bool) (f : A → B) → ((x : A) → p x ≡ true → q (f x) ≡ true) → (xs : List A) → list_all p xs ≡ true → list_all q (map f xs) ≡ true

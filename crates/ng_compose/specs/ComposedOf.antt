@@ -2,7 +2,7 @@
 use Rattle.std.specs.Prelude.{map, Option, None, Some}
 use Rattle.ng_drawing.specs.Template.{Part, Parts, no_parts}
 use Rattle.ng_parts.specs.ActsOf.{outside_of}
-use Rattle.ng_compose.specs.Composing.{Region, Composed, alone}
+use Rattle.ng_drawing.specs.Composing.{Region, Composed, alone}
 use Rattle.ng_parts.specs.FragmentOf.{fragment_of, sites_of, outlets_of, mark_of, spot_of}
 use Rattle.ng_compose.specs.declared.composed.Composed as code
 use Rattle.ng_compose.specs.declared.regions.Region as code_region

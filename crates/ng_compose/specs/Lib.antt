@@ -1,5 +1,4 @@
 pub mod TplNames
 pub mod Kept
-pub mod Composing
 pub mod DirectivesOf
 pub mod ComposedOf

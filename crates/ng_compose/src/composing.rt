@@ -4,10 +4,11 @@ ghost use Rattle.std.specs.Prelude.{◌≡◌, ◌+◌, Some, nat_lt, option_map
 ghost use Rattle.ng_drawing.specs.Template.{children};
 ghost use Rattle.ng_parts.specs.ActsOf.{uses_of, outside_of, scopes_of, acts_of};
 ghost use Rattle.ng_compose.specs.ComposedOf.{region_of, composed_of, written_part};
-ghost use Rattle.ng_compose.specs.Composing.{◌▸◌, gives, alone, writes, directive_count, unless_deep, within, scopes_for, scopes_composed, template_in, given_in, slot_entered, given_composed, template_entered, used_composed, element_composed, part_composed, contents_composed, parts_composed, composed_in, fuel_for, region_of as first_region, nothing_composed, fragment_by, composed};
+ghost use Rattle.ng_drawing.specs.Composing.{◌▸◌, gives, alone, writes, directive_count, unless_deep, within, scopes_for, scopes_composed, template_in, given_in, slot_entered, given_composed, template_entered, used_composed, element_composed, part_composed, contents_composed, parts_composed, composed_in, fuel_for, region_of as first_region, nothing_composed, fragment_by, composed};
 ghost use Rattle.ng_parts.specs.FragmentOf.{fragment_of};
-ghost use Rattle.ng_compose.specs.Kept.{templates_of, fragments_at};
-ghost use Rattle.ng_parts.specs.Numbering.{HasOrder};
+ghost use Rattle.ng_drawing.specs.Named.{fragments_at};
+ghost use Rattle.ng_compose.specs.Kept.{templates_of};
+ghost use Rattle.ng_drawing.specs.Numbering.{HasOrder};
 ghost use Rattle.ng_parts.specs.Seen.{part_of, contents_of, parts_of};
 ghost use Rattle.ng_copies.specs.WholeOf.{whole_of};
 

@@ -1,7 +1,7 @@
 //! Whether parts have directives of the application or slots (guide: Directives).
 ghost use Rattle.std.specs.Prelude.{◌≡◌, is_some, option_map};
 ghost use Rattle.ng_parts.specs.ActsOf.{uses_of};
-ghost use Rattle.ng_compose.specs.Composing.{is_directed_part, is_directed_in, is_directed as is_directed_parts};
+ghost use Rattle.ng_drawing.specs.Composing.{is_directed_part, is_directed_in, is_directed as is_directed_parts};
 ghost use Rattle.ng_parts.specs.Seen.{part_of, contents_of, parts_of};
 
 use ng_parts::acts::Uses;

@@ -4,7 +4,7 @@ ghost use Rattle.ng_drawing.specs.Template.{no_acts, one_scope, comment_part, el
 ghost use Rattle.ng_parse.specs.ProgramOf.{program};
 ghost use Rattle.ng_parts.specs.ActsOf.{acts_of};
 ghost use Rattle.ng_compose.specs.ComposedOf.{region_of, composed_of, written_part};
-ghost use Rattle.ng_compose.specs.Composing.{gives, ends, alone, writes, followed, text_composed, anchor_there, anchor_composed, bound_composed, deep_part};
+ghost use Rattle.ng_drawing.specs.Composing.{gives, ends, alone, writes, followed, text_composed, anchor_there, anchor_composed, bound_composed, deep_part};
 ghost use Rattle.ng_parts.specs.Seen.{part_of, contents_of, parts_of};
 
 use crate::composed::{Composed, add_holes, has_site, on};

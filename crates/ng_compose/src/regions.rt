@@ -5,7 +5,7 @@ ghost use Rattle.ng_drawing.specs.Template.{handed};
 ghost use Rattle.ng_parts.specs.ActsOf.{uses_of, outside_of, scopes_of};
 ghost use Rattle.ng_compose.specs.ComposedOf.{region_of};
 ghost use Rattle.ng_parts.specs.FragmentOf.{fragment_of};
-ghost use Rattle.ng_compose.specs.Composing.{directive_count, region_in, content_given, given_by, outsides_by, head_or, tail_of, template_region, content_region, given_in, outside_in, handed_all};
+ghost use Rattle.ng_drawing.specs.Composing.{directive_count, region_in, content_given, given_by, outsides_by, head_or, tail_of, template_region, content_region, given_in, outside_in, handed_all};
 
 use ng_base::fault::Memory;
 use ng_base::name::TplId;

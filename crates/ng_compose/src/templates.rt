@@ -54,11 +54,12 @@ fn is_word(word: &Txt, name: &Option<Txt>) -> bool
 }
 
 impl Templates {
-    ghost use Rattle.ng_compose.specs.Kept.{templates_of, is_named, named_from, fragment_in, including, fragment_for};
+    ghost use Rattle.ng_compose.specs.Kept.{templates_of, is_named, named_from};
+    ghost use Rattle.ng_drawing.specs.Named.{fragment_in, including, fragment_for};
     ghost use Rattle.ng_parts.specs.ProgramsOf.{programs_of};
     ghost use Rattle.ng_compose.specs.DirectivesOf.{directives_of};
     ghost use Rattle.ng_parts.specs.FragmentOf.{fragment_of};
-    ghost use Rattle.ng_parts.specs.Numbering.{HasOrder};
+    ghost use Rattle.ng_drawing.specs.Numbering.{HasOrder};
     ghost use Rattle.ng_parts.specs.TemplateOf.{template_of};
     ghost use Rattle.ng_copies.specs.WholeOf.{whole_of};
 

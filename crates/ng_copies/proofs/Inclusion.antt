@@ -7,7 +7,7 @@ use Rattle.std.specs.Option.{option_map_or}
 use Rattle.std.specs.Prelude.{◌&&◌, ◌==◌, not, nat_le, nat_lt, option_map, option_and_then, IfSome}
 use Rattle.ng_drawing.specs.Included.{later, later_piece, later_pieces, later_hiding, later_class, later_value, later_attributes, later_source, later_binding, later_uses, later_acts, later_part, later_contents, later_parts, later_outlet, Opened, opened, filled_with, included_in, included}
 use Rattle.ng_drawing.specs.Template.{Piece, word, hole, Source, of_text, of_nothing, one_way, two_way, of_call, Binding, Uses, Hiding, while_true, while_false, PartClass, PartValue, always, unless_empty, flag, classes, PartAttributes, Part, Contents, Parts, text_part, comment_part, element_part, anchor_part, children, bound, no_parts, part_then, Outlet, Fragment}
-use Rattle.ng_parts.specs.Numbering.{after_pieces, after_own, hole_numbers, source_numbers, bound_numbers, after_contents, after_part, after_parts, is_within, is_apart, is_piece_drawn, is_hiding_drawn, is_class_drawn, is_value_drawn, are_drawn, part_draws, contents_draw, parts_draw, outlets_of_part, outlets_of_contents, after_outlets, is_number, is_body, is_outlet, is_undrawn, are_outlets, are_undrawn, is_numbered, is_whole, HasOrder}
+use Rattle.ng_drawing.specs.Numbering.{after_pieces, after_own, hole_numbers, source_numbers, bound_numbers, after_contents, after_part, after_parts, is_within, is_apart, is_piece_drawn, is_hiding_drawn, is_class_drawn, is_value_drawn, are_drawn, part_draws, contents_draw, parts_draw, outlets_of_part, outlets_of_contents, after_outlets, is_number, is_body, is_outlet, is_undrawn, are_outlets, are_undrawn, is_numbered, is_whole, HasOrder}
 use Rattle.ng_parts.proofs.Within.{apart_make}
 use Rattle.ng_parts.proofs.More.{all_more, attributes_more}
 use Rattle.ng_parts.proofs.Ranges.{own_rise, own_within}

@@ -1,2 +1,1 @@
 pub mod WholeOf
-pub mod Moved

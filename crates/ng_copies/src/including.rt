@@ -4,7 +4,7 @@ ghost use Rattle.ng_drawing.specs.Included.{later_hiding, later_class, later_val
 ghost use Rattle.ng_drawing.specs.Template.{parts_from};
 ghost use Rattle.ng_parts.specs.AttributeOf.{hiding_of, class_of, value_of};
 ghost use Rattle.ng_parts.specs.FragmentOf.{sites_of, outlet_of, fragment_of};
-ghost use Rattle.ng_parts.specs.Numbering.{HasOrder};
+ghost use Rattle.ng_drawing.specs.Numbering.{HasOrder};
 ghost use Rattle.ng_parts.specs.Seen.{part_of, contents_of, parts_of};
 ghost use Rattle.ng_copies.specs.WholeOf.{opened_of, whole_of};
 

@@ -2,7 +2,7 @@
 ghost use Rattle.std.specs.Prelude.{◌≡◌, map, option_map, IfOk};
 ghost use Rattle.ng_parts.specs.ActsOf.{control_of, source_of, binding_of, uses_of, scopes_of, acts_of};
 ghost use Rattle.ng_parts.specs.AttributeOf.{hiding_of, class_of, value_of};
-ghost use Rattle.ng_copies.specs.Moved.{found_in, moved_by, moved_piece, moved_hiding, moved_class, moved_value, moved_attributes, moved_control, moved_source, moved_binding, moved_uses, composed_acts};
+ghost use Rattle.ng_drawing.specs.Moved.{found_in, moved_by, moved_piece, moved_hiding, moved_class, moved_value, moved_attributes, moved_control, moved_source, moved_binding, moved_uses, composed_acts};
 ghost use Rattle.ng_parts.specs.PieceOf.{piece_of};
 
 use ng_base::fault::Memory;

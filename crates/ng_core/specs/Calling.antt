@@ -23,7 +23,7 @@ use Rattle.ng_members.specs.Leaves.{Local}
 use Rattle.ng_members.specs.Callees.{method_of}
 use Rattle.ng_members.specs.Members.{member}
 use Rattle.ng_members.specs.Methods.{argument}
-use Rattle.ng_view.specs.Purity.{all_filters_known, are_pure}
+use Rattle.ng_evaluation.specs.Purity.{all_filters_known, are_pure}
 use Rattle.ng_members.specs.declared.methods.Method.{Method}
 use Rattle.ng_write.specs.Making.{value_in}
 use Rattle.ng_write.specs.Changing.{change_named}

@@ -7,7 +7,7 @@ use Rattle.ng_base.specs.declared.fault.Fault.TheVariants.{Syntax}
 use Rattle.ng_base.specs.declared.value.Value.{Value}
 use Rattle.ng_base.specs.declared.value.Value.TheVariants as value
 use Rattle.ng_behaviour.specs.Scopes.{object_at}
-use Rattle.ng_view.specs.Applied.{known, applied}
+use Rattle.ng_evaluation.specs.Applied.{known, applied}
 use Rattle.ng_members.specs.Leaves.{named}
 use Rattle.ng_write.specs.Assigning.{name_assigned, locals_after, member_assigned}
 use Rattle.ng_write.specs.Making.{value_in, made_member}

@@ -25,7 +25,7 @@ use ng_members::calls::method_value;
 use ng_members::fields::record_view;
 use ng_members::literals::named;
 use ng_members::methods::Method;
-use ng_view::applied::{apply, known};
+use ng_purity::applied::{apply, known};
 use ng_write::assigning::{assign_member, assign_name};
 use ng_write::changing::{Change, change_array as change};
 use ng_write::making::made_member;

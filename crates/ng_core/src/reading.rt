@@ -5,7 +5,7 @@ ghost use Rattle.ng_base.specs.Meets.{Gives};
 ghost use Rattle.ng_base.specs.ViewOf.{view_of};
 ghost use Rattle.ng_parse.specs.ProgramOf.{program};
 ghost use Rattle.ng_core.specs.Calling.{text_program, program_given, watch_given};
-ghost use Rattle.ng_view.specs.Purity.{all_filters_known, are_pure};
+ghost use Rattle.ng_evaluation.specs.Purity.{all_filters_known, are_pure};
 
 use ng_base::fault::Fault;
 use ng_base::txt::Txt;
@@ -13,7 +13,7 @@ use ng_base::value::Value;
 use ng_base::view::View;
 use ng_lex::{LexKind, lex};
 use ng_parse::{ParseKind, Program, parse};
-use ng_view::{filters_known, is_pure};
+use ng_purity::{filters_known, is_pure};
 use std::alloc::Global;
 
 /// The program that a text spells, if its filters are there.

@@ -10,7 +10,7 @@ ghost use Rattle.ng_core.specs.Calling.{watch_kind};
 ghost use Rattle.ng_core.specs.State.{with_change, removes, with_heard};
 ghost use Rattle.ng_behaviour.specs.Listeners.{without_listener};
 ghost use Rattle.ng_members.specs.Methods.{argument};
-ghost use Rattle.ng_view.specs.Purity.{are_pure, all_filters_known};
+ghost use Rattle.ng_evaluation.specs.Purity.{are_pure, all_filters_known};
 ghost use Rattle.ng_core.specs.Frames.{state_of, held, IsSound, Acts};
 ghost use Rattle.ng_parse.specs.ProgramOf.{program as trees_of};
 

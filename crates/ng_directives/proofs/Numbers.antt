@@ -6,7 +6,7 @@ use Rattle.std.specs.Prelude.{nat_le, nat_lt}
 use Rattle.ng_drawing.specs.declared.kind.SiteKind.{SiteKind}
 use Rattle.ng_interp.specs.Parts.{Piece}
 use Rattle.ng_interp.specs.Parts as interp
-use Rattle.ng_parts.specs.Numbering.{after_own, is_within}
+use Rattle.ng_drawing.specs.Numbering.{after_own, is_within}
 use Rattle.ng_directives.specs.Texts.{sites_in, counted}
 use Rattle.ng_parts.proofs.More.{all_more}
 

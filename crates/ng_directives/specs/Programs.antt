@@ -8,7 +8,7 @@ use Rattle.ng_language.specs.Trees.{Trees}
 use Rattle.ng_language.specs.declared.syntax.Token.{Token}
 use Rattle.ng_language.specs.declared.syntax.LexFault.{LexFault}
 use Rattle.ng_language.specs.declared.syntax.ParseFault.{ParseFault}
-use Rattle.ng_view.specs.Purity.{all_filters_known}
+use Rattle.ng_evaluation.specs.Purity.{all_filters_known}
 use Rattle.ng_directives.specs.Texts.{refused}
 use Rattle.ng_directives.specs.declared.fault.TplFault.{TplFault}
 use Rattle.ng_directives.specs.declared.fault.TplKind.{TplKind}

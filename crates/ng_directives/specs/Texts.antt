@@ -6,7 +6,7 @@ use Rattle.ng_drawing.specs.Template as template
 use Rattle.ng_drawing.specs.declared.kind.SiteKind.{SiteKind}
 use Rattle.ng_interp.specs.Parts.{Piece, words, hole}
 use Rattle.ng_interp.specs.declared.pieces.InterpFault.{InterpFault}
-use Rattle.ng_view.specs.Purity.{are_pure, all_filters_known}
+use Rattle.ng_evaluation.specs.Purity.{are_pure, all_filters_known}
 use Rattle.ng_parts.specs.SiteOf.{site_with}
 use Rattle.ng_directives.specs.declared.fault.TplFault.{TplFault}
 use Rattle.ng_directives.specs.declared.fault.TplKind.{TplKind}

@@ -23,7 +23,7 @@ use ng_interp::{InterpFault, Part};
 use ng_language::syntax::{LexKind, ParseKind};
 use ng_lex::lex;
 use ng_parse::{Program, parse};
-use ng_view::filters_known;
+use ng_purity::filters_known;
 use std::alloc::{AllocError, Global};
 
 /// The name of the attribute that a directive stands on.

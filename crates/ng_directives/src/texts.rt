@@ -20,7 +20,7 @@ use ng_drawing::kind::SiteKind;
 use ng_interp::{Cut, InterpFault, InterpKind, Part, any_hole, cut_text};
 use ng_parts::pieces::{Piece, Pieces};
 use ng_parts::site::Site;
-use ng_view::{filters_known, is_pure};
+use ng_purity::{filters_known, is_pure};
 use std::alloc::{AllocError, Global};
 
 /// The first place, and those after it.

@@ -17,7 +17,7 @@ use Rattle.ng_language.specs.declared.snapshots.SnapKind.{SnapKind}
 use Rattle.ng_language.specs.declared.snapshots.SnapKind.TheVariants as snaps
 use Rattle.ng_markup.specs.Forest.{Forest, no_nodes}
 use Rattle.ng_value.specs.Taken.{taken}
-use Rattle.ng_view.specs.Evaluation.{evaluated_program}
+use Rattle.ng_evaluation.specs.Evaluation.{evaluated_program}
 use Rattle.ng_drawing.specs.Cases.{Case, cases_of}
 use Rattle.ng_drawing.specs.Roles.{Role}
 use Rattle.ng_drawing.specs.Rows.{is_filled}

@@ -11,3 +11,7 @@ pub mod Drawing
 pub mod Instance
 pub mod InstanceOf
 pub mod Laws
+pub mod Numbering
+pub mod Moved
+pub mod Composing
+pub mod Named

@@ -31,7 +31,7 @@ use Rattle.ng_directives.specs.Texts.{refused, is_known, is_pure, numbered, site
 use Rattle.ng_directives.specs.Writing.{writing_back}
 use Rattle.ng_directives.specs.declared.fault.TplFault.{TplFault}
 use Rattle.ng_directives.specs.declared.fault.TplKind.TheVariants.{Expression, UnknownFilter, Impure}
-use Rattle.ng_view.specs.Purity.{are_pure, all_filters_known}
+use Rattle.ng_evaluation.specs.Purity.{are_pure, all_filters_known}
 
 -- What the text of a binding's attribute reads as: a text; nothing, where the text is missing; an expression whose value is taken; one that is
 -- written to, too, by a program, where that is possible; or a program that is called.

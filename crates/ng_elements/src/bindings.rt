@@ -33,7 +33,7 @@ use ng_parse::Program;
 use ng_parts::acts::{Binding, Source};
 use ng_parts::pieces::Pieces;
 use ng_parts::site::{SITE_LIMIT, Site};
-use ng_view::{filters_known, is_pure};
+use ng_purity::{filters_known, is_pure};
 use std::alloc::{AllocError, Global};
 
 /// What the text of a binding's attribute reads as: a text; nothing, where the text is missing; an expression whose value is taken; one that is

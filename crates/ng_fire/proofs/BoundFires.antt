@@ -17,7 +17,7 @@ use Rattle.ng_core.specs.Keeping.{stores}
 use Rattle.ng_core.specs.State as act
 use Rattle.ng_core.specs.State.{Run, ◌>>=◌}
 use Rattle.ng_changes.proofs.Rising.{mark, Rises, rises-refl}
-use Rattle.ng_changes.proofs.Runs.{write_rises}
+use Rattle.ng_settling.proofs.Writes.{write_rises}
 use Rattle.ng_changes.proofs.AllAt.{all_at}
 use Rattle.ng_fire.specs.Bindings.{both_fired, flow_by, flows, to_parent, write_run, written_back}
 use Rattle.ng_fire.specs.Blocks.{Firing}

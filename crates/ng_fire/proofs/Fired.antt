@@ -16,7 +16,7 @@ use Rattle.ng_changes.proofs.Runs.{asked_rises}
 use Rattle.ng_changes.proofs.RisingPrograms.{bind-rises, stores-rises}
 use Rattle.ng_fire.proofs.Snapshots.{dirty_stands}
 use Rattle.ng_fire.specs.Blocks.{Firing}
-use Rattle.ng_changes.specs.ListenerRuns.{former_value, listener_locals, listener_run}
+use Rattle.ng_settling.specs.ListenerRuns.{former_value, listener_locals, listener_run}
 use Rattle.ng_fire.specs.Fires.{adds_by, fire_adds, fire_of_site, fire_run, fired, fired_by, listener_at, value_at}
 use Rattle.ng_changes.specs.Runs.{asked_first}
 use Rattle.ng_fire.specs.SiteFires.{site_fired}
@@ -26,7 +26,7 @@ use Rattle.ng_language.specs.Views.{ViewStands}
 use Rattle.ng_link.specs.Calls.{keeping_at}
 use Rattle.ng_instances.specs.Instances.{is_site}
 use Rattle.ng_link.specs.State.{State, Listening}
-use Rattle.ng_watch.specs.Keys.{is_key}
+use Rattle.ng_behaviour.specs.Keys.{is_key}
 use Rattle.ng_watch.specs.Now.{value_now}
 use Rattle.ng_watch.specs.Seen.{Watching, Watcher, WatchStands}
 use Rattle.ng_watch.specs.Table.{kept_at}

@@ -3,6 +3,7 @@ pub mod Fired
 pub mod RepeatWalks
 pub mod Ordered
 pub mod Served
+pub mod WithoutRows
 pub mod BlockBodies
 pub mod Named
 pub mod Once

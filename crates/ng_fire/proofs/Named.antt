@@ -9,7 +9,7 @@ use Rattle.ng_drawing.specs.declared.origin.Origin.{Origin}
 use Rattle.ng_rows.specs.Chosen.{body_of}
 use Rattle.ng_fire.specs.SiteFires.{including_origin}
 use Rattle.ng_changes.specs.Whole.{HasBody}
-use Rattle.ng_compose.specs.Kept.{Named, composing, fragment_in, including, fragment_for}
+use Rattle.ng_drawing.specs.Named.{Named, composing, fragment_in, including, fragment_for}
 use Rattle.ng_changes.proofs.Answered.{there}
 
 kept_there : (all : List Named) (t : ℕ) → t < length all → (k : Named) × (slice_get all t ≡ Some k)

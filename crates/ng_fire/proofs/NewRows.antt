@@ -16,7 +16,7 @@ use Rattle.ng_instances.specs.Changing.{Place}
 use Rattle.ng_link.specs.Calls.{with_core}
 use Rattle.ng_link.specs.State.{State}
 use Rattle.ng_members.specs.Leaves.{Local}
-use Rattle.ng_compose.specs.Kept.{fragment_for, fragments_in}
+use Rattle.ng_drawing.specs.Named.{fragment_for, fragments_in}
 
 -- what a linking leaves is the same, whatever state it began with
 then_same : (scope : ℕ) (e : Option Fault) (l : Linking) (s t : State) (f a : Bool)

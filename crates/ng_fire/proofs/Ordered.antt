@@ -22,7 +22,7 @@ use Rattle.ng_drawing.specs.Template.{Fragment, Site, Source, of_text, of_nothin
 use Rattle.ng_drawing.specs.declared.origin.Origin.{Origin}
 use Rattle.ng_language.specs.Trees.{Trees}
 use Rattle.ng_parts.specs.Directing.{Programs}
-use Rattle.ng_compose.specs.Kept.{fragments_in}
+use Rattle.ng_drawing.specs.Named.{fragments_in}
 use Rattle.ng_link.proofs.Sorted.{insert_sorted, filter_sorted, remove_sorted}
 use Rattle.ng_steps.specs.Attending.{attended_by, first_attended}
 use Rattle.ng_fire.specs.Bindings.{bound_fired, fired_with, flow_by, flows, unless_fault, write_run, written_back}
@@ -46,7 +46,7 @@ use Rattle.ng_instances.specs.Registering.{Registered, site_rows}
 use Rattle.ng_instances.specs.Rows.{Row, watching_site, with_first, with_row, with_sites}
 use Rattle.ng_link.specs.State.{State, Listening, live_nodes}
 use Rattle.ng_members.specs.Leaves.{Local}
-use Rattle.ng_watch.specs.Keys.{key_cmp, key_cmp_total, is_key, begins}
+use Rattle.ng_behaviour.specs.Keys.{key_cmp, key_cmp_total, is_key, begins}
 use Rattle.ng_watch.specs.Seen.{Watching, Watcher}
 use Rattle.ng_watch.specs.Table.{Table, keeping, with_kept, with_watch, without_watch}
 use Rattle.ng_watch.specs.Verdicts.{own_value}

@@ -1,7 +1,7 @@
 -- Some items of a list, in their order.
 use Rattle.std.proofs.Common.{◌≡◌, ◌∙◌, ◌+◌, ◌≤◌, inl, inr, ℕ, zero, suc, Bool, true, false, cond, List, [], ◌∷◌, drop, slice_get, Some, refl, ap, sym, subst, arith}
 use Rattle.std.specs.List.{filter}
-use Rattle.ng_fire.specs.RowsInOrder.{IsPart}
+use Rattle.ng_rows.specs.RowsInOrder.{IsPart}
 use Rattle.ng_instances.specs.Instances.{Body, is_path}
 use Rattle.ng_link.proofs.PathsBelow.{same_path}
 use Rattle.ng_link.specs.Standing.{body_count}

@@ -13,7 +13,7 @@ use Rattle.ng_blocks.specs.declared.plans.PlanFault.{PlanFault}
 use Rattle.ng_blocks.specs.declared.plans.PlanFault.TheVariants.{Dupes}
 use Rattle.ng_drawing.specs.Roles.{Entry, Role, a_body, a_row, a_named}
 use Rattle.ng_fire.proofs.Parts.{none_part, part_at, part_before}
-use Rattle.ng_fire.specs.RowsInOrder.{IsPart, in_order, is_for, place_after, stands_for}
+use Rattle.ng_rows.specs.RowsInOrder.{IsPart, in_order, is_for, place_after, stands_for}
 use Rattle.ng_instances.specs.Instances.{Body}
 use Rattle.ng_rows.proofs.SameRoles.{entry_is}
 use Rattle.ng_rows.specs.RepeatRows.{Row, kept_from, kept_rows, key_of, keys_of, path_from, rows_from}

@@ -5,7 +5,7 @@ use Rattle.ng_changes.proofs.AllAt.{all_at}
 use Rattle.ng_fire.proofs.Parts.{filter_part, none_part, same_part, whole_part}
 use Rattle.ng_fire.proofs.RowsTaken.{one_of, outlet_gone}
 use Rattle.ng_fire.specs.Repeats.{bodies_at, bodies_or, rows_at, rows_taken}
-use Rattle.ng_fire.specs.RowsInOrder.{IsPart}
+use Rattle.ng_rows.specs.RowsInOrder.{IsPart}
 use Rattle.ng_fire.specs.RowsKnown.{HaveGone, KeptOrGone}
 use Rattle.ng_rows.specs.RepeatRows.{Row, kept_rows}
 use Rattle.ng_link.proofs.Lookups.{changed_here, kept_found, kept_gone}
@@ -14,7 +14,7 @@ use Rattle.ng_link.specs.Standing.{ArePlaced, IsPlaced, body_count}
 use Rattle.ng_link.specs.State.{State}
 use Rattle.ng_instances.specs.Instances.{Body, Instances, Linked, OutletState, bodies_arranged, body_gone, is_path, linked_at, outlets_changed, unlinked, with_bodies, with_outlets, without_body}
 use Rattle.ng_instances.specs.PlaceOf.{outlet_of_linked}
-use Rattle.ng_watch.specs.Keys.{begins}
+use Rattle.ng_behaviour.specs.Keys.{begins}
 
 -- ---- rows go, and the others stay in their order
 

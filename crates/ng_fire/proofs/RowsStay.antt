@@ -18,7 +18,7 @@ use Rattle.ng_instances.specs.Instances.{Body, OutletState, Linked, Instances, i
 use Rattle.ng_instances.specs.PlaceOf.{outlet_of_linked}
 use Rattle.ng_link.specs.Standing.{AreHeld, IsBelow, IsHeldIn, body_count, IsPlaced, ArePlaced}
 use Rattle.ng_link.specs.State.{State}
-use Rattle.ng_watch.specs.Keys.{begins}
+use Rattle.ng_behaviour.specs.Keys.{begins}
 
 -- ---- one after another
 

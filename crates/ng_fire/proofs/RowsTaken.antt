@@ -31,8 +31,8 @@ use Rattle.ng_instances.specs.PlaceOf.{outlet_of_linked}
 use Rattle.ng_link.specs.Standing.{body_count, held_count, IsPlaced, ArePlaced, IsHeldIn, IsStanding}
 use Rattle.ng_link.specs.State.{State, state_of}
 use Rattle.ng_link.specs.declared.works.Works.{Works}
-use Rattle.ng_compose.specs.Kept.{Named, fragment_for}
-use Rattle.ng_watch.specs.Keys.{begins}
+use Rattle.ng_drawing.specs.Named.{Named, fragment_for}
+use Rattle.ng_behaviour.specs.Keys.{begins}
 
 -- ---- an instance stays
 

@@ -17,8 +17,8 @@ use Rattle.ng_instances.specs.Due.{Due, due_at, due_from, all_due}
 use Rattle.ng_link.specs.Events.{scope_in}
 use Rattle.ng_instances.specs.Instances.{Body, OutletState, Linked, Instances, key_in, is_path, linked_at, is_filled_by, with_outlets, outlets_changed, body_added, body_gone, unlinked, with_instance}
 use Rattle.ng_link.specs.Standing.{IsBelow, IsIn, AreIn, body_count, held_count, IsPlaced, ArePlaced, IsHeldIn}
-use Rattle.ng_compose.specs.Kept.{Named}
-use Rattle.ng_watch.specs.Keys.{begins, is_key}
+use Rattle.ng_drawing.specs.Named.{Named}
+use Rattle.ng_behaviour.specs.Keys.{begins, is_key}
 use Rattle.ng_changes.proofs.AllAt.{all_at}
 
 -- ---- what is left, one after another

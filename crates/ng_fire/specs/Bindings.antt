@@ -27,7 +27,7 @@ use Rattle.ng_watch.specs.Verdicts.{own_value}
 use Rattle.ng_write.specs.Making.{value_in}
 use Rattle.ng_fire.specs.Blocks.{Firing, faulted_with}
 use Rattle.ng_steps.specs.LinkBindings.{set_on, written_to}
-use Rattle.ng_changes.specs.Inputs as inputs
+use Rattle.ng_settling.specs.Inputs as inputs
 
 -- the text of pieces with what their holes have kept; an unset hole is empty
 abbrev pub text_kept : List ℕ → List BoundPiece → State → List ℕ

@@ -11,7 +11,7 @@ use Rattle.ng_base.specs.declared.fault.Fault.TheVariants.{Depth}
 use Rattle.ng_drawing.specs.Origins.{is_too_deep}
 use Rattle.ng_drawing.specs.Template.{Fragment}
 use Rattle.ng_drawing.specs.declared.origin.Origin.{Origin}
-use Rattle.ng_compose.specs.Kept.{fragments_in}
+use Rattle.ng_drawing.specs.Named.{fragments_in}
 use Rattle.ng_instances.specs.Changing.{Place}
 use Rattle.ng_link.specs.Calls.{with_core, unlinked_at}
 use Rattle.ng_link.specs.Events.{scope_in}

@@ -15,12 +15,12 @@ use Rattle.ng_fire.specs.Blocks.{Firing}
 use Rattle.ng_fire.specs.SiteFires.{site_fired}
 use Rattle.ng_instances.specs.Instances.{is_site}
 use Rattle.ng_link.specs.State.{State, Listening}
-use Rattle.ng_watch.specs.Keys.{is_key}
+use Rattle.ng_behaviour.specs.Keys.{is_key}
 use Rattle.ng_watch.specs.Now.{value_now}
 use Rattle.ng_watch.specs.Seen.{Watcher}
 use Rattle.ng_watch.specs.Table.{found, kept_at}
 use Rattle.ng_watch.specs.Verdicts.{verdict, dirty}
-use Rattle.ng_changes.specs.ListenerRuns.{listener_run}
+use Rattle.ng_settling.specs.ListenerRuns.{listener_run}
 
 -- the value now of a watcher
 abbrev pub value_of : State → Option Watcher → Option ViewTree

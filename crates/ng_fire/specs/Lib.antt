@@ -6,4 +6,3 @@ pub mod FireOf
 pub mod Fires
 pub mod Serving
 pub mod Bindings
-pub mod RowsInOrder

@@ -6,7 +6,7 @@ use Rattle.ng_fire.specs.Serving.{IsAt}
 use Rattle.ng_fire.specs.declared.repeats.Spot.{Spot}
 use Rattle.ng_instances.specs.Instances.{Body, Linked, Instances, is_path, linked_at}
 use Rattle.ng_link.specs.Standing.{body_count}
-use Rattle.ng_compose.specs.Kept.{Named, fragment_for}
+use Rattle.ng_drawing.specs.Named.{Named, fragment_for}
 
 -- an outlet is there with its scopes, and so is the fragment that its rows are made of
 pub record IsSpot (all : List Named) (is : Instances) (s : Spot) : Type 0 where

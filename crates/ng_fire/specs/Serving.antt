@@ -1,12 +1,12 @@
 -- What an outlet asks of the table of instances when the site fires that it is filled by, and what its turn leaves for those after it.
 use Rattle.std.specs.Prelude.{ℕ, ◌≡◌, ◌+◌, ◌<◌, ◌≤◌, false, List, [], ◌∷◌, map, Option, Some, None, option_map, slice_get}
 use Rattle.std.specs.List.{AllByRecursion}
-use Rattle.ng_compose.specs.Kept.{Named}
+use Rattle.ng_drawing.specs.Named.{Named}
 use Rattle.ng_instances.specs.Due.{Due}
 use Rattle.ng_link.specs.Events.{scope_in}
 use Rattle.ng_instances.specs.Instances.{Body, OutletState, Linked, Instances, is_path, linked_at, with_bodies}
 use Rattle.ng_link.specs.Standing.{IsBelow, body_count, held_count}
-use Rattle.ng_watch.specs.Keys.{begins}
+use Rattle.ng_behaviour.specs.Keys.{begins}
 use Rattle.ng_changes.specs.Whole.{HasBody}
 
 abbrev pub outlets_in : Option Linked → List OutletState

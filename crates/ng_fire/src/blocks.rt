@@ -22,7 +22,8 @@ ghost use Rattle.ng_link.specs.FreePlace.{IsFree};
 ghost use Rattle.ng_link.specs.Standing.{IsHeld};
 ghost use Rattle.ng_instances.specs.InstanceOf.{body_of as body_in};
 ghost use Rattle.ng_link.specs.State.{state_of, templates_of};
-ghost use Rattle.ng_compose.specs.Kept.{named_from, fragment_in, fragment_for};
+ghost use Rattle.ng_drawing.specs.Named.{fragment_in, fragment_for};
+ghost use Rattle.ng_compose.specs.Kept.{named_from};
 ghost use Rattle.ng_value.specs.Snaps.{snap_of};
 
 use crate::repeats::{Spot, fire_repeat};
@@ -418,8 +419,7 @@ fn fill_outlet(
                 scope: due.scope,
                 outsides: due.outsides.as_slice(),
             };
-            let guesses = due.bodies.as_slice();
-            fire_repeat(works, alloc, &spot, repeated, value.view(), guesses, told)
+            fire_repeat(works, alloc, &spot, repeated, value.view(), told)
         }
         Filling::ByName(body) => { fill_named(works, alloc, holder, all, value, due, *body, told) }
     }

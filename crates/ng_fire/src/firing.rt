@@ -5,7 +5,7 @@ ghost use Rattle.ng_base.specs.Faults.{is_memory};
 ghost use Rattle.ng_base.specs.Meets.{Gives};
 ghost use Rattle.ng_base.specs.ViewOf.{view_of};
 ghost use Rattle.ng_base.specs.Views.{ViewTree};
-ghost use Rattle.ng_changes.specs.ListenerRuns.{listener_run};
+ghost use Rattle.ng_settling.specs.ListenerRuns.{listener_run};
 ghost use Rattle.ng_fire.specs.Fires.{fired, fired_by, fire_adds, adds_by, listener_at, value_at, IsDirtyWith};
 ghost use Rattle.ng_fire.specs.FireOf.{firing};
 ghost use Rattle.ng_fire.specs.SiteFires.{site_fired};
@@ -14,7 +14,7 @@ ghost use Rattle.ng_language.specs.Views.{ViewStands};
 ghost use Rattle.ng_link.specs.Calls.{keeping_at};
 ghost use Rattle.ng_link.specs.SiteAt.{StandsAt, spot_of};
 ghost use Rattle.ng_link.specs.State.{state_of, templates_of, listening_of};
-ghost use Rattle.ng_instances.specs.Due.{due_of, all_due};
+ghost use Rattle.ng_instances.specs.Due.{due_of, all_due, without_rows};
 ghost use Rattle.ng_instances.specs.Instances.{bound_for, linked_for, is_site};
 ghost use Rattle.ng_steps.specs.Worn.{is_worn};
 ghost use Rattle.ng_value.specs.Snaps.{snap_of};
@@ -31,11 +31,11 @@ use ng_base::name::NodeId;
 use ng_base::path::Key;
 use ng_base::view::View;
 use ng_changes::following::{Followed, follow};
-use ng_changes::listening::run_listener;
 use ng_instances::filling::Due;
 use ng_instances::instances::Listener;
 use ng_instances::sites::{Fills, SiteHere};
 use ng_link::works::Works;
+use ng_settling::listening::run_listener;
 use ng_steps::wear::is_worn;
 use ng_store::store::Store;
 use ng_value::copies::copied;
@@ -53,7 +53,7 @@ pub struct FireResult {
 }
 
 /// The value of a watch's program over its scope.
-#[tactic(auto, using(ng_view::proofs::Pure::pure_are, ng_view::proofs::Pure::known_are), unfolding(ng_watch::specs::Now::value_now))]
+#[tactic(auto, using(ng_purity::proofs::Pure::pure_are, ng_purity::proofs::Pure::known_are), unfolding(ng_watch::specs::Now::value_now))]
 fn value_now(alloc: Global, store: &Store, watch: &Watch) -> Result<View, Fault>
     requires { watch.now.scope.0 < length store.now }
     ensures exact { Gives is_memory view_of (value_now store.now (watching_of watch.now)) result }
@@ -149,7 +149,7 @@ fn fire_filling(
     requires dirty { IsDirtyWith (snap_of snapshot) (state_of works.old) key.now }
     requires site { is_site (state_of works.old).inner (state_of works.old).instances key.now ≡ true }
     requires node { spot_of works.old key.now ≡ Some node.made.0 }
-    requires due { map due_of all.now ≡ all_due key.now (linked_for (state_of works.old).inner key.now.path (state_of works.old).instances) }
+    requires due { map due_of all.now ≡ map without_rows (all_due key.now (linked_for (state_of works.old).inner key.now.path (state_of works.old).instances)) }
     requires unbound { bound_for (state_of works.old).inner (state_of works.old).instances key.now ≡ None }
     ensures fired { IfOk result (λ f. firing works.new f ≡ site_fired key.now (snap_of snapshot) (value_at (state_of works.old) key.now) (kept_at key.now (state_of works.old).watchers) (keeping_at key.now (snap_of snapshot) (state_of works.old))) }
     ensures whole { OnOk result (IsWhole works.new) }
@@ -198,7 +198,7 @@ fn fire_unbound(
     requires dirty { IsDirtyWith (snap_of snapshot) (state_of works.old) key.now }
     requires site { is_site (state_of works.old).inner (state_of works.old).instances key.now ≡ true }
     requires node { spot_of works.old key.now ≡ Some node.made.0 }
-    requires due { map due_of all.now ≡ all_due key.now (linked_for (state_of works.old).inner key.now.path (state_of works.old).instances) }
+    requires due { map due_of all.now ≡ map without_rows (all_due key.now (linked_for (state_of works.old).inner key.now.path (state_of works.old).instances)) }
     requires unbound { bound_for (state_of works.old).inner (state_of works.old).instances key.now ≡ None }
     ensures fired { IfOk result (λ f. firing works.new f.followed ≡ site_fired key.now (snap_of snapshot) (value_at (state_of works.old) key.now) (kept_at key.now (state_of works.old).watchers) (keeping_at key.now (snap_of snapshot) (state_of works.old))) }
     ensures quiet { IfOk result (λ f. f.quiet ≡ true → state_of works.new ≡ keeping_at key.now (snap_of snapshot) (state_of works.old)) }

@@ -7,7 +7,7 @@
 //! The contract that the crate above uses: each call leaves the state that its definition in `specs/` says, want of memory
 //! alone apart, and `IsWhole` holds of the works after it as before (`specs/Fires.antt`, `Blocks.antt`, `Repeats.antt`, `Bindings.antt`).
 //!
-//! In reading order: `ordering` tells whether the rows of a repeat stand as its entries do, `keeping` on which scopes those that are kept stand, `repeats` has the fire of a repeat's site, `blocks`
+//! In reading order: `keeping` tells on which scopes the rows of a repeat that are kept stand, `repeats` has the fire of a repeat's site, `blocks`
 //! that of every block's, `bound_fires` that of a binding's, and `firing` every fire.
 //!
 //! Not here: which watcher is tested when (ng_digest, ng_page), what a program does (ng_act), what it leaves (ng_changes), which rows and bodies
@@ -18,5 +18,4 @@ mod blocks;
 mod bound_fires;
 pub mod firing;
 mod keeping;
-mod ordering;
 mod repeats;

@@ -9,7 +9,7 @@ ghost use Rattle.ng_fire.specs.FireOf.{firing};
 ghost use Rattle.ng_rows.specs.RepeatRows.{keys_of, kept_rows as kept_rows_of, role_for as role_for_row, rows_from as rows_from_all, row_names};
 ghost use Rattle.ng_fire.specs.Repeats.{all_ended, bodies_at, body_at, by_items, by_keys, filled_to, repeat_fired, row_fired, rows_at, rows_changed, rows_fired, rows_taken};
 ghost use Rattle.ng_rows.specs.RepeatsOf.{row_of, rows_of, AreNames, RowsOfStand};
-ghost use Rattle.ng_fire.specs.RowsInOrder.{in_order, IsPart};
+ghost use Rattle.ng_rows.specs.RowsInOrder.{in_order, IsPart};
 ghost use Rattle.ng_fire.specs.RowsKnown.{AreKeptOn, AreRowsAt, HaveGone, IsSpot, KeptOrGone};
 ghost use Rattle.ng_fire.specs.Serving.{BodiesStay, Keeps, OthersStay, RestStays};
 ghost use Rattle.ng_rows.specs.TrackingOf.{item_of, items_of, ItemsStand};
@@ -28,7 +28,6 @@ ghost use Rattle.ng_parts.specs.RepeatedOf.{repeated_of};
 
 use crate::blocks::{end_body, fault, link_body};
 use crate::keeping::scope_for;
-use crate::ordering::are_in_order;
 use ng_base::fault::{Fault, Memory};
 use ng_base::lists::Sources;
 use ng_base::name::ScopeId;
@@ -43,6 +42,7 @@ use ng_instances::instances::SharedBody;
 use ng_instances::linking::Place;
 use ng_link::works::Works;
 use ng_parts::Repeated;
+use ng_rows::ordering::are_in_order;
 use ng_rows::rows::{Ground, Row, ground_for, kept_rows, plan_rows, role_for, rows_from, tell_row};
 use ng_rows::tracking::{Item, make_items, place_of, track_keys};
 use std::alloc::Global;
@@ -401,6 +401,7 @@ fn fire_keyed(
     alloc: Global,
     spot: &Spot<'_>,
     repeated: &Repeated,
+    bodies: &[SharedBody],
     items: Vec<Item>,
     keys: &TrackKeys,
     told: &mut Followed,
@@ -408,6 +409,7 @@ fn fire_keyed(
     requires whole { IsWhole works.old }
     requires spot { IsSpot (templates_of works.old) (state_of works.old).instances spot.now }
     requires items { ItemsStand (length works.old.core.store) (items_of items.items) }
+    requires stand { rows_at spot.now.holder.now spot.now.outlet (state_of works.old).instances ≡ map body_of bodies.now }
     requires as_many { length (items_of items.items) ≡ length keys.now }
     ensures fired { OnOk result (firing works.new told.new ≡ by_keys spot.now.holder.now spot.now.scope.0 (map (λ s. s.0) spot.now.outsides.now) spot.now.outlet spot.now.origin (repeated_of repeated.now) (rows_at spot.now.holder.now spot.now.outlet (state_of works.old).instances) (items_of items.items) (Ok keys.now) (firing works.old told.old)) }
     ensures keeps { OnOk result (Keeps spot.now.holder.now (state_of works.old).instances (state_of works.new).instances) }
@@ -415,22 +417,13 @@ fn fire_keyed(
     ensures whole { OnOk result (IsWhole works.new) }
     ensures templates { templates_of works.new ≡ templates_of works.old }
 {
-    let bodies = works.bodies_in(spot.holder, spot.outlet)?;
-    match plan_rows(alloc, bodies.as_slice(), keys)? {
+    match plan_rows(alloc, bodies, keys)? {
         Err(f) => {
             fault(works, f, told);
             Ok(())
         }
         Ok(plan) => fire_plan(
-            works,
-            alloc,
-            spot,
-            repeated,
-            bodies.as_slice(),
-            items,
-            keys,
-            &plan,
-            told,
+            works, alloc, spot, repeated, bodies, items, keys, &plan, told,
         ),
     }
 }
@@ -442,7 +435,6 @@ fn fire_items(
     spot: &Spot<'_>,
     repeated: &Repeated,
     items: Vec<Item>,
-    guesses: &[SharedBody],
     told: &mut Followed,
 ) -> Result<(), Memory>
     requires whole { IsWhole works.old }
@@ -454,27 +446,28 @@ fn fire_items(
     ensures whole { OnOk result (IsWhole works.new) }
     ensures templates { templates_of works.new ≡ templates_of works.old }
 {
+    let bodies = works.bodies_in(spot.holder, spot.outlet)?;
+    let rows = bodies.as_slice();
     let object = works.core.scopes.object(spot.scope);
     let store = &works.core.store;
-    let tracked = track_keys(alloc, store, object, repeated, items.as_slice(), guesses);
+    let tracked = track_keys(alloc, store, object, repeated, items.as_slice(), rows);
     match tracked {
         Err(Fault::Memory(memory)) => Err(memory),
         Err(f) => {
             fault(works, f, told);
             Ok(())
         }
-        Ok(keys) => fire_keyed(works, alloc, spot, repeated, items, &keys, told),
+        Ok(keys) => fire_keyed(works, alloc, spot, repeated, rows, items, &keys, told),
     }
 }
 
-/// The rows of an outlet become those that a collection calls for, of which this is kept. Those that stand may be guessed.
+/// The rows of an outlet become those that a collection calls for, of which this is kept.
 pub(crate) fn fire_repeat(
     works: &mut Works,
     alloc: Global,
     spot: &Spot<'_>,
     repeated: &Repeated,
     value: &View,
-    guesses: &[SharedBody],
     told: &mut Followed,
 ) -> Result<(), Memory>
     requires whole { IsWhole works.old }
@@ -494,6 +487,6 @@ pub(crate) fn fire_repeat(
             fault(works, f, told);
             Ok(())
         }
-        Ok(items) => fire_items(works, alloc, spot, repeated, items, guesses, told),
+        Ok(items) => fire_items(works, alloc, spot, repeated, items, told),
     }
 }

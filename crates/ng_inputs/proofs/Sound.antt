@@ -7,7 +7,7 @@ use Rattle.serde_json.specs.Find.{as_array}
 use Rattle.ng_base.specs.Meets.{◌>>=◌, Gives}
 use Rattle.ng_language.specs.Trees.{Trees}
 use Rattle.ng_store.proofs.Sound.{all_append}
-use Rattle.ng_view.specs.Purity.{are_pure, all_filters_known}
+use Rattle.ng_evaluation.specs.Purity.{are_pure, all_filters_known}
 use Rattle.ng_script.specs.Acts.{Act, Entry, entries_of, click_on, fire_at, type_into, check_at, eval_root, eval_at, emit_from, broadcast_from, queue_task, probe_root, destroy_scope, make_digest}
 use Rattle.ng_script.specs.Commanding.{click_of, fire_of, typed_of, check_of, eval_of, at_of, event_of, emit_of, broadcast_of, async_of, probe_of, destroy_of, act_named, command_of}
 use Rattle.ng_script.specs.Expressions.{spelled_in, with_known, program_of, pure_program_of}

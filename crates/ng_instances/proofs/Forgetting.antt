@@ -6,7 +6,7 @@ use Rattle.std.specs.Map.{lookup}
 use Rattle.std.specs.Ordering.{nat_cmp}
 use Rattle.std.proofs.lemmas.Map.Made.{is_some-lookup, lookup-map_values}
 use Rattle.ng_base.specs.declared.path.Key.{Key}
-use Rattle.ng_compose.specs.Kept.{Named}
+use Rattle.ng_drawing.specs.Named.{Named}
 use Rattle.ng_instances.specs.Bindings.{bound_in_table}
 use Rattle.ng_instances.specs.BoundOf.{bound_of, bounds_of}
 use Rattle.ng_instances.specs.Changing.{fills_any, is_drawn_in}

@@ -2,6 +2,7 @@ pub mod PathIs
 pub mod Listed
 pub mod Places
 pub mod Noted
+pub mod Keeping
 pub mod Rows
 pub mod Written
 pub mod NotedStands

@@ -8,7 +8,7 @@ use Rattle.std.specs.Prelude.{is_some, option_map, option_and_then, unwrap_or}
 use Rattle.std.proofs.lemmas.Map.Made.{lookup-map_values}
 use Rattle.ng_base.specs.declared.path.Key.{Key}
 use Rattle.ng_parts.specs.FragmentOf.{mark_of}
-use Rattle.ng_compose.specs.Kept.{Named}
+use Rattle.ng_drawing.specs.Named.{Named}
 use Rattle.ng_parts.specs.declared.fragment.SiteScopes as code_mark
 use Rattle.ng_instances.specs.Bindings.{Bound, bound_in_table}
 use Rattle.ng_instances.specs.BoundOf.{bound_of, bounds_of, inner_of}

@@ -6,7 +6,7 @@ use Rattle.std.specs.Ordering.{nat_cmp}
 use Rattle.std.specs.Prelude.{IsSome, is_some, option_and_then, option_map}
 use Rattle.std.proofs.lemmas.Map.Made.{is_some-lookup}
 use Rattle.ng_base.specs.declared.path.Key.{Key}
-use Rattle.ng_compose.specs.Kept.{Named}
+use Rattle.ng_drawing.specs.Named.{Named}
 use Rattle.ng_instances.specs.Instances.{Linked, Inners, is_path, linked_at, linked_for, instance_path, is_site_in, is_site}
 use Rattle.ng_instances.specs.InstanceOf.{linked_of, instances_of, spot_at}
 use Rattle.ng_instances.specs.declared.instances.Linked as code

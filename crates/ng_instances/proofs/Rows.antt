@@ -9,7 +9,8 @@ use Rattle.ng_watch.specs.Seen.{Watcher}
 use Rattle.ng_watch.specs.Table.{Table, found, with_watch}
 use Rattle.ng_build.specs.Building.{AllAt}
 use Rattle.ng_instances.specs.Rows.{Row, watching_site, with_first, with_row, with_sites, spots_by}
-use Rattle.ng_build.proofs.Tables.{put-other, put-same, kept-other}
+use Rattle.ng_build.proofs.Tables.{put-other, put-same}
+use Rattle.ng_instances.proofs.Keeping.{kept-other}
 
 -- the watcher of a site that was linked just now and has kept nothing
 abbrev pub fresh_watcher : Row → Site → Watcher

@@ -3,7 +3,7 @@ use Rattle.std.proofs.Common.{◌≡◌, ◌<◌, ℕ, zero, suc, Bool, true, fa
 use Rattle.std.specs.Map.{lookup, set_value}
 use Rattle.std.specs.Prelude.{option_and_then}
 use Rattle.ng_base.specs.declared.path.Key.{Key}
-use Rattle.ng_compose.specs.Kept.{Named}
+use Rattle.ng_drawing.specs.Named.{Named}
 use Rattle.ng_instances.specs.Instances.{Body, OutletState, Linked, Instances, Inners, instance_path, is_path, with_outlets, outlets_changed, with_body, body_added, with_bodies, bodies_arranged}
 use Rattle.ng_instances.specs.InstanceOf.{outlet_of, linked_of, instances_of, spot_at, spot_in}
 use Rattle.ng_instances.specs.declared.instances.Linked as code

@@ -6,7 +6,7 @@ use Rattle.std.specs.List.{AllByRecursion}
 use Rattle.std.specs.Map.{lookup}
 use Rattle.std.specs.Ordering.{nat_cmp}
 use Rattle.ng_language.specs.Trees.{Trees}
-use Rattle.ng_parts.specs.Numbering.{is_within}
+use Rattle.ng_drawing.specs.Numbering.{is_within}
 
 -- a piece of the text of a binding: plain words, or the hole of a site, by its number of registration
 pub data BoundPiece : Type 0 where

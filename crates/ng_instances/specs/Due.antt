@@ -1,10 +1,10 @@
 -- The outlets that a site fills.
 use Rattle.std.specs.Prelude.{ℕ, ◌+◌, List, [], ◌∷◌, map, Option, None, Some, if◌then◌else◌}
 use Rattle.ng_base.specs.declared.path.Key.{Key}
-use Rattle.ng_drawing.specs.Template.{Filling}
+use Rattle.ng_drawing.specs.Template.{Filling, body_if, on_case, for_each, by_name}
 use Rattle.ng_drawing.specs.declared.origin.Home.{Home}
 use Rattle.ng_parts.specs.FragmentOf.{filling_of}
-use Rattle.ng_watch.specs.Keys.{is_key}
+use Rattle.ng_behaviour.specs.Keys.{is_key}
 use Rattle.ng_instances.specs.Instances.{Body, OutletState, Linked, key_in, is_filled_by}
 use Rattle.ng_instances.specs.InstanceOf.{body_of}
 use Rattle.ng_instances.specs.declared.filling.Due as code
@@ -27,6 +27,16 @@ due_at o x = record { outlet = o; home = x.home; scope = x.scope; outsides = x.o
 abbrev pub due_from : ℕ → ℕ → List OutletState → List Due
 due_from serial o [] = []
 due_from serial o (x ∷ xs) = if is_filled_by serial x then due_at o x ∷ due_from serial (o + 1) xs else due_from serial (o + 1) xs
+
+-- The bodies of an outlet that may go at once. Rows are looked up where they stand when they change.
+abbrev pub told_bodies : Filling → List Body → List Body
+told_bodies (body_if b) bs = bs
+told_bodies (on_case c b) bs = bs
+told_bodies (for_each r b) bs = []
+told_bodies (by_name b) bs = bs
+
+abbrev pub without_rows : Due → Due
+without_rows d = record d { bodies = told_bodies d.filling d.bodies }
 
 -- the outlets that the site of a key fills, in order
 abbrev pub all_due : Key → Option Linked → List Due

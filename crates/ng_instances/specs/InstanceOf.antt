@@ -5,7 +5,7 @@ use Rattle.std.specs.Ordering.{nat_cmp}
 use Rattle.std.specs.Map.{lookup, keys_of as map_keys}
 use Rattle.ng_base.specs.declared.path.Key.{Key}
 use Rattle.ng_drawing.specs.RolesOf.{role_of}
-use Rattle.ng_compose.specs.Kept.{Named, fragments_in}
+use Rattle.ng_drawing.specs.Named.{Named, fragments_in}
 use Rattle.ng_parts.specs.FragmentOf.{filling_of}
 use Rattle.ng_instances.specs.BoundOf.{bounds_of, inner_of}
 use Rattle.ng_instances.specs.Instances.{Body, OutletState, Page, Linked, Instances, Inners, is_path, instance_path}

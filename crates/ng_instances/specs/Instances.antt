@@ -14,7 +14,7 @@ use Rattle.ng_drawing.specs.Roles.{Role}
 use Rattle.ng_drawing.specs.Template.{Fragment, Filling}
 use Rattle.ng_drawing.specs.declared.origin.Home.{Home}
 use Rattle.ng_drawing.specs.declared.origin.Origin.{Origin}
-use Rattle.ng_watch.specs.Keys.{begins}
+use Rattle.ng_behaviour.specs.Keys.{begins}
 use Rattle.ng_instances.specs.Bindings.{Bound, Bounds, bound_in_table}
 use Rattle.ng_build.specs.Controls.{Controlled}
 use Rattle.ng_build.specs.Handlers.{Handled}

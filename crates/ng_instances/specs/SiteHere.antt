@@ -3,7 +3,7 @@
 use Rattle.std.specs.Prelude.{ℕ, ◌≡◌, Bool, true, false, List, map, Option, None, Some}
 use Rattle.ng_instances.specs.Bindings.{Bound}
 use Rattle.ng_instances.specs.BoundOf.{bound_of}
-use Rattle.ng_instances.specs.Due.{Due, due_of}
+use Rattle.ng_instances.specs.Due.{Due, due_of, without_rows}
 use Rattle.ng_instances.specs.declared.sites.Fills as code
 use Rattle.ng_instances.specs.declared.sites.Fills.TheVariants.{Writes, Outlets}
 use Rattle.ng_instances.specs.declared.sites.SiteHere.{SiteHere}
@@ -11,7 +11,7 @@ use Rattle.ng_instances.specs.declared.sites.SiteHere.{SiteHere}
 -- what the fire of a site writes, or the outlets that it fills
 abbrev pub FillsAs : Option Bound → List Due → code.Fills → Type 0
 FillsAs bound due (Writes b) = bound ≡ Some (bound_of b)
-FillsAs bound due (Outlets os) = (bound ≡ None) × (map due_of os.items ≡ due)
+FillsAs bound due (Outlets os) = (bound ≡ None) × (map due_of os.items ≡ map without_rows due)
 
 -- whether there is a site, the node that it is drawn in, and what it fills
 abbrev pub StandsAs : Bool → Option ℕ → Option Bound → List Due → Option SiteHere → Type 0

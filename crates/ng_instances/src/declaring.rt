@@ -3,7 +3,7 @@ ghost use Rattle.std.specs.Prelude.{◌≡◌, ◌&&◌, List, map, not, is_some
 ghost use Rattle.std.specs.BTreeMap.{is_at};
 ghost use Rattle.std.specs.Map.{lookup};
 ghost use Rattle.std.specs.Ordering.{nat_cmp};
-ghost use Rattle.ng_compose.specs.Kept.{Named};
+ghost use Rattle.ng_drawing.specs.Named.{Named};
 ghost use Rattle.ng_instances.specs.Changing.{fills_any, is_drawn_in};
 ghost use Rattle.ng_instances.specs.Instances.{linked_for};
 ghost use Rattle.ng_instances.specs.InstanceOf.{outlet_of, instances_of};

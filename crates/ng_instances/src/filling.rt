@@ -1,10 +1,11 @@
 //! The outlets that a site fills, for the fire of a block (API: ngIf, ngSwitch, ngRepeat, ngInclude).
 ghost use Rattle.std.specs.Prelude.{List, ◌≡◌, Some, map, IfOk};
-ghost use Rattle.ng_instances.specs.Due.{due_of, due_at, due_from, all_due};
+ghost use Rattle.ng_instances.specs.Due.{due_of, due_at, due_from, all_due, told_bodies, without_rows};
 ghost use Rattle.ng_instances.specs.Instances.{key_in};
 ghost use Rattle.ng_instances.specs.InstanceOf.{body_of, outlet_of, page_of, linked_of};
-ghost use Rattle.ng_compose.specs.Kept.{Named};
-ghost use Rattle.ng_watch.specs.Keys.{is_key};
+ghost use Rattle.ng_drawing.specs.Named.{Named};
+ghost use Rattle.ng_parts.specs.FragmentOf.{filling_of};
+ghost use Rattle.ng_behaviour.specs.Keys.{is_key};
 
 use crate::instances::{Linked, OutletState, SharedBody};
 use ng_base::fault::Memory;
@@ -15,7 +16,7 @@ use ng_parts::Filling;
 use std::alloc::{AllocError, Global};
 
 /// An outlet that a site fills: its number, how it is filled, where the bodies come from, the scope round them, the scopes outside what the slots in
-/// them are given, and those that stand.
+/// them are given, and those that stand. The rows of a repeat are not among these: they are looked up where they stand.
 #[derive(Drop)]
 pub struct Due {
     pub outlet: usize,
@@ -48,9 +49,25 @@ pub fn copied_scopes(alloc: Global, scopes: &[ScopeId]) -> Result<Vec<ScopeId>, 
     Ok(copies)
 }
 
+/// The bodies of an outlet that may go at once.
+fn bodies_due(
+    alloc: Global,
+    filling: &Filling,
+    bodies: &[SharedBody],
+) -> Result<Vec<SharedBody>, Memory>
+    ensures { IfOk result (λ v. map body_of v.items ≡ told_bodies (filling_of filling.now) (map body_of bodies.now)) }
+{
+    match filling {
+        Filling::ForEach(_, _) => Ok(Vec::new(alloc)),
+        Filling::BodyIf(_) => copied_bodies(alloc, bodies),
+        Filling::OnCase(_, _) => copied_bodies(alloc, bodies),
+        Filling::ByName(_) => copied_bodies(alloc, bodies),
+    }
+}
+
 /// An outlet by its number.
 fn due_outlet(alloc: Global, outlet: usize, state: &OutletState) -> Result<Due, Memory>
-    ensures { IfOk result (λ d. due_of d ≡ due_at outlet (outlet_of state.now)) }
+    ensures { IfOk result (λ d. due_of d ≡ without_rows (due_at outlet (outlet_of state.now))) }
 {
     Ok(Due {
         outlet,
@@ -58,13 +75,13 @@ fn due_outlet(alloc: Global, outlet: usize, state: &OutletState) -> Result<Due, 
         scope: state.scope,
         outsides: copied_scopes(alloc, state.outsides.as_slice())?,
         filling: state.filling.copied(alloc)?,
-        bodies: copied_bodies(alloc, state.bodies.as_slice())?,
+        bodies: bodies_due(alloc, &state.filling, state.bodies.as_slice())?,
     })
 }
 
 /// The outlets that a site fills, by its number of registration.
 fn due_among(alloc: Global, outlets: &[OutletState], serial: u64) -> Result<Vec<Due>, Memory>
-    ensures { IfOk result (λ v. map due_of v.items ≡ due_from serial 0 (map outlet_of outlets.now)) }
+    ensures { IfOk result (λ v. map due_of v.items ≡ map without_rows (due_from serial 0 (map outlet_of outlets.now))) }
 {
     let mut all = Vec::new(alloc);
     for i in 0..outlets.len() {
@@ -86,7 +103,7 @@ impl Linked {
 
     /// The outlets that the site of a key fills, in order.
     pub fn due(&self, alloc: Global, path: &Path, key: &Key) -> Result<Vec<Due>, Memory>
-        ensures { (all : List Named) → IfOk result (λ v. map due_of v.items ≡ all_due key.now (Some (linked_of all path.now self.now))) }
+        ensures { (all : List Named) → IfOk result (λ v. map due_of v.items ≡ map without_rows (all_due key.now (Some (linked_of all path.now self.now)))) }
     {
         if !self.is_own(path, key) {
             return Ok(Vec::new(alloc));

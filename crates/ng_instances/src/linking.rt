@@ -12,7 +12,7 @@ ghost use Rattle.ng_drawing.specs.Template.{Site as SiteOf, OutletScope as SpotO
 ghost use Rattle.ng_parse.specs.ProgramOf.{program};
 ghost use Rattle.ng_parts.specs.FragmentOf.{spot_of, fragment_of};
 ghost use Rattle.ng_parts.specs.SiteOf.{site_of};
-ghost use Rattle.ng_compose.specs.Kept.{Named};
+ghost use Rattle.ng_drawing.specs.Named.{Named};
 ghost use Rattle.ng_parts.specs.Seen.{parts_of};
 ghost use Rattle.ng_build.specs.Building.{unset, parent_name, IsThere, IsPut, IsStood};
 ghost use Rattle.ng_build.specs.Linking.{is_binds, steps};

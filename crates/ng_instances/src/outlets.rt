@@ -4,7 +4,7 @@ ghost use Rattle.ng_base.specs.declared.path.Key.{Key};
 ghost use Rattle.ng_dom.specs.Lists.{put_at};
 ghost use Rattle.ng_parts.specs.ActsOf.{outside_of};
 ghost use Rattle.ng_parts.specs.FragmentOf.{outlet_of as template_outlet, spot_of, fragment_of};
-ghost use Rattle.ng_compose.specs.Kept.{Named};
+ghost use Rattle.ng_drawing.specs.Named.{Named};
 ghost use Rattle.ng_instances.specs.BoundOf.{ground_of, round_of};
 ghost use Rattle.ng_instances.specs.Changing.{round_by, outlet_on, outlets_on};
 ghost use Rattle.ng_instances.specs.Instances.{Inners, linked_at, outlets_changed, with_body, body_added};

@@ -1,7 +1,7 @@
 //! The sites of an instance: where each is drawn, and that it is watched.
 ghost use Rattle.std.specs.Prelude.{◌≡◌, List, [], Some, map, true, OnOk, IfErr, IfOk, option_map};
 ghost use Rattle.ng_base.specs.Faults.{is_memory};
-ghost use Rattle.ng_compose.specs.Kept.{Named};
+ghost use Rattle.ng_drawing.specs.Named.{Named};
 ghost use Rattle.ng_parts.specs.SiteOf.{site_of};
 ghost use Rattle.ng_watch.specs.Seen.{watching_of};
 ghost use Rattle.ng_watch.specs.Table.{watchers_of, with_kept, with_watch};

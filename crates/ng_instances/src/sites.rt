@@ -1,6 +1,6 @@
 //! What stands under the key of a watcher (guide: HTML Compiler, "How directives are compiled").
 ghost use Rattle.std.specs.Prelude.{◌≡◌, List, Some, map, is_some, IfOk};
-ghost use Rattle.ng_compose.specs.Kept.{Named};
+ghost use Rattle.ng_drawing.specs.Named.{Named};
 ghost use Rattle.ng_instances.specs.Bindings.{bound_in_table};
 ghost use Rattle.ng_instances.specs.BoundOf.{piece_of, bound_of, bounds_of};
 ghost use Rattle.ng_instances.specs.Due.{all_due};

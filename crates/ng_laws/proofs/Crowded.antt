@@ -40,13 +40,14 @@ use Rattle.ng_commands.proofs.Sites.{SitesStay}
 use Rattle.ng_commands.proofs.StepsStay.{followed_sites, program_stays, asked_sites}
 use Rattle.ng_script.specs.Acts.{Act, Entry}
 use Rattle.ng_inputs.specs.Refusals.{Accepted}
-use Rattle.ng_run.specs.Aims.{asked_of}
-use Rattle.ng_run.specs.Happenings.{Fired, fired_by, DoesEvent}
+use Rattle.ng_performing.specs.Aims.{asked_of}
+use Rattle.ng_run.specs.Happenings.{DoesEvent}
+use Rattle.ng_performing.specs.Fired.{Fired, fired_by}
 use Rattle.ng_printing.specs.Lines.{Digest, header}
 use Rattle.ng_run.specs.Session.{Reply, all_well, steps_status, whole, Runs, SessionOf}
 use Rattle.ng_printing.specs.Left.{Left, Step, is_well}
 use Rattle.ng_run.specs.Steps.{DoesUnlessIdle, DoesAsked, DoesAct, Continues, OpensPage}
-use Rattle.ng_compose.specs.Kept.{Named, fragments_in}
+use Rattle.ng_drawing.specs.Named.{Named, fragments_in}
 use Rattle.ng_laws.specs.Sessions.{CrowdedPageIsEmpty, page_fragment}
 use Rattle.ng_changes.specs.Runs.{program_run}
 

@@ -51,8 +51,8 @@ use Rattle.ng_commands.proofs.Sites.{SitesStay, core_sites, sites_refl, sites_tr
 use Rattle.ng_commands.proofs.StepsStay.{destroyed_stays, followed_sites}
 use Rattle.ng_page.proofs.Under.{child_path_there, path_apart}
 use Rattle.ng_commands.proofs.Watched.{all_map, all_more}
-use Rattle.ng_compose.specs.Kept.{fragments_in}
-use Rattle.ng_watch.specs.Keys.{begins}
+use Rattle.ng_drawing.specs.Named.{fragments_in}
+use Rattle.ng_behaviour.specs.Keys.{begins}
 use Rattle.ng_laws.specs.KeptRows.{AreRowsOf, IsOnScope, IsRowIn, KeptRowsStay, StandsOnScopes, is_called, keys_for}
 
 -- where what is linked stays, and no scope goes, each instance still stands on one

@@ -22,9 +22,10 @@ use Rattle.ng_page.specs.Targets.{target_in}
 use Rattle.ng_script.specs.Acts.{Act, Entry}
 use Rattle.ng_inputs.specs.Refusals.{Accepted, accepted}
 use Rattle.ng_inputs.specs.declared.refusal.Refusal.{Refusal}
-use Rattle.ng_run.specs.Aims.{asked_of}
+use Rattle.ng_performing.specs.Aims.{asked_of}
 use Rattle.ng_printing.specs.EventStep.{event_step}
-use Rattle.ng_run.specs.Happenings.{Fired, fired_by, left_after, HasTold, DoesEvent}
+use Rattle.ng_run.specs.Happenings.{left_after, HasTold, DoesEvent}
+use Rattle.ng_performing.specs.Fired.{Fired, fired_by}
 use Rattle.ng_printing.specs.Lines.{header, told_lines}
 use Rattle.ng_run.specs.Session.{Reply, refused, done, whole, Runs, SessionOf}
 use Rattle.ng_printing.specs.Left.{Left, Step, idle_step, aimless_step, same_page}

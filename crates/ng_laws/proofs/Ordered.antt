@@ -15,10 +15,10 @@ use Rattle.ng_control.specs.State.{typed_in, checked_in}
 use Rattle.ng_drawing.specs.Template.{Fragment, Template}
 use Rattle.ng_fire.proofs.Ordered.{InKeys, IsOrdered, either, changed_ordered, followed_ordered, link_ordered, site_ordered}
 use Rattle.ng_fire.specs.Fires.{fired as fires, fire_of_site, fire_run, fired_by, value_at}
-use Rattle.ng_changes.specs.Inputs.{write_run, all_run, written}
+use Rattle.ng_settling.specs.Inputs.{write_run, all_run, written}
 use Rattle.ng_steps.specs.Links.{Linking, link_at}
 use Rattle.ng_changes.specs.Runs.{task_run, without_task, ran_of, program_run, followed, destroyed}
-use Rattle.ng_changes.specs.Settling as settling
+use Rattle.ng_settling.specs.Settling as settling
 use Rattle.ng_fire.specs.SiteFires.{site_fired}
 use Rattle.ng_language.specs.Trees.{Trees}
 use Rattle.ng_instances.specs.Changing.{at_top}
@@ -28,7 +28,7 @@ use Rattle.ng_link.specs.Events.{control_at, scope_of}
 use Rattle.ng_instances.specs.Instances.{is_site}
 use Rattle.ng_link.proofs.Sorted.{none_in_order, filter_sorted}
 use Rattle.ng_link.specs.State.{State}
-use Rattle.ng_compose.specs.Kept.{fragments_in}
+use Rattle.ng_drawing.specs.Named.{fragments_in}
 use Rattle.ng_app.specs.Installing.{installed}
 use Rattle.ng_page.specs.Answered.{ready_place}
 use Rattle.ng_commands.specs.Commands.{Asked, applies, queues, probes, digests, destroys_scope, emits, broadcasts, types, checks, begun, emit_run, broadcast_run, typed_run, checked_run, asked_run}
@@ -36,7 +36,7 @@ use Rattle.ng_page.specs.Opening.{prepared, linked_by, opening, page_origin, tem
 use Rattle.ng_page.specs.PageLaws.{by_test, page_laws}
 use Rattle.ng_page.specs.PageMachine as page
 use Rattle.ng_page.specs.PageMachine.{page_machine}
-use Rattle.ng_watch.specs.Keys.{key_cmp, is_key}
+use Rattle.ng_behaviour.specs.Keys.{key_cmp, is_key}
 use Rattle.ng_watch.specs.Seen.{Watcher}
 use Rattle.ng_watch.specs.Table.{Table, keeping, kept_at, with_kept}
 use Rattle.ng_watch.specs.Ended.{is_over}

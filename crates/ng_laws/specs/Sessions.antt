@@ -14,7 +14,7 @@ use Rattle.ng_drawing.specs.Template.{Fragment}
 use Rattle.ng_link.specs.State as link
 use Rattle.ng_link.specs.State.{shown}
 use Rattle.ng_markup.specs.Forest.{no_nodes}
-use Rattle.ng_compose.specs.Kept.{fragments_in}
+use Rattle.ng_drawing.specs.Named.{fragments_in}
 use Rattle.ng_page.specs.Answered.{ready_place}
 use Rattle.ng_page.specs.Opening.{page_origin, templates_for}
 use Rattle.ng_page.specs.PageMachine.{State, page_machine, readied}

@@ -6,7 +6,7 @@ use Rattle.ng_base.specs.declared.path.Key.{Key}
 use Rattle.ng_dom.specs.Drawing.{Stand, Stands, Bodies, element_stands, block_stands, stand_then, body_then, at_block, at_block_all, at_block_bodies}
 use Rattle.ng_drawing.specs.Nodes.{part_nodes, content_nodes, nodes}
 use Rattle.ng_drawing.specs.Template.{Part, Contents, Parts, text_part, comment_part, element_part, anchor_part, children, bound, no_parts, part_then}
-use Rattle.ng_parts.specs.Numbering.{outlets_of_part, outlets_of_contents, after_outlets}
+use Rattle.ng_drawing.specs.Numbering.{outlets_of_part, outlets_of_contents, after_outlets}
 use Rattle.ng_instances.specs.Instances.{Body, OutletState, bodies_from, groups_from, read_bodies}
 use Rattle.ng_build.specs.Shape.{linked_values, part_shape, content_shape, shape, part_anchors, content_anchors, anchors}
 use Rattle.ng_link.proofs.Numbers.{first_then, where_true}

@@ -8,7 +8,7 @@ use Rattle.ng_dom.specs.Nodes.{name_of, group_names}
 use Rattle.ng_dom.specs.Rooms.{Room, Rooms, anchor_shape, room_of, ReadsInside, ReadsIn, ReadsGroups}
 use Rattle.ng_drawing.specs.Nodes.{part_nodes}
 use Rattle.ng_drawing.specs.Template.{Part, Contents, Parts, text_part, comment_part, element_part, anchor_part, children, bound, no_parts, part_then}
-use Rattle.ng_parts.specs.Numbering.{outlets_of_part, outlets_of_contents, after_outlets}
+use Rattle.ng_drawing.specs.Numbering.{outlets_of_part, outlets_of_contents, after_outlets}
 use Rattle.ng_build.specs.Shape.{part_shape, content_shape, shape, part_anchors, content_anchors, anchors}
 use Rattle.ng_dom.proofs.Removing.{among-left, among-right}
 use Rattle.ng_link.proofs.AtBlocks.{counted_part}

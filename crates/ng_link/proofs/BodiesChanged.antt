@@ -10,7 +10,7 @@ use Rattle.std.proofs.lemmas.Map.Keys.{sorted_head, sorted_tail}
 use Rattle.ng_base.specs.Order.{path_cmp}
 use Rattle.ng_dom.specs.Drawing.{Stands, Bodies, none_stand, body_then, at_block_all, at_block_bodies}
 use Rattle.ng_drawing.specs.Nodes.{nodes}
-use Rattle.ng_parts.specs.Numbering.{after_outlets}
+use Rattle.ng_drawing.specs.Numbering.{after_outlets}
 use Rattle.ng_instances.specs.Instances.{OutletState, Linked, Instances, is_path, linked_at, keys_of, read_bodies, bodies_from, groups_from, stands_join, stands_at, with_outlets, outlets_changed}
 use Rattle.ng_link.specs.Laws.{BodiesChanged}
 use Rattle.ng_build.specs.Shape.{anchors}

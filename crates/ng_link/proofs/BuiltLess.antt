@@ -6,7 +6,7 @@ use Rattle.ng_dom.specs.Drawing.{Look, Stands, Bodies, shows, HomedAll, HeldAll,
 use Rattle.ng_dom.specs.Editing.{changed_in, with_groups, group_removed}
 use Rattle.ng_dom.specs.Nodes.{NamedForest}
 use Rattle.ng_dom.specs.declared.dom.Dom.{Dom}
-use Rattle.ng_watch.specs.Keys.{begins}
+use Rattle.ng_behaviour.specs.Keys.{begins}
 use Rattle.ng_instances.specs.Instances.{Body, OutletState, Linked, Instances, linked_at, keys_of, read_bodies, groups_from, stands_at, body_gone, unlinked}
 use Rattle.ng_build.specs.Sources.{sources}
 use Rattle.ng_link.specs.Standing.{IsBelow, IsPlaced, ArePlaced, IsBuilt, held_count}

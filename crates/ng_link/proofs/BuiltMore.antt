@@ -12,7 +12,7 @@ use Rattle.ng_dom.specs.Editing.{changed_in, with_groups, group_inserted}
 use Rattle.ng_dom.specs.declared.dom.Dom.{Dom}
 use Rattle.ng_drawing.specs.Nodes.{nodes}
 use Rattle.ng_drawing.specs.Roles.{Role}
-use Rattle.ng_watch.specs.Keys.{begins}
+use Rattle.ng_behaviour.specs.Keys.{begins}
 use Rattle.ng_build.specs.Building.{unset, Builds}
 use Rattle.ng_instances.specs.Instances.{Body, OutletState, Linked, Instances, linked_at, keys_of, read_bodies, groups_from, stands_join, stands_at, outlets_changed, body_added, with_instance}
 use Rattle.ng_build.specs.Shape.{unfilled}

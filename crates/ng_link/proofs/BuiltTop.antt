@@ -13,7 +13,7 @@ use Rattle.ng_dom.specs.declared.dom.Dom.{Dom}
 use Rattle.ng_dom.proofs.Counting.{names_stand}
 use Rattle.ng_dom.proofs.Homes.{live_names_are_given}
 use Rattle.ng_drawing.specs.Nodes.{nodes}
-use Rattle.ng_watch.specs.Keys.{begins}
+use Rattle.ng_behaviour.specs.Keys.{begins}
 use Rattle.ng_build.specs.Building.{unset}
 use Rattle.ng_instances.specs.Instances.{Linked, Instances, is_path, linked_at, keys_of, stands_join, stands_at, with_instance}
 use Rattle.ng_build.specs.Sources.{sources}

@@ -13,7 +13,7 @@ use Rattle.ng_dom.specs.Drawing.{DifferAt}
 use Rattle.ng_drawing.specs.Looks.{seen_by}
 use Rattle.ng_drawing.specs.Template.{Control, Part, Contents, Parts, text_part, comment_part, element_part, anchor_part, children, bound, no_parts, part_then}
 use Rattle.ng_drawing.specs.Nodes.{part_nodes}
-use Rattle.ng_watch.specs.Keys.{key_cmp, is_key, begins}
+use Rattle.ng_behaviour.specs.Keys.{key_cmp, is_key, begins}
 use Rattle.ng_watch.specs.Seen.{Watcher}
 use Rattle.ng_watch.specs.Table.{Table, with_kept}
 use Rattle.ng_build.specs.Controls.{ControlHere, Controlled, with_control, part_controlled, contents_controlled, controlled, controlled_at, Controls, state_under, controls_begun, control_changed}
@@ -21,7 +21,8 @@ use Rattle.ng_build.specs.HandledOf.{control_of, controlled_of}
 use Rattle.ng_link.specs.State.{Resting, kept_or, kept_in, look_of, looks_of}
 use Rattle.ng_build.specs.declared.controlled.ControlHere as code
 use Rattle.ng_build.proofs.Keys.{key_is, other_key}
-use Rattle.ng_build.proofs.Tables.{put-other, kept-other}
+use Rattle.ng_build.proofs.Tables.{put-other}
+use Rattle.ng_instances.proofs.Keeping.{kept-other}
 
 -- where one changes, another stays
 pub changed-other : (f : ControlState → ControlState) (k q : Key) (cs : Controls) → (q ≡ k → ⊥) → state_under q (control_changed f k cs) ≡ state_under q cs

@@ -14,7 +14,7 @@ use Rattle.ng_drawing.specs.Nodes.{part_nodes, nodes, node_limit}
 use Rattle.ng_drawing.specs.Template.{Piece, word, hole, Source, of_text, of_nothing, one_way, two_way, of_call, Binding, PartAttributes, Uses, Outside, Scopes, Acts, Part, Contents, Parts, text_part, comment_part, element_part, anchor_part, children, bound, no_parts, part_then}
 use Rattle.ng_language.specs.Trees.{Trees}
 use Rattle.ng_parts.proofs.More.{attributes_more}
-use Rattle.ng_parts.specs.Numbering.{hole_numbers, source_numbers, bound_numbers, after_pieces, after_own, after_contents, after_part, after_parts, is_within, is_apart, is_piece_drawn, are_drawn}
+use Rattle.ng_drawing.specs.Numbering.{hole_numbers, source_numbers, bound_numbers, after_pieces, after_own, after_contents, after_part, after_parts, is_within, is_apart, is_piece_drawn, are_drawn}
 use Rattle.ng_instances.specs.Bindings.{Bound, Bounds, bound_in_table, is_unbound}
 use Rattle.ng_build.specs.Linking.{Opening, a_child, an_isolate, a_slot, LinkStep, makes, stops, opens, binds, installs, starts, starts_at, registers, leaves, piece_steps, if_asked, scope_of, uses_entered, entering_steps, uses_left, leaving_steps, slot_steps, element_steps, part_steps, content_steps, steps, source_count, step_count, site_count, bound_flags, is_bound_site, fault_in}
 use Rattle.ng_build.specs.Shape.{own_node, piece_holes, part_holes, content_holes, holes, linked}

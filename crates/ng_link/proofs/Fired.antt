@@ -14,7 +14,7 @@ use Rattle.ng_dom.specs.Rooms.{ReadsIn}
 use Rattle.ng_dom.specs.declared.dom.Dom.{Dom}
 use Rattle.ng_dom.proofs.Focus.{text_written, attributes_written}
 use Rattle.ng_drawing.specs.Looks.{seen_by}
-use Rattle.ng_watch.specs.Keys.{is_key}
+use Rattle.ng_behaviour.specs.Keys.{is_key}
 use Rattle.ng_watch.specs.Seen.{Watcher}
 use Rattle.ng_watch.specs.Table.{Table, watchers_of, with_kept}
 use Rattle.ng_watch.specs.declared.watched.Watched.{Watched}
@@ -29,7 +29,7 @@ use Rattle.ng_link.proofs.Agree.{IsDrawn, Agree, all_agree}
 use Rattle.ng_link.proofs.BuiltSame.{built_told}
 use Rattle.ng_link.proofs.ControlStates.{control_differs, keeping_differs}
 use Rattle.ng_link.proofs.Held.{built_held}
-use Rattle.ng_build.proofs.Tables.{kept-other}
+use Rattle.ng_instances.proofs.Keeping.{kept-other}
 use Rattle.ng_link.proofs.Watched.{stand_kept}
 
 -- what is shown differs at the key at most

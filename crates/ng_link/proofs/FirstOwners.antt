@@ -6,7 +6,7 @@ use Rattle.std.specs.Map.{lookup, lookup_key, remove_entry}
 use Rattle.std.specs.Ordering.{nat_cmp}
 use Rattle.ng_base.specs.Order.{path_cmp}
 use Rattle.ng_instances.specs.Instances.{Owners, is_path, owners_less}
-use Rattle.ng_watch.specs.Keys.{begins}
+use Rattle.ng_behaviour.specs.Keys.{begins}
 use Rattle.ng_instances.proofs.PathIs.{path_is}
 use Rattle.ng_link.proofs.PathsBelow.{same_path, other_path}
 use Rattle.ng_build.proofs.Firsts.{passes, first, first_there}

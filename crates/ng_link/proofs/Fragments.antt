@@ -4,7 +4,7 @@ use Rattle.std.specs.Prelude.{IsSome, IfSome, option_map, option_and_then, unwra
 use Rattle.std.proofs.lemmas.Option.{slice_get_past}
 use Rattle.ng_drawing.specs.Template.{Fragment, no_fragment, fragment_at}
 use Rattle.ng_drawing.specs.declared.origin.Origin.{Origin}
-use Rattle.ng_compose.specs.Kept.{Named, including, composing, fragment_for, fragments_in}
+use Rattle.ng_drawing.specs.Named.{Named, including, composing, fragment_for, fragments_in}
 
 pub fragment_or : (all : List Named) (o : Origin) (f : Fragment) → fragment_for all o ≡ Some f → fragments_in all o ≡ f
 fragment_or all o f at = ap (λ (x : Option Fragment). unwrap_or x no_fragment) at

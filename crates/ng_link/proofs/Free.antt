@@ -9,8 +9,8 @@ use Rattle.ng_dom.specs.Nodes.{NamedNode, NamedForest, named_text, named_element
 use Rattle.ng_dom.proofs.Attributes.{same_joined, same_attributes}
 use Rattle.ng_drawing.specs.Nodes.{part_nodes}
 use Rattle.ng_drawing.specs.Template.{Part, Contents, Parts, text_part, comment_part, element_part, anchor_part, children, bound, no_parts, part_then}
-use Rattle.ng_parts.specs.Numbering.{are_drawn}
-use Rattle.ng_watch.specs.Keys.{is_key}
+use Rattle.ng_drawing.specs.Numbering.{are_drawn}
+use Rattle.ng_behaviour.specs.Keys.{is_key}
 use Rattle.ng_build.specs.Building.{unset}
 use Rattle.ng_instances.specs.Instances.{Linked, keys_of, bodies_from, groups_from}
 use Rattle.ng_build.specs.Shape.{part_shape, content_shape, shape, unfilled}

@@ -13,7 +13,7 @@ use Rattle.ng_drawing.specs.Roles.{Role}
 use Rattle.ng_instances.specs.Instances.{Body, OutletState, Linked, Instances, is_path, linked_at, keys_of, with_outlets, outlets_changed, body_added, with_instance}
 use Rattle.ng_build.specs.Shape.{holes}
 use Rattle.ng_link.specs.Standing.{IsBelow, IsPlaced, ArePlaced, Apart, AreApart, IsHeldIn, AreHeld, held_count}
-use Rattle.ng_watch.specs.Keys.{begins}
+use Rattle.ng_behaviour.specs.Keys.{begins}
 use Rattle.ng_link.proofs.BodiesAt.{added_anchors, added_undrawn, added_in, added_count, added_more, added_there}
 use Rattle.ng_link.proofs.Lookups.{changed_keys, changed_other, changed_here, changed_all, changed_apart, inserted_here, inserted_other, inserted_all, inserted_apart}
 use Rattle.ng_build.proofs.Paths.{two_ways}

@@ -10,7 +10,7 @@ use Rattle.ng_base.specs.declared.path.Key.{Key}
 use Rattle.std.specs.BTreeMap.{is_at}
 use Rattle.std.specs.Ordering.{nat_cmp}
 use Rattle.ng_dom.specs.Lists.{without_at}
-use Rattle.ng_compose.specs.Kept.{Named}
+use Rattle.ng_drawing.specs.Named.{Named}
 use Rattle.ng_instances.specs.Instances.{Body, OutletState, Instances, Inners, instance_path, is_path, with_outlets, outlets_changed}
 use Rattle.ng_link.specs.Standing.{body_count, held_count}
 use Rattle.ng_instances.specs.InstanceOf.{body_of, outlet_of, linked_of, instances_of, spot_at, spot_in}

@@ -9,7 +9,7 @@ use Rattle.ng_dom.specs.Drawing.{Source, Bodies, HolesAt, KeysAt, hiding_key, Va
 use Rattle.ng_drawing.specs.Nodes.{part_nodes}
 use Rattle.ng_drawing.specs.Template as template
 use Rattle.ng_drawing.specs.Template.{word, hole, while_true, while_false, PartValue, always, unless_empty, flag, classes, PartAttributes, Part, Contents, Parts, text_part, comment_part, element_part, anchor_part, children, bound, no_parts, part_then}
-use Rattle.ng_parts.specs.Numbering.{bound_numbers, after_pieces, after_own, after_contents, after_part, after_parts, is_within, is_apart, is_piece_drawn, is_hiding_drawn, is_value_drawn, are_drawn}
+use Rattle.ng_drawing.specs.Numbering.{bound_numbers, after_pieces, after_own, after_contents, after_part, after_parts, is_within, is_apart, is_piece_drawn, is_hiding_drawn, is_value_drawn, are_drawn}
 use Rattle.ng_build.specs.Building.{Homed, HomedAll, AllAt}
 use Rattle.ng_build.specs.Shape.{linked_pieces, linked_hiding, linked_value, linked_values, part_shape, content_shape, shape, own_node, piece_holes, part_holes, content_holes, holes}
 use Rattle.ng_link.proofs.Below.{within, apart}

@@ -8,7 +8,7 @@ use Rattle.std.specs.Map.{lookup, keys_of as map_keys}
 use Rattle.std.proofs.lemmas.Map.Entries.{lookup-filter-keys}
 use Rattle.ng_base.specs.Order.{path_cmp, path_cmp_total}
 use Rattle.ng_base.specs.declared.path.Key.{Key}
-use Rattle.ng_watch.specs.Keys.{begins}
+use Rattle.ng_behaviour.specs.Keys.{begins}
 use Rattle.ng_instances.specs.Instances.{OutletState, Inner, Page, Linked, Instances, Inners, is_path, linked_at, instance_path, inner_or, scope_path, key_in, keys_of, with_inner, inner_without, with_outlets, outlets_changed, without_below, with_instance}
 use Rattle.ng_instances.specs.Registering.{mark_in}
 use Rattle.ng_build.specs.Shape.{key_on}

@@ -22,8 +22,8 @@ use Rattle.ng_drawing.specs.Template.{Site, Outlet, Fragment}
 use Rattle.ng_drawing.specs.declared.kind.SiteKind.TheVariants.{Text}
 use Rattle.ng_drawing.specs.declared.origin.Origin.{Origin}
 use Rattle.ng_language.specs.Trees.{no_trees}
-use Rattle.ng_parts.specs.Numbering.{after_parts, is_within, after_outlets}
-use Rattle.ng_watch.specs.Keys.{is_key, begins}
+use Rattle.ng_drawing.specs.Numbering.{after_parts, is_within, after_outlets}
+use Rattle.ng_behaviour.specs.Keys.{is_key, begins}
 use Rattle.ng_watch.specs.Seen.{Watcher}
 use Rattle.ng_watch.specs.Table.{Table, watchers_of, found}
 use Rattle.ng_watch.specs.declared.watched.Watched.{Watched}

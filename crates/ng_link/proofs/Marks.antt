@@ -15,7 +15,7 @@ use Rattle.ng_base.specs.declared.path.Key.{Key}
 use Rattle.ng_behaviour.specs.Scopes.{Scope, path_at, live_at}
 use Rattle.ng_drawing.specs.Template.{SiteScopes, Fragment}
 use Rattle.ng_drawing.specs.declared.origin.Origin.{Origin}
-use Rattle.ng_watch.specs.Keys.{begins}
+use Rattle.ng_behaviour.specs.Keys.{begins}
 use Rattle.ng_instances.specs.Changing.{any_on}
 use Rattle.ng_link.specs.Calls.{page_on}
 use Rattle.ng_instances.specs.Instances.{Inner, Page, inner_or, scope_number, scope_path, key_in, keys_of}

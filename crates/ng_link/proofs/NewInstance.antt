@@ -13,8 +13,8 @@ use Rattle.ng_dom.specs.Drawing.{Stands}
 use Rattle.ng_dom.specs.declared.dom.Dom.{Dom}
 use Rattle.ng_drawing.specs.Nodes.{nodes}
 use Rattle.ng_drawing.specs.Template.{Fragment}
-use Rattle.ng_parts.specs.Numbering.{after_parts}
-use Rattle.ng_compose.specs.Kept.{Named, fragments_in}
+use Rattle.ng_drawing.specs.Numbering.{after_parts}
+use Rattle.ng_drawing.specs.Named.{Named, fragments_in}
 use Rattle.ng_watch.specs.Table.{Table, watchers_of}
 use Rattle.ng_watch.specs.declared.watched.Watched.{Watched}
 use Rattle.ng_instances.specs.Bindings.{Bounds}

@@ -7,7 +7,7 @@ use Rattle.std.proofs.lemmas.List.{length-map}
 use Rattle.ng_drawing.specs.Nodes.{part_nodes}
 use Rattle.ng_drawing.specs.Template as template
 use Rattle.ng_drawing.specs.Template.{word, hole, PartAttributes, Acts, Part, Contents, Parts, text_part, comment_part, element_part, anchor_part, children, bound, no_parts, part_then, Fragment}
-use Rattle.ng_parts.specs.Numbering.{bound_numbers, after_pieces, after_own, after_contents, after_part, after_parts, is_within, is_apart, after_outlets, are_drawn, is_number, is_outlet, is_undrawn, are_outlets, are_undrawn, is_numbered, is_whole}
+use Rattle.ng_drawing.specs.Numbering.{bound_numbers, after_pieces, after_own, after_contents, after_part, after_parts, is_within, is_apart, after_outlets, are_drawn, is_number, is_outlet, is_undrawn, are_outlets, are_undrawn, is_numbered, is_whole}
 use Rattle.ng_build.specs.Shape.{own_node, piece_holes, part_holes, content_holes, holes}
 
 pub both_true : (b c : Bool) → (b && c) ≡ true → (b ≡ true) × (c ≡ true)

@@ -8,7 +8,7 @@ use Rattle.std.specs.Ordering.{nat_cmp}
 use Rattle.std.specs.Prelude.{nat_le, option_map, option_and_then, unwrap_or}
 use Rattle.std.specs.declared.ops.Bound.TheVariants.{Included, Unbounded}
 use Rattle.std.proofs.lemmas.Bool.Decides.{nat_tests}
-use Rattle.ng_compose.specs.Kept.{Named}
+use Rattle.ng_drawing.specs.Named.{Named}
 use Rattle.ng_build.specs.Controls.{Controlled}
 use Rattle.ng_link.specs.Events.{handled_in, controlled_in, scope_in, element_scope}
 use Rattle.ng_build.specs.Handlers.{Handled}

@@ -4,7 +4,7 @@ use Rattle.std.specs.Ordering.{is_eq}
 use Rattle.std.specs.declared.cmp.Ordering.TheVariants.{Less, Greater}
 use Rattle.std.proofs.lemmas.Cmp.{tied_itself}
 use Rattle.ng_base.specs.Order.{path_cmp, path_cmp_total}
-use Rattle.ng_watch.specs.Keys.{begins}
+use Rattle.ng_behaviour.specs.Keys.{begins}
 use Rattle.ng_instances.specs.Instances.{is_path}
 use Rattle.ng_link.specs.Standing.{IsBelow}
 use Rattle.ng_build.proofs.Paths.{after_shorter, begins_more}

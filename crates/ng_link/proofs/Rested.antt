@@ -11,7 +11,7 @@ use Rattle.ng_base.specs.Views.{ViewTree}
 use Rattle.ng_base.specs.declared.path.Key.{Key}
 use Rattle.ng_value.specs.Snaps.{snap_of}
 use Rattle.ng_value.specs.declared.snapshot.Snap.{Snap}
-use Rattle.ng_watch.specs.Keys.{key_cmp, is_key}
+use Rattle.ng_behaviour.specs.Keys.{key_cmp, is_key}
 use Rattle.ng_watch.specs.Seen.{Watcher}
 use Rattle.ng_watch.specs.Table.{Table, found}
 use Rattle.ng_link.specs.Calls.{rested}

@@ -10,7 +10,7 @@ use Rattle.ng_base.specs.declared.path.Key.{Key}
 use Rattle.ng_dom.specs.Drawing.{Stands}
 use Rattle.ng_drawing.specs.Looks.{seen_by}
 use Rattle.ng_value.specs.declared.snapshot.Snap.{Snap}
-use Rattle.ng_watch.specs.Keys.{key_cmp, is_key}
+use Rattle.ng_behaviour.specs.Keys.{key_cmp, is_key}
 use Rattle.ng_watch.specs.Seen.{Watching, Watcher, WatchStands}
 use Rattle.ng_watch.specs.Table.{watchers_of, found, with_watch, without_watch}
 use Rattle.ng_watch.specs.declared.watched.Watched.{Watched}

@@ -3,7 +3,7 @@ use Rattle.std.proofs.Common.{◌≡◌, ℕ, Bool, true, refl, ap, ◌∙◌}
 use Rattle.std.specs.Prelude.{◌&&◌}
 use Rattle.std.specs.List.{list_all}
 use Rattle.ng_drawing.specs.Template.{Part, Contents, Parts, text_part, comment_part, element_part, anchor_part, children, bound, no_parts, part_then}
-use Rattle.ng_parts.specs.Numbering.{bound_numbers, are_drawn, part_draws, contents_draw, parts_draw}
+use Rattle.ng_drawing.specs.Numbering.{bound_numbers, are_drawn, part_draws, contents_draw, parts_draw}
 use Rattle.ng_link.specs.Showing.{part_shows, contents_show, parts_show}
 use Rattle.ng_link.proofs.Numbers.{both_true}
 

@@ -7,7 +7,7 @@ use Rattle.std.specs.Map.{keys_of as map_keys}
 use Rattle.ng_base.specs.Order.{path_cmp, path_cmp_total}
 use Rattle.ng_base.specs.declared.path.Key.{Key}
 use Rattle.ng_dom.specs.Drawing.{none_stand}
-use Rattle.ng_watch.specs.Keys.{begins}
+use Rattle.ng_behaviour.specs.Keys.{begins}
 use Rattle.ng_instances.specs.Instances.{OutletState, Linked, Instances, is_path, linked_at, keys_of, with_outlets, outlets_changed, body_gone, without_below, stands_join, stands_at}
 use Rattle.ng_link.specs.Standing.{IsBelow, IsPlaced, ArePlaced, AreApart, IsHeldIn, AreHeld, held_count}
 use Rattle.ng_link.proofs.BodiesAt.{gone_anchors, gone_undrawn, gone_in, gone_count, gone_itself, gone_other}

@@ -14,7 +14,7 @@ use Rattle.ng_dom.specs.Nodes.{NamedForest}
 use Rattle.ng_dom.specs.declared.dom.Dom.{Dom}
 use Rattle.ng_drawing.specs.Template.{Outlet, Fragment, Parts}
 use Rattle.ng_drawing.specs.declared.origin.Origin.{Origin}
-use Rattle.ng_parts.specs.Numbering.{is_within, is_apart, is_outlet, is_body, is_undrawn, is_whole}
+use Rattle.ng_drawing.specs.Numbering.{is_within, is_apart, is_outlet, is_body, is_undrawn, is_whole}
 use Rattle.ng_parts.proofs.Ranges.{parts_within}
 use Rattle.ng_instances.specs.Bindings.{bound_in_table, is_unbound}
 use Rattle.ng_instances.specs.Changing.{fills_any, round_by, outlet_on, outlets_from, outlets_on}
@@ -32,7 +32,7 @@ use Rattle.ng_instances.proofs.PathIs.{path_is}
 use Rattle.ng_link.proofs.PathsBelow.{not_path}
 use Rattle.ng_link.proofs.ReadOff.{at_path, read_all}
 use Rattle.ng_link.proofs.Showing.{parts_showing}
-use Rattle.ng_watch.specs.Keys.{is_key}
+use Rattle.ng_behaviour.specs.Keys.{is_key}
 use Rattle.ng_link.proofs.Serials.{above}
 
 -- all keys but one

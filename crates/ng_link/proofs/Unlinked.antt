@@ -13,10 +13,10 @@ use Rattle.ng_dom.specs.Document.{next_name}
 use Rattle.ng_dom.specs.Drawing.{at_block_all}
 use Rattle.ng_dom.specs.declared.dom.Dom.{Dom}
 use Rattle.ng_drawing.specs.Looks.{seen_by}
-use Rattle.ng_compose.specs.Kept.{Named}
+use Rattle.ng_drawing.specs.Named.{Named}
 use Rattle.ng_value.specs.Snaps.{snap_of}
 use Rattle.ng_value.specs.declared.snapshot.Snap.{Snap}
-use Rattle.ng_watch.specs.Keys.{is_key, begins}
+use Rattle.ng_behaviour.specs.Keys.{is_key, begins}
 use Rattle.ng_watch.specs.Table.{found}
 use Rattle.ng_link.specs.Calls.{cut_at}
 use Rattle.ng_build.specs.Controls.{Controls, state_under}

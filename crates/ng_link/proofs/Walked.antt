@@ -12,7 +12,7 @@ use Rattle.std.specs.declared.ops.Bound.TheVariants.{Included, Unbounded}
 use Rattle.std.proofs.lemmas.Cmp.{tied_itself}
 use Rattle.std.proofs.lemmas.List.Elements.{recursion_from_All}
 use Rattle.ng_base.specs.Order.{path_cmp, path_cmp_total}
-use Rattle.ng_compose.specs.Kept.{Named}
+use Rattle.ng_drawing.specs.Named.{Named}
 use Rattle.ng_instances.proofs.PathIs.{path_is}
 use Rattle.ng_instances.specs.Instances.{is_path, linked_at}
 use Rattle.ng_instances.specs.InstanceOf.{instances_of}

@@ -12,7 +12,7 @@ use Rattle.ng_base.specs.declared.path.Key.{Key}
 use Rattle.ng_drawing.specs.Template.{Site}
 use Rattle.ng_drawing.specs.declared.kind.SiteKind.{SiteKind}
 use Rattle.ng_drawing.specs.declared.kind.SiteKind.TheVariants as sites
-use Rattle.ng_watch.specs.Keys.{key_cmp, is_key}
+use Rattle.ng_behaviour.specs.Keys.{key_cmp, is_key}
 use Rattle.ng_watch.specs.Seen.{Watcher, DestStands, WatchStands}
 use Rattle.ng_watch.specs.Table.{Table, found, keeping, with_kept, with_watch, AllStand}
 use Rattle.ng_watch.specs.declared.watch.WatchKind.{WatchKind}

@@ -13,9 +13,9 @@ use Rattle.ng_drawing.specs.Nodes.{nodes}
 use Rattle.ng_drawing.specs.Template.{Fragment}
 use Rattle.ng_drawing.specs.declared.origin.Origin.{Origin}
 use Rattle.ng_parts.specs.Directing.{Programs}
-use Rattle.ng_compose.specs.Kept.{Named}
+use Rattle.ng_drawing.specs.Named.{Named}
 use Rattle.ng_watch.specs.Ended.{over, without_over}
-use Rattle.ng_watch.specs.Keys.{key_cmp, is_key, begins}
+use Rattle.ng_behaviour.specs.Keys.{key_cmp, is_key, begins}
 use Rattle.ng_watch.specs.Seen.{Watching}
 use Rattle.ng_watch.specs.Table.{Table, with_kept, with_watch, without_watch, under, without_under}
 use Rattle.ng_build.specs.Controls.{controlled, controls_begun, control_changed}

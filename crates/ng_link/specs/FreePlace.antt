@@ -1,7 +1,7 @@
 -- Where an instance may come.
 use Rattle.std.specs.Prelude.{ℕ, ◌≡◌, ◌⊎◌, true, false, List, [], IsSome}
 use Rattle.std.specs.Map.{lookup}
-use Rattle.ng_watch.specs.Keys.{begins}
+use Rattle.ng_behaviour.specs.Keys.{begins}
 use Rattle.ng_instances.specs.Changing.{Place, at_top, in_outlet}
 use Rattle.ng_instances.specs.Instances.{is_path, linked_at}
 use Rattle.ng_link.specs.Standing.{IsBelow}

@@ -8,7 +8,7 @@ use Rattle.ng_dom.specs.Document.{next_name}
 use Rattle.ng_drawing.specs.Nodes.{nodes}
 use Rattle.ng_drawing.specs.Template.{Fragment}
 use Rattle.ng_drawing.specs.declared.origin.Origin.{Origin}
-use Rattle.ng_parts.specs.Numbering.{after_parts, after_outlets}
+use Rattle.ng_drawing.specs.Numbering.{after_parts, after_outlets}
 use Rattle.ng_build.specs.Building.{IsStood}
 use Rattle.ng_instances.specs.Bindings.{Bound, bound_in_table, BoundStands}
 use Rattle.ng_link.specs.Calls.{page_on, linked_on}

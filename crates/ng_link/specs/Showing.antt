@@ -2,7 +2,7 @@
 use Rattle.std.specs.Prelude.{ℕ, ◌&&◌, Bool, true}
 use Rattle.std.specs.List.{list_all}
 use Rattle.ng_drawing.specs.Template.{Part, Contents, Parts, text_part, comment_part, element_part, anchor_part, children, bound, no_parts, part_then}
-use Rattle.ng_parts.specs.Numbering.{is_piece_drawn, are_drawn}
+use Rattle.ng_drawing.specs.Numbering.{is_piece_drawn, are_drawn}
 
 abbrev mutual
   pub part_shows : (ℕ → Bool) → Part → Bool

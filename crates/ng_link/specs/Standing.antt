@@ -13,8 +13,8 @@ use Rattle.ng_dom.specs.declared.dom.Dom.{Dom}
 use Rattle.ng_drawing.specs.Nodes.{nodes}
 use Rattle.ng_markup.specs.Forest.{Forest}
 use Rattle.ng_drawing.specs.Template.{Parts}
-use Rattle.ng_parts.specs.Numbering.{after_parts, is_apart, after_outlets}
-use Rattle.ng_watch.specs.Keys.{begins}
+use Rattle.ng_drawing.specs.Numbering.{after_parts, is_apart, after_outlets}
+use Rattle.ng_behaviour.specs.Keys.{begins}
 use Rattle.ng_watch.specs.Seen.{WatchStands}
 use Rattle.ng_watch.specs.Table.{Table}
 use Rattle.ng_instances.specs.Bindings.{is_unbound}

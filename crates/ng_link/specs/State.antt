@@ -17,13 +17,13 @@ use Rattle.ng_drawing.specs.Template.{no_fragment}
 use Rattle.ng_language.specs.Trees.{Trees}
 use Rattle.ng_markup.specs.Forest.{Forest}
 use Rattle.ng_parse.specs.ProgramOf.{program}
-use Rattle.ng_compose.specs.Kept.{Named}
+use Rattle.ng_drawing.specs.Named.{Named}
 use Rattle.ng_compose.specs.Kept as templates
 use Rattle.ng_parts.specs.Directing.{Programs}
 use Rattle.ng_compose.specs.DirectivesOf.{directives_of}
 use Rattle.ng_value.specs.Snaps.{snap_of}
 use Rattle.ng_value.specs.declared.snapshot.Snap.{Snap}
-use Rattle.ng_watch.specs.Keys.{is_key}
+use Rattle.ng_behaviour.specs.Keys.{is_key}
 use Rattle.ng_watch.specs.Seen.{Watcher}
 use Rattle.ng_watch.specs.Table.{Table, watchers_of, found}
 use Rattle.ng_build.specs.Controls.{Controls, state_under}

@@ -1,7 +1,7 @@
 //! The bodies of an outlet in another order, with other roles (API: ngRepeat).
 ghost use Rattle.std.specs.Prelude.{List, ◌≡◌, map, OnOk, IfOk};
 ghost use Rattle.ng_base.specs.declared.path.Key.{Key};
-ghost use Rattle.ng_compose.specs.Kept.{Named};
+ghost use Rattle.ng_drawing.specs.Named.{Named};
 ghost use Rattle.ng_link.specs.Arranging.{are_alike as alike_of, ArePlaces, AreAt, IsPlaceOf, IsOrder, PicksBy, IsRearranged};
 ghost use Rattle.ng_link.specs.Calls.{arranged_at};
 ghost use Rattle.ng_instances.specs.Instances.{Body as BodyOf, Inners, with_bodies, bodies_arranged, outlets_changed, linked_at};

@@ -1,6 +1,6 @@
 //! What stands under a key, and the bodies that stand in outlets, with their scopes.
 ghost use Rattle.std.specs.Prelude.{List, ◌≡◌, Some, map, IfOk, IfSome};
-ghost use Rattle.ng_compose.specs.Kept.{Named};
+ghost use Rattle.ng_drawing.specs.Named.{Named};
 ghost use Rattle.ng_link.specs.Events.{scope_in, scopes_at};
 ghost use Rattle.ng_link.specs.SiteAt.{StandsAt};
 ghost use Rattle.ng_instances.specs.Instances.{OutletState as OutletOf, linked_at, instance_path as instance_path_of};

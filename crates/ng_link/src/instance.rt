@@ -2,7 +2,7 @@
 ghost use Rattle.std.specs.Prelude.{◌≡◌, IfOk, map, option_map};
 ghost use Rattle.ng_drawing.specs.Instance.{instances_from};
 ghost use Rattle.ng_drawing.specs.InstanceOf.{state_of as seen_state, instance_of as seen_instance, group_of as seen_group};
-ghost use Rattle.ng_compose.specs.Kept.{fragments_in};
+ghost use Rattle.ng_drawing.specs.Named.{fragments_in};
 ghost use Rattle.ng_value.specs.Snaps.{snap_of};
 ghost use Rattle.ng_build.specs.Controls.{state_under};
 ghost use Rattle.ng_instances.specs.Instances.{Body as BodyOf, read_bodies};

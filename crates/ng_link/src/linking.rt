@@ -10,7 +10,7 @@ ghost use Rattle.ng_behaviour.specs.Scopes.{path_at};
 ghost use Rattle.ng_dom.specs.Document.{live_count};
 ghost use Rattle.ng_drawing.specs.Nodes.{nodes, node_limit};
 ghost use Rattle.ng_drawing.specs.Template.{Fragment as FragmentOf};
-ghost use Rattle.ng_compose.specs.Kept.{Named, fragment_for};
+ghost use Rattle.ng_drawing.specs.Named.{Named, fragment_for};
 ghost use Rattle.ng_build.specs.Building.{parent_name, IsThere};
 ghost use Rattle.ng_link.specs.Calls.{taken_in, placed_on};
 ghost use Rattle.ng_instances.specs.Instances.{Inners};

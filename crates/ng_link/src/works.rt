@@ -3,7 +3,7 @@ ghost use Rattle.std.specs.Prelude.{◌≡◌, None, option_map, slice_get};
 ghost use Rattle.std.specs.Map.{lookup};
 ghost use Rattle.ng_core.specs.Frames.{state_of as core_state, held, IsSound};
 ghost use Rattle.ng_core.specs.State.{with_fault};
-ghost use Rattle.ng_watch.specs.Keys.{is_key};
+ghost use Rattle.ng_behaviour.specs.Keys.{is_key};
 ghost use Rattle.ng_link.specs.Calls.{blank, with_core};
 ghost use Rattle.ng_instances.specs.Instances.{is_site};
 ghost use Rattle.ng_link.specs.State.{listening_of, state_of, templates_of};

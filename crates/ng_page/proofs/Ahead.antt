@@ -14,7 +14,7 @@ use Rattle.ng_digest.specs.Place.{WhenWorn, advanced, at_next, state_tested}
 use Rattle.ng_digest.specs.Progress.{Standing, place, came_to, passed}
 use Rattle.ng_digest.proofs.Passing.{Goes, goes_to, goes_by, goes_passes}
 use Rattle.ng_link.specs.State as link
-use Rattle.ng_watch.specs.Keys.{is_key}
+use Rattle.ng_behaviour.specs.Keys.{is_key}
 use Rattle.ng_watch.specs.Seen.{Watcher}
 use Rattle.ng_watch.specs.Table.{Table, found}
 use Rattle.ng_watch.specs.Verdicts.{Judged, clean, dirty, verdict}

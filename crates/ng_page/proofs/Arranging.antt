@@ -10,7 +10,7 @@ use Rattle.ng_instances.specs.Instances.{Body, OutletState, Linked, linked_at, k
 use Rattle.ng_link.specs.Standing.{held_count}
 use Rattle.ng_link.specs.State.{State}
 use Rattle.ng_link.proofs.Lookups.{changed_keys, changed_here}
-use Rattle.ng_watch.specs.Keys.{is_key}
+use Rattle.ng_behaviour.specs.Keys.{is_key}
 use Rattle.ng_watch.specs.Seen.{Watcher}
 use Rattle.ng_watch.specs.Table.{found}
 use Rattle.ng_commands.specs.Settled.{site_keys, IsChild, IsRound, IsLinked, leads_in, NumbersDiffer, OutletFits, IsWatched, Fits}

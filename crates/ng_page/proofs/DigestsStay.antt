@@ -9,8 +9,8 @@ use Rattle.ng_digest.specs.Plain.{Plain, PlainDigests}
 use Rattle.ng_fire.specs.SiteFires.{site_fired}
 use Rattle.ng_fire.specs.Fires.{fired as fires, fire_of_site, fire_run, fired_by as fired_run, value_at}
 use Rattle.ng_changes.specs.Runs.{ran}
-use Rattle.ng_changes.specs.Settling as settling
-use Rattle.ng_changes.specs.Settling.{unset_all}
+use Rattle.ng_settling.specs.Settling as settling
+use Rattle.ng_settling.specs.Settling.{unset_all}
 use Rattle.ng_link.specs.Calls.{with_core, keeping_at, is_drawn, unset_at}
 use Rattle.ng_instances.specs.Instances.{Instances, is_site}
 use Rattle.ng_link.specs.State as link

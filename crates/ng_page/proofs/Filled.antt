@@ -29,9 +29,9 @@ use Rattle.ng_link.specs.Placing.{IsRegistered}
 use Rattle.ng_link.specs.State.{State, live_nodes}
 use Rattle.ng_link.proofs.Counted.{ended_done}
 use Rattle.ng_members.specs.Leaves.{Local}
-use Rattle.ng_compose.specs.Kept.{fragments_in}
-use Rattle.ng_parts.specs.Numbering.{HasOrder}
-use Rattle.ng_watch.specs.Keys.{is_key}
+use Rattle.ng_drawing.specs.Named.{fragments_in}
+use Rattle.ng_drawing.specs.Numbering.{HasOrder}
+use Rattle.ng_behaviour.specs.Keys.{is_key}
 use Rattle.ng_commands.specs.Settled.{IsChild}
 use Rattle.ng_commands.proofs.EventsStay.{part, Stays, stays_trans, fault_stays}
 use Rattle.ng_page.proofs.LinksStay.{with_scope_made, scope_made, steps_sites, all_rested_sites, given_up_sites, discarded_sites}

@@ -32,7 +32,7 @@ use Rattle.ng_link.specs.State.{State, roles_in}
 use Rattle.ng_build.proofs.Keys.{key_is, same_key}
 use Rattle.ng_link.proofs.Serials.{number_at, all_at_place}
 use Rattle.ng_compose.specs.Kept.{named_from}
-use Rattle.ng_watch.specs.Keys.{key_cmp, is_key}
+use Rattle.ng_behaviour.specs.Keys.{key_cmp, is_key}
 use Rattle.ng_watch.specs.Table.{found, kept_at}
 use Rattle.ng_page.specs.PageLaws.{told_itself}
 use Rattle.ng_page.specs.PageMachine.{with_faulted}

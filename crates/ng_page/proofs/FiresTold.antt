@@ -35,7 +35,7 @@ use Rattle.ng_instances.specs.Due.{Due, all_due}
 use Rattle.ng_link.specs.Events.{scope_in}
 use Rattle.ng_instances.specs.Instances.{Body, linked_at, is_site, instance_path, linked_for, bound_for}
 use Rattle.ng_link.specs.State.{State}
-use Rattle.ng_compose.specs.Kept.{fragments_in}
+use Rattle.ng_drawing.specs.Named.{fragments_in}
 use Rattle.ng_members.specs.Leaves.{Local}
 use Rattle.ng_watch.specs.Table.{kept_at}
 use Rattle.ng_watch.specs.Verdicts.{own_value}

@@ -9,15 +9,15 @@ use Rattle.std.specs.Ordering.{nat_cmp}
 use Rattle.ng_base.specs.Views.{ViewTree}
 use Rattle.ng_base.specs.declared.path.Key.{Key}
 use Rattle.ng_drawing.specs.Template.{Outlet}
-use Rattle.ng_changes.specs.Settling.{unset_all}
+use Rattle.ng_settling.specs.Settling.{unset_all}
 use Rattle.ng_instances.specs.Bindings.{bound_in_table}
 use Rattle.ng_instances.specs.Changing.{fills_any, is_drawn_in}
 use Rattle.ng_link.specs.Calls.{keeping_at, is_drawn, unset_at}
 use Rattle.ng_instances.specs.Instances.{OutletState, Page, Linked, linked_at, linked_for, instance_path, key_in, is_filled_by, is_site_of, is_site_in}
 use Rattle.ng_link.specs.State.{State}
 use Rattle.ng_build.proofs.Keys.{key_is, same_key, other_key}
-use Rattle.ng_build.proofs.Tables.{kept-other}
-use Rattle.ng_watch.specs.Keys.{key_cmp, is_key}
+use Rattle.ng_instances.proofs.Keeping.{kept-other}
+use Rattle.ng_behaviour.specs.Keys.{key_cmp, is_key}
 use Rattle.ng_watch.specs.Seen.{Watcher}
 use Rattle.ng_watch.specs.Table.{Table, found, keeping, with_kept}
 use Rattle.ng_page.specs.PageLaws.{told_itself, told_still}

@@ -6,7 +6,7 @@ use Rattle.ng_base.specs.Views.{ViewTree}
 use Rattle.ng_base.specs.declared.path.Key.{Key}
 use Rattle.ng_link.specs.Calls.{keeping_at}
 use Rattle.ng_link.specs.State as link
-use Rattle.ng_watch.specs.Keys.{is_key}
+use Rattle.ng_behaviour.specs.Keys.{is_key}
 use Rattle.ng_watch.specs.Laws.{is_two_way}
 use Rattle.ng_watch.specs.Seen.{Watcher}
 use Rattle.ng_watch.specs.Table.{Table, found, keeping, with_kept}

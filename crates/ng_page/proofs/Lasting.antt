@@ -22,7 +22,7 @@ use Rattle.ng_fire.specs.SiteFires.{outlets_filled, outlets_fired, site_fired_by
 use Rattle.ng_fire.specs.Fires.{fired as fires, value_at}
 use Rattle.ng_steps.specs.Links.{Linking, begins_linking, steps_linked, first_of, ended_link, link_at}
 use Rattle.ng_changes.specs.Runs.{followed, destroy_run}
-use Rattle.ng_changes.specs.Settling.{unset_all}
+use Rattle.ng_settling.specs.Settling.{unset_all}
 use Rattle.ng_language.specs.Trees.{Trees}
 use Rattle.ng_instances.specs.Changing.{Place}
 use Rattle.ng_link.specs.Calls.{with_core, keeping_at, is_drawn, unset_at, left_at, placed_on}
@@ -33,7 +33,7 @@ use Rattle.ng_instances.specs.Instances.{Body, linked_at, linked_for, instance_p
 use Rattle.ng_build.specs.Linking.{steps, steps_within, fault_in}
 use Rattle.ng_instances.specs.Bindings.{Bound}
 use Rattle.ng_link.specs.State.{State, live_nodes}
-use Rattle.ng_compose.specs.Kept.{Named, fragments_in}
+use Rattle.ng_drawing.specs.Named.{Named, fragments_in}
 use Rattle.ng_members.specs.Leaves.{Local}
 use Rattle.ng_watch.specs.Table.{with_kept, kept_at}
 use Rattle.ng_page.specs.Answered.{DigestsWhere}

@@ -11,7 +11,7 @@ use Rattle.ng_base.specs.declared.path.Key.{Key}
 use Rattle.ng_digest.proofs.Carried.{found_passes, least}
 use Rattle.ng_digest.proofs.Keys.{above_both, is_less, not_back, not_below}
 use Rattle.ng_digest.specs.Machine.{above}
-use Rattle.ng_watch.specs.Keys.{key_cmp, key_cmp_total, is_above, is_key}
+use Rattle.ng_behaviour.specs.Keys.{key_cmp, key_cmp_total, is_above, is_key}
 use Rattle.ng_watch.specs.Seen.{Watcher}
 use Rattle.ng_watch.specs.Table.{Table, found}
 use Rattle.ng_watch.specs.Walks.{Arrival, Walks, came_to_end, came_to_watcher, passed_watcher, next_of, ends_at}

@@ -24,8 +24,8 @@ use Rattle.ng_instances.proofs.Rows.{fresh_watcher, row_numbers, sites_other}
 use Rattle.ng_link.proofs.Serials.{first_apart}
 use Rattle.ng_link.proofs.Sorted.{insert_sorted}
 use Rattle.ng_build.proofs.Tables.{put-same}
-use Rattle.ng_parts.specs.Numbering.{is_outlet, is_body, is_whole}
-use Rattle.ng_watch.specs.Keys.{key_cmp, key_cmp_total}
+use Rattle.ng_drawing.specs.Numbering.{is_outlet, is_body, is_whole}
+use Rattle.ng_behaviour.specs.Keys.{key_cmp, key_cmp_total}
 use Rattle.ng_watch.specs.Seen.{Watching, Watcher}
 use Rattle.ng_watch.specs.Table.{Table, found, with_watch}
 use Rattle.ng_commands.specs.Settled.{WatchesAt, AreWatched, AreOutlets, IsInner}

@@ -22,8 +22,8 @@ use Rattle.ng_link.specs.Placing.{IsRegistered}
 use Rattle.ng_link.specs.State.{State, live_nodes}
 use Rattle.ng_link.proofs.Counted.{ended_done}
 use Rattle.ng_link.proofs.Sorted.{none_in_order}
-use Rattle.ng_compose.specs.Kept.{Named, fragment_for, fragments_in}
-use Rattle.ng_parts.specs.Numbering.{HasOrder, is_regular}
+use Rattle.ng_drawing.specs.Named.{Named, fragment_for, fragments_in}
+use Rattle.ng_drawing.specs.Numbering.{HasOrder, is_regular}
 use Rattle.ng_compose.specs.TplNames.{next_name}
 use Rattle.ng_page.specs.Opening.{linked_by, linked_from, linked_on, page_origin}
 use Rattle.ng_page.proofs.DigestsStay.{AreFitting, fitting_stays}

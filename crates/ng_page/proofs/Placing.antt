@@ -32,8 +32,8 @@ use Rattle.ng_instances.proofs.Rows.{fresh_watcher, row_numbers, sites_other}
 use Rattle.ng_link.proofs.FoundSites.{sites_found}
 use Rattle.ng_link.proofs.Serials.{number_at, all_at_place}
 use Rattle.ng_link.proofs.Sorted.{insert_sorted}
-use Rattle.ng_parts.specs.Numbering.{HasOrder}
-use Rattle.ng_watch.specs.Keys.{is_key}
+use Rattle.ng_drawing.specs.Numbering.{HasOrder}
+use Rattle.ng_behaviour.specs.Keys.{is_key}
 use Rattle.ng_watch.specs.Seen.{Watcher}
 use Rattle.ng_watch.specs.Table.{Table, found}
 use Rattle.ng_commands.specs.Settled.{site_keys, watching_at, WatchesAt, IsChild, IsRound, IsLinked, leads_in, NumbersDiffer, cases_under, CallsFor, OutletFits, IsWatched, Fits}

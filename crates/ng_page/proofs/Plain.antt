@@ -11,7 +11,7 @@ use Rattle.ng_language.specs.Trees.{Trees}
 use Rattle.ng_build.specs.Linking.{Opening, a_child, an_isolate, a_slot, LinkStep, makes, opens, binds, installs, starts, starts_at, registers, leaves, piece_steps, if_asked, scope_of, uses_entered, entering_steps, uses_left, leaving_steps, slot_steps, part_steps, content_steps, steps, bound_flags, is_bound_site, fault_in}
 use Rattle.ng_link.proofs.Counted.{is_done, done_both, ended_done, element_done}
 use Rattle.ng_link.proofs.Numbers.{both_true, first_then, bound_then, next_own, next_hole, contents_children, contents_bound, whole_count, whole_undrawn}
-use Rattle.ng_parts.specs.Numbering.{source_numbers, bound_numbers, after_pieces, after_own, after_contents, after_part, after_parts, is_within, is_apart, are_drawn, part_draws, contents_draw, parts_draw, is_undrawn, HasOrder}
+use Rattle.ng_drawing.specs.Numbering.{source_numbers, bound_numbers, after_pieces, after_own, after_contents, after_part, after_parts, is_within, is_apart, are_drawn, part_draws, contents_draw, parts_draw, is_undrawn, HasOrder}
 
 abbrev flags : List LinkStep → List Bool
 flags ss = flat_map bound_flags ss

@@ -15,7 +15,7 @@ use Rattle.ng_link.specs.Calls.{blank, with_core}
 use Rattle.ng_link.specs.Standing.{Standing}
 use Rattle.ng_link.specs.State.{State, state_of}
 use Rattle.ng_parts.specs.Directing.{Programs}
-use Rattle.ng_compose.specs.Kept.{Named}
+use Rattle.ng_drawing.specs.Named.{Named}
 use Rattle.ng_link.specs.declared.works.Works.{Works}
 use Rattle.ng_page.specs.Opening.{prepared, templates_for}
 

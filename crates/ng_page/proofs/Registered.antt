@@ -24,8 +24,8 @@ use Rattle.ng_link.proofs.Numbers.{counted, whole_count}
 use Rattle.ng_link.proofs.Sorted.{none_in_order}
 use Rattle.ng_compose.proofs.ComposedOrder.{composed_order}
 use Rattle.ng_compose.proofs.KeptWhole.{whole_for}
-use Rattle.ng_compose.specs.Kept.{Named, fragment_in, fragments_at, including, composing, fragments_in}
-use Rattle.ng_parts.specs.Numbering.{HasOrder, is_regular}
+use Rattle.ng_drawing.specs.Named.{Named, fragment_in, fragments_at, including, composing, fragments_in}
+use Rattle.ng_drawing.specs.Numbering.{HasOrder, is_regular}
 use Rattle.ng_page.specs.Laws.{AreNew}
 use Rattle.ng_page.proofs.Bodies.{push_all}
 use Rattle.ng_page.proofs.LinksStay.{by_value_sites, text_by_sites, step_less}

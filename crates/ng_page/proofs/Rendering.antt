@@ -39,7 +39,7 @@ use Rattle.ng_link.proofs.Inner.{key_leads}
 use Rattle.ng_link.proofs.PathsBelow.{other_path, same_path, less_other}
 use Rattle.ng_link.proofs.Serials.{not_at}
 use Rattle.ng_link.proofs.Undrawn.{rising_differ}
-use Rattle.ng_watch.specs.Keys.{is_key}
+use Rattle.ng_behaviour.specs.Keys.{is_key}
 use Rattle.ng_watch.specs.Laws.{is_two_way}
 use Rattle.ng_watch.specs.Now.{value_now, snapshot_of, now}
 use Rattle.ng_watch.specs.Seen.{Watching, Watcher}

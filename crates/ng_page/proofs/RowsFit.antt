@@ -33,7 +33,7 @@ use Rattle.ng_instances.specs.PlaceOf.{outlet_of_linked}
 use Rattle.ng_link.specs.Standing.{body_count, held_count}
 use Rattle.ng_link.specs.State.{State, roles_in}
 use Rattle.ng_members.specs.Leaves.{Local}
-use Rattle.ng_watch.specs.Keys.{is_key}
+use Rattle.ng_behaviour.specs.Keys.{is_key}
 use Rattle.ng_commands.specs.Settled.{IsChild, IsRound}
 use Rattle.ng_page.proofs.Altered.{all_by_place, by_same_place, alone_there, count_within, Altered, altered_first, altered_on, added_place, added_altered, arranged_place, arranged_altered, gone_altered, arranged_once, ChangedAt}
 use Rattle.ng_page.proofs.Arranging.{MayStand, arranged_here, under_arranged}

@@ -28,10 +28,10 @@ use Rattle.ng_digest.specs.Short.{Skips, none_above, at_remembered, at_dirty, pa
 use Rattle.ng_digest.proofs.Carried.{tested_is}
 use Rattle.ng_digest.proofs.Fresh.{rounds_known}
 use Rattle.ng_digest.proofs.Stop.{forgotten}
-use Rattle.ng_changes.specs.Settling as settling
+use Rattle.ng_settling.specs.Settling as settling
 use Rattle.ng_link.specs.State as link
 use Rattle.ng_watch.specs.Ended.{is_over}
-use Rattle.ng_watch.specs.Keys.{key_cmp, is_key, key_cmp_total}
+use Rattle.ng_behaviour.specs.Keys.{key_cmp, is_key, key_cmp_total}
 use Rattle.ng_watch.specs.Seen.{Watcher}
 use Rattle.ng_watch.specs.Table.{Table, found as found_in}
 use Rattle.ng_watch.specs.Verdicts.{Judged, clean, dirty, verdict}

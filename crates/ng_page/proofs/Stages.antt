@@ -9,7 +9,7 @@ use Rattle.ng_digest.specs.Progress.{Standing, test_done}
 use Rattle.ng_digest.specs.declared.world.Tested.{Tested}
 use Rattle.ng_digest.specs.declared.world.Tested.TheVariants.{Clean, Dirty, Faulted, Memory}
 use Rattle.ng_digest.specs.declared.world.Stage.TheVariants.{AtKey, Pending}
-use Rattle.ng_watch.specs.Keys.{is_above}
+use Rattle.ng_behaviour.specs.Keys.{is_above}
 use Rattle.ng_watch.specs.Seen.{Watcher}
 use Rattle.ng_watch.specs.Table.{Table, first_key, key_after}
 use Rattle.ng_base.specs.Views.{ViewTree}

@@ -9,7 +9,7 @@ use Rattle.ng_base.specs.Objects.{Object}
 use Rattle.ng_base.specs.Views.{ViewTree}
 use Rattle.ng_base.specs.declared.fault.Fault.{Fault}
 use Rattle.ng_base.specs.declared.path.Key.{Key}
-use Rattle.ng_build.proofs.Tables.{kept-other}
+use Rattle.ng_instances.proofs.Keeping.{kept-other}
 use Rattle.ng_digest.proofs.Carried.{none_passes}
 use Rattle.ng_digest.specs.Machine.{Verdict, above, found_clean, found_dirty, found_faulted, verdict_at}
 use Rattle.ng_digest.specs.Place.{Answers, OnTested, state_tested}
@@ -20,7 +20,7 @@ use Rattle.ng_fire.specs.Fires.{IsDirtyWith}
 use Rattle.ng_link.specs.Calls.{keeping_at}
 use Rattle.ng_link.specs.State as link
 use Rattle.ng_watch.proofs.Judging.{kept_is_clean}
-use Rattle.ng_watch.specs.Keys.{key_cmp, is_above, is_key}
+use Rattle.ng_behaviour.specs.Keys.{key_cmp, is_above, is_key}
 use Rattle.ng_watch.specs.Laws.{is_two_way}
 use Rattle.ng_watch.specs.Seen.{Watcher}
 use Rattle.ng_watch.specs.Table.{Table, found, keeping, with_kept}

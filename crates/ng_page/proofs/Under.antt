@@ -22,7 +22,7 @@ use Rattle.ng_link.specs.State.{State}
 use Rattle.ng_build.proofs.Keys.{equal_numbers}
 use Rattle.ng_link.proofs.Numbers.{both_true}
 use Rattle.ng_link.proofs.PathsBelow.{other_path}
-use Rattle.ng_watch.specs.Keys.{is_key}
+use Rattle.ng_behaviour.specs.Keys.{is_key}
 use Rattle.ng_watch.specs.Seen.{Watcher}
 use Rattle.ng_watch.specs.Table.{found}
 use Rattle.ng_commands.specs.Settled.{IsChild, IsRound, leads_in, IsWatched, Fits}

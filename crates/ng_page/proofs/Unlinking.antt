@@ -17,7 +17,7 @@ use Rattle.ng_link.proofs.Lookups.{changed_keys, changed_here, changed_other, ke
 use Rattle.ng_instances.proofs.PathIs.{path_is}
 use Rattle.ng_link.proofs.PathsBelow.{other_path}
 use Rattle.ng_link.proofs.Sorted.{filter_sorted}
-use Rattle.ng_watch.specs.Keys.{begins}
+use Rattle.ng_behaviour.specs.Keys.{begins}
 use Rattle.ng_watch.specs.Table.{Table}
 use Rattle.ng_commands.specs.Settled.{site_keys, IsChild, IsRound, IsLinked, cases_under, OutletFits, leads_in, NumbersDiffer, IsWatched, Fits}
 use Rattle.ng_page.proofs.Bodies.{calls_same, all_mapped, filter_all, filter_none, gone_outlets, gone_count}

@@ -9,7 +9,7 @@ use Rattle.ng_base.specs.declared.path.Key.{Key}
 use Rattle.ng_digest.specs.Machine.{above}
 use Rattle.ng_digest.specs.declared.world.Tested.{Tested}
 use Rattle.ng_digest.specs.declared.world.Tested.TheVariants as tests
-use Rattle.ng_watch.specs.Keys.{is_above}
+use Rattle.ng_behaviour.specs.Keys.{is_above}
 use Rattle.ng_watch.specs.Table.{Table, found}
 use Rattle.ng_watch.specs.Verdicts.{clean, verdict}
 use Rattle.ng_watch.specs.Walks.{Arrival, behind_all, at_watcher}

@@ -8,6 +8,7 @@ pub mod PlaceOf
 pub mod Targets
 pub mod Dispatch
 pub mod PageOf
+pub mod Ready
 pub mod OutcomeOf
 pub mod Causes
 pub mod Commanded

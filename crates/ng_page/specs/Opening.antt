@@ -15,7 +15,7 @@ use Rattle.ng_changes.specs.Runs.{followed, program_run}
 use Rattle.ng_instances.specs.Changing.{at_top}
 use Rattle.ng_link.specs.Calls.{blank, with_core}
 use Rattle.ng_link.specs.State as link
-use Rattle.ng_compose.specs.Kept.{Named, fragments_in}
+use Rattle.ng_drawing.specs.Named.{Named, fragments_in}
 
 -- the page's own template, those of directives, and those that may be included
 abbrev pub templates_for : Template → Facts → List Named

@@ -12,12 +12,12 @@ use Rattle.ng_base.specs.Order.{path_cmp}
 use Rattle.ng_base.specs.declared.fault.Fault.{Fault}
 use Rattle.ng_base.specs.declared.path.Key.{Key}
 use Rattle.ng_digest.specs.Laws.{HasLaws}
-use Rattle.ng_watch.specs.Keys.{key_cmp, key_cmp_total, is_key}
+use Rattle.ng_behaviour.specs.Keys.{key_cmp, key_cmp_total, is_key}
 use Rattle.ng_watch.specs.Seen.{Watcher}
 use Rattle.ng_watch.specs.Table.{found, with_kept}
 use Rattle.ng_watch.specs.Verdicts.{Judged, verdict}
 use Rattle.ng_changes.specs.Runs.{any_waits}
-use Rattle.ng_changes.specs.Settling.{unset_all}
+use Rattle.ng_settling.specs.Settling.{unset_all}
 use Rattle.ng_link.specs.Calls.{is_drawn, unset_at}
 use Rattle.ng_link.specs.State as link
 use Rattle.ng_page.specs.PageMachine.{State, is_told, told_at, tell, tested_of, tested, verdict_of, verdict_at, page_machine}

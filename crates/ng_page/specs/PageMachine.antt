@@ -11,11 +11,11 @@ use Rattle.ng_base.specs.declared.path.Key.{Key}
 use Rattle.ng_digest.specs.Machine.{Machine, Verdict, found_clean, found_dirty, found_faulted}
 use Rattle.ng_fire.specs.Fires.{fired as fires, fire_adds}
 use Rattle.ng_changes.specs.Runs.{any_waits, ran}
-use Rattle.ng_changes.specs.Settling as settling
+use Rattle.ng_settling.specs.Settling as settling
 use Rattle.ng_link.specs.Calls.{with_core}
 use Rattle.ng_link.specs.State as link
 use Rattle.ng_link.specs.Untroubled.{untroubled}
-use Rattle.ng_watch.specs.Keys.{key_cmp, is_key}
+use Rattle.ng_behaviour.specs.Keys.{key_cmp, is_key}
 use Rattle.ng_watch.specs.Seen.{Watcher}
 use Rattle.ng_watch.specs.Table.{found}
 use Rattle.ng_watch.specs.Verdicts.{Judged, clean, dirty, verdict}

@@ -6,7 +6,7 @@ use Rattle.ng_drawing.specs.InstanceOf.{Fragments}
 use Rattle.ng_link.specs.Standing as standing
 use Rattle.ng_link.specs.State as link
 use Rattle.ng_markup.specs.Forest.{Forest}
-use Rattle.ng_compose.specs.Kept.{fragments_in}
+use Rattle.ng_drawing.specs.Named.{fragments_in}
 use Rattle.ng_commands.specs.BetweenSteps.{PageIs}
 use Rattle.ng_page.specs.declared.page.Page.{Page}
 

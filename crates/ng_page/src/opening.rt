@@ -7,7 +7,7 @@ ghost use Rattle.ng_app.specs.Templates.{all_named};
 ghost use Rattle.ng_drawing.specs.Template.{Template};
 ghost use Rattle.ng_link.specs.State.{state_of, templates_of};
 ghost use Rattle.ng_compose.specs.Kept.{templates_of as kept_templates};
-ghost use Rattle.ng_parts.specs.Numbering.{is_regular};
+ghost use Rattle.ng_drawing.specs.Numbering.{is_regular};
 ghost use Rattle.ng_compose.specs.DirectivesOf.{directives_of};
 ghost use Rattle.ng_parts.specs.TemplateOf.{template_of};
 ghost use Rattle.ng_page.specs.Opening.{prepared, linked_by, linked_on, opening};

@@ -9,7 +9,7 @@ ghost use Rattle.ng_commands.specs.BetweenSteps.{WorksAre};
 ghost use Rattle.ng_page.specs.KnownClean.{IsCleanUnlessTold, is_between};
 ghost use Rattle.ng_page.specs.PageMachine.{page_machine};
 ghost use Rattle.ng_page.specs.PlaceOf.{state_of};
-ghost use Rattle.ng_watch.specs.Keys.{is_key};
+ghost use Rattle.ng_behaviour.specs.Keys.{is_key};
 ghost use Rattle.ng_watch.specs.Table.{watchers_of};
 ghost use Rattle.ng_watch.specs.Verdicts.{clean};
 ghost use Rattle.ng_watch.specs.Walks.{Arrival, Walks, next_of, reached_of, ends_at, behind_all, at_watcher};

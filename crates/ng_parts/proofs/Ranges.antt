@@ -4,7 +4,7 @@ use Rattle.std.proofs.lemmas.Bool.{and_parts, and_from}
 use Rattle.std.specs.Prelude.{◌&&◌, ◌==◌, not, option_and_then}
 use Rattle.std.specs.List.{list_all}
 use Rattle.ng_drawing.specs.Template.{Piece, word, hole, PartAttributes, Part, Contents, Parts, text_part, comment_part, element_part, anchor_part, children, bound, no_parts, part_then}
-use Rattle.ng_parts.specs.Numbering.{after_pieces, after_own, bound_numbers, is_within, is_apart, is_piece_drawn, are_drawn, after_part, after_contents, after_parts, part_draws, contents_draw, parts_draw}
+use Rattle.ng_drawing.specs.Numbering.{after_pieces, after_own, bound_numbers, is_within, is_apart, is_piece_drawn, are_drawn, after_part, after_contents, after_parts, part_draws, contents_draw, parts_draw}
 use Rattle.ng_parts.proofs.Within.{within_parts, within_from}
 use Rattle.ng_parts.proofs.More.{all_more, attributes_more, part_more, contents_more, parts_more}
 

@@ -4,7 +4,7 @@ use Rattle.std.proofs.lemmas.Bool.{and_parts}
 use Rattle.std.specs.List.{list_all}
 use Rattle.std.specs.Prelude.{option_map, slice_get, IfSome}
 use Rattle.ng_drawing.specs.Template.{Fragment, Template, fragment_at}
-use Rattle.ng_parts.specs.Numbering.{is_whole, is_regular}
+use Rattle.ng_drawing.specs.Numbering.{is_whole, is_regular}
 
 -- each fragment of a template is numbered
 let_in : {X : Type 0} (test : X → Bool) (xs : List X) (i : ℕ) (x : X) → list_all test xs ≡ true → slice_get xs i ≡ Some x → test x ≡ true

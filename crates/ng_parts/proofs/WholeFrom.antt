@@ -3,7 +3,7 @@ use Rattle.std.proofs.Common.{◌≡◌, ℕ, true, length, Option, Some, refl, 
 use Rattle.std.proofs.lemmas.Bool.{and_from, eq-eqb}
 use Rattle.std.specs.Prelude.{◌&&◌}
 use Rattle.ng_drawing.specs.Template.{Fragment}
-use Rattle.ng_parts.specs.Numbering.{after_parts, after_outlets, is_number, are_outlets, are_undrawn, is_numbered, is_whole}
+use Rattle.ng_drawing.specs.Numbering.{after_parts, after_outlets, is_number, are_outlets, are_undrawn, is_numbered, is_whole}
 
 pub number_is : (n : ℕ) (o : Option ℕ) → o ≡ Some n → is_number n o ≡ true
 number_is n o e = ap (is_number n) e ∙ eq-eqb n n refl

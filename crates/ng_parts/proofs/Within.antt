@@ -4,7 +4,7 @@ use Rattle.std.proofs.lemmas.Bool.{and_parts, and_from, leb-true, le-leb, ltb-tr
 use Rattle.std.proofs.lemmas.List.Folds.{list_all-append}
 use Rattle.std.specs.List.{list_all}
 use Rattle.std.specs.Prelude.{◌&&◌, ◌==◌, not, nat_le, nat_lt}
-use Rattle.ng_parts.specs.Numbering.{is_within, is_apart}
+use Rattle.ng_drawing.specs.Numbering.{is_within, is_apart}
 
 -- whether a number is not this one
 abbrev pub is_not : Option ℕ → ℕ → Bool

@@ -3,7 +3,6 @@ pub mod AttributeOf
 pub mod Seen
 pub mod SiteOf
 pub mod RepeatedOf
-pub mod Numbering
 pub mod FragmentOf
 pub mod TemplateOf
 pub mod ActsOf

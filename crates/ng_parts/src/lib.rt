@@ -3,7 +3,7 @@
 //! A fragment is a tree of parts whose texts and attributes are cut at their holes, its sites, the watched expressions by number in
 //! document order, those of an element in the order of its directives and before its children's, and its outlets, the places that
 //! bodies fill. A template has its own fragment, and those of its blocks' bodies. `specs/Seen.antt`, `FragmentOf.antt` and
-//! `TemplateOf.antt` say which templates of ng_drawing's definitions they stand for; `specs/Numbering.antt` says what it is for the
+//! `TemplateOf.antt` say which templates of ng_drawing's definitions they stand for; `Numbering.antt` there says what it is for the
 //! parts of a fragment to have the numbers of its sites and outlets in document order, and for an element to be drawn from its own
 //! sites alone. That holds of each template: it stands in `Tpl` itself.
 //!

@@ -1,7 +1,7 @@
 //! The programs of a directive (guide: Directives, "Creating Directives").
 ghost use Rattle.std.specs.Prelude.{◌≡◌, true, map, IfOk};
 ghost use Rattle.ng_parse.specs.ProgramOf.{program as trees_of};
-ghost use Rattle.ng_view.specs.Purity.{are_pure, all_filters_known};
+ghost use Rattle.ng_evaluation.specs.Purity.{are_pure, all_filters_known};
 
 use ng_base::fault::Memory;
 use ng_base::lists::Names;

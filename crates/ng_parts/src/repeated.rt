@@ -2,7 +2,7 @@
 ghost use Rattle.std.specs.Prelude.{◌≡◌, true, option_map, IfOk};
 ghost use Rattle.ng_parse.specs.ProgramOf.{program as trees};
 ghost use Rattle.ng_parts.specs.RepeatedOf.{track_of, repeated_of};
-ghost use Rattle.ng_view.specs.Purity.{are_pure, all_filters_known};
+ghost use Rattle.ng_evaluation.specs.Purity.{are_pure, all_filters_known};
 
 use crate::track::Track;
 use ng_base::txt::Txt;

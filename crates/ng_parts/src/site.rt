@@ -1,7 +1,7 @@
 //! Sites, the watched expressions of a template (guide: Scopes, "`$digest`").
 ghost use Rattle.std.specs.Prelude.{◌≡◌, ◌+◌, true, IfOk};
 ghost use Rattle.ng_parse.specs.ProgramOf.{program as trees};
-ghost use Rattle.ng_view.specs.Purity.{are_pure, all_filters_known};
+ghost use Rattle.ng_evaluation.specs.Purity.{are_pure, all_filters_known};
 
 use ng_base::fault::Memory;
 use ng_drawing::kind::SiteKind;

@@ -1,7 +1,7 @@
 //! What a document compiles to.
 ghost use Rattle.std.specs.Prelude.{◌≡◌, true, length, IfSome};
 ghost use Rattle.ng_parts.specs.FragmentOf.{fragment_of, fragments_of};
-ghost use Rattle.ng_parts.specs.Numbering.{are_bare, is_regular, is_whole};
+ghost use Rattle.ng_drawing.specs.Numbering.{are_bare, is_regular, is_whole};
 
 use crate::fragment::Fragment;
 use crate::outlets::Outlet;

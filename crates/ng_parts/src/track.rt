@@ -1,7 +1,7 @@
 //! What rows are tracked by (API: ngRepeat, "Tracking and Duplicates").
 ghost use Rattle.std.specs.Prelude.{◌≡◌, true};
 ghost use Rattle.ng_parse.specs.ProgramOf.{program as trees};
-ghost use Rattle.ng_view.specs.Purity.{are_pure, all_filters_known};
+ghost use Rattle.ng_evaluation.specs.Purity.{are_pure, all_filters_known};
 
 use ng_parse::Program;
 

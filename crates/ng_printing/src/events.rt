@@ -7,7 +7,8 @@ ghost use Rattle.ng_page.specs.Dispatch.{last_digest};
 ghost use Rattle.ng_page.specs.Dispatched.{told_of, told_all};
 ghost use Rattle.ng_page.specs.PageOf.{state_of};
 ghost use Rattle.ng_printing.specs.EventStep.{handler_lines, all_went_well, event_step};
-ghost use Rattle.ng_printing.specs.StepSeen.{IsReady, Renders, step_seen};
+ghost use Rattle.ng_printing.specs.StepSeen.{step_seen};
+ghost use Rattle.ng_page.specs.Ready.{IsReady, Renders};
 
 use crate::lines::{action, digested, probes, told};
 use crate::reply::Lines;

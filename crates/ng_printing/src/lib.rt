@@ -8,7 +8,7 @@
 //! In reading order: `reply` has the types, `lines` writes lines, `page_lines` the lines that show a page, `step` puts lines together,
 //! and `events` those of an event.
 //!
-//! What a step does is ng_run's.
+//! What a command does is ng_performing's, and the steps of a session are ng_run's.
 #![tactic(auto)]
 
 pub mod events;

@@ -4,7 +4,7 @@ ghost use Rattle.ng_html.specs.Seen.{forest_of};
 ghost use Rattle.ng_link.specs.State.{shown, rendering};
 ghost use Rattle.ng_page.specs.PageOf.{state_of};
 ghost use Rattle.ng_printing.specs.Lines.{print_line, rendered_line};
-ghost use Rattle.ng_printing.specs.StepSeen.{IsReady};
+ghost use Rattle.ng_page.specs.Ready.{IsReady};
 
 use ng_base::fault::{Fault, Memory};
 use ng_html::forest::Forest;

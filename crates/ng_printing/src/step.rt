@@ -7,7 +7,8 @@ ghost use Rattle.ng_page.specs.OutcomeOf.{outcome_of};
 ghost use Rattle.ng_page.specs.PageOf.{state_of};
 ghost use Rattle.ng_printing.specs.Lines.{last_line};
 ghost use Rattle.ng_printing.specs.Lines.{told_lines};
-ghost use Rattle.ng_printing.specs.StepSeen.{IsReady, Renders, step_seen};
+ghost use Rattle.ng_printing.specs.StepSeen.{step_seen};
+ghost use Rattle.ng_page.specs.Ready.{IsReady, Renders};
 ghost use Rattle.ng_printing.specs.Left.{is_well as is_well_of, idle_step, aimless_step};
 ghost use Rattle.ng_printing.specs.StepLines.{step_of, step_lines};
 

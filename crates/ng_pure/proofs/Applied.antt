@@ -6,7 +6,7 @@ use Rattle.ng_base.specs.Views.{ViewTree, views_from}
 use Rattle.ng_filters.specs.Applied.{first_of, second_of}
 use Rattle.ng_filters.specs.Casing.{uppercase, lowercase}
 use Rattle.ng_filters.specs.Numbers.{number}
-use Rattle.ng_view.specs.Applied.{known, applied}
+use Rattle.ng_evaluation.specs.Applied.{known, applied}
 use Rattle.ng_pure.specs.Patterns.{HasShortLists}
 use Rattle.ng_pure.proofs.Shown.{Grown, Seen, AllSeen}
 use Rattle.ng_pure.proofs.Methods.{GivenResult, given_seen}

@@ -20,14 +20,14 @@ use Rattle.ng_language.specs.Texts.{to_text}
 use Rattle.ng_language.specs.Trees.{Tree, Trees, PairTree, Pairs, a_number, a_text, a_name, the_scope, a_constant, member_of, item_of, call_of, a_list, a_record, in_brackets, signed, combined, both_of, either_of, choice_of, assigned, filtered, no_trees, tree_then, labelled, shorthand, computed, no_pairs, pair_then}
 use Rattle.ng_language.specs.declared.syntax.Constant.{Constant}
 use Rattle.ng_language.specs.declared.syntax.Constant.TheVariants as constants
-use Rattle.ng_view.specs.Applied.{known, applied}
+use Rattle.ng_evaluation.specs.Applied.{known, applied}
 use Rattle.ng_members.specs.Leaves.{Field, LocalsStand, named, constant_value, label_name, sign_value, operator_value}
 use Rattle.ng_members.specs.Callees.{method_of, member_callee, callee_or, callee, called_on, called}
-use Rattle.ng_view.specs.Evaluation.{evaluated, evaluated_all, evaluated_pair, evaluated_pairs, evaluated_statements}
+use Rattle.ng_evaluation.specs.Evaluation.{evaluated, evaluated_all, evaluated_pair, evaluated_pairs, evaluated_statements}
 use Rattle.ng_members.specs.Members.{member, item}
 use Rattle.ng_members.specs.Methods.{method_value}
 use Rattle.ng_members.specs.Names.{is_pure_method}
-use Rattle.ng_view.specs.Purity.{IsPure, ArePure, IsPurePair, ArePurePairs, count_of, IsKnown, FiltersKnown, IsPairKnown, ArePairsKnown}
+use Rattle.ng_evaluation.specs.Purity.{IsPure, ArePure, IsPurePair, ArePurePairs, count_of, IsKnown, FiltersKnown, IsPairKnown, ArePairsKnown}
 use Rattle.ng_members.specs.declared.methods.Method.{Method}
 use Rattle.ng_core.specs.Keeping.{stores, stores_result, filter_result, nothing}
 use Rattle.ng_act.specs.Asked.{Doing}

@@ -11,7 +11,7 @@ use Rattle.ng_act.specs.Actions.{does}
 use Rattle.ng_core.specs.State.{State, Run, ◌>>=◌, with_objects, with_locals}
 use Rattle.ng_write.specs.Making.{value_in}
 use Rattle.ng_behaviour.specs.Scopes.{object_at}
-use Rattle.ng_view.specs.Evaluation.{evaluated_program}
+use Rattle.ng_evaluation.specs.Evaluation.{evaluated_program}
 use Rattle.ng_write.specs.Reading.{Extends}
 use Rattle.ng_pure.specs.Pure.{IsEvaluation, Answers, PureLaw}
 use Rattle.ng_pure.proofs.Running.{SeenAt}

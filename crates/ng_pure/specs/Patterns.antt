@@ -6,7 +6,7 @@ use Rattle.ng_base.specs.Views.{ViewTree, ViewTrees, ViewFields, prim, list, rec
 use Rattle.ng_filters.specs.Applied.{first_of}
 use Rattle.ng_language.specs.Trees.{Tree, Trees, PairTree, Pairs, a_number, a_text, a_name, the_scope, a_constant, member_of, item_of, call_of, a_list, a_record, in_brackets, signed, combined, both_of, either_of, choice_of, assigned, filtered, no_trees, tree_then, labelled, shorthand, computed, no_pairs, pair_then}
 use Rattle.ng_members.specs.Leaves.{Local}
-use Rattle.ng_view.specs.Evaluation.{evaluated_all}
+use Rattle.ng_evaluation.specs.Evaluation.{evaluated_all}
 
 -- each fresh list in a view has fewer than 2^32 items, as each array of a store
 abbrev mutual

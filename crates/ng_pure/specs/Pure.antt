@@ -9,8 +9,8 @@ use Rattle.ng_behaviour.specs.Scopes.{object_at}
 use Rattle.ng_language.specs.Objects.{AreObjects}
 use Rattle.ng_language.specs.Trees.{Trees}
 use Rattle.ng_members.specs.Leaves.{Local, LocalsStand}
-use Rattle.ng_view.specs.Evaluation.{evaluated_program}
-use Rattle.ng_view.specs.Purity.{ArePure, FiltersKnown}
+use Rattle.ng_evaluation.specs.Evaluation.{evaluated_program}
+use Rattle.ng_evaluation.specs.Purity.{ArePure, FiltersKnown}
 use Rattle.ng_write.specs.Reading.{Extends}
 use Rattle.ng_act.specs.Running.{act_run}
 use Rattle.ng_core.specs.State.{State, Run, with_objects, with_locals}

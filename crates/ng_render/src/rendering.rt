@@ -12,7 +12,8 @@ ghost use Rattle.ng_drawing.specs.Rows.{is_as_called as is_as_called_of, is_incl
 ghost use Rattle.ng_drawing.specs.Instance.{rests_in, outlet_now, outlet_at, rendering, rendering_all, rendering_in, outlets_from};
 ghost use Rattle.ng_drawing.specs.InstanceOf.{state_of, instance_of, group_of as bodies_of, instances_of};
 ghost use Rattle.ng_html.specs.Seen.{forest_of};
-ghost use Rattle.ng_compose.specs.Kept.{templates_of, fragments_in};
+ghost use Rattle.ng_drawing.specs.Named.{fragments_in};
+ghost use Rattle.ng_compose.specs.Kept.{templates_of};
 ghost use Rattle.ng_parts.specs.FragmentOf.{outlet_of, outlets_of, filling_of};
 ghost use Rattle.ng_value.specs.Snaps.{snap_of};
 ghost use Rattle.ng_render.specs.Free.{is_want};

@@ -8,7 +8,7 @@ ghost use Rattle.ng_drawing.specs.InstanceOf.{state_of};
 ghost use Rattle.ng_language.specs.Views.{ViewStands};
 ghost use Rattle.ng_parts.specs.SiteOf.{site_of};
 ghost use Rattle.ng_value.specs.Snaps.{snap_of};
-ghost use Rattle.ng_view.specs.Evaluation.{evaluated_program};
+ghost use Rattle.ng_evaluation.specs.Evaluation.{evaluated_program};
 ghost use Rattle.ng_render.specs.OverOf.{kept_over, StateStands, Stands};
 
 use crate::over::{Over, known_at};
@@ -38,7 +38,7 @@ pub(crate) fn control_at<'a>(over: &Over<'a>, n: u32) -> Option<&'a Control>
 }
 
 /// The value of a site's program over a scope's object.
-#[tactic(auto, using(ng_view::proofs::Pure::pure_are, ng_view::proofs::Pure::known_are))]
+#[tactic(auto, using(ng_purity::proofs::Pure::pure_are, ng_purity::proofs::Pure::known_are))]
 fn value_now(alloc: Global, store: &Store, object: Oid, site: &Site) -> Result<View, Fault>
     requires { object.0 < length store.now }
     ensures exact { Gives is_memory view_of (evaluated_program store.now object.0 [] (site_of site.now).program) result }

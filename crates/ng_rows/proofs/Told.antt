@@ -1,4 +1,4 @@
--- What is told a scope: how many objects there are stays, and works whose scope has been told names are whole.
+-- What is told a scope: its names come one behind another, how many objects there are stays, and works whose scope has been told names are whole.
 use Rattle.std.proofs.Common.{◌≡◌, ◌∙◌, ◌++◌, ℕ, List, [], ◌∷◌, ap, length, refl, sym, subst}
 use Rattle.std.specs.Prelude.{Result, Ok, Err, OnOk, OnErr}
 use Rattle.ng_base.specs.Objects.{Object}
@@ -8,25 +8,27 @@ use Rattle.ng_behaviour.specs.ScopeObjects.{AreAmong}
 use Rattle.ng_core.specs.Frames.{IsSound}
 use Rattle.ng_core.specs.declared.core_state.Core.{Core}
 use Rattle.ng_language.specs.Objects.{set_name}
-use Rattle.ng_members.specs.Leaves.{Local, LocalsStand}
+use Rattle.ng_members.specs.Leaves.{LocalsStand}
 use Rattle.ng_store.proofs.Sound.{length-update_at}
-use Rattle.ng_write.specs.Storing.{with_names}
 
 pub set_count : (r : Result (Unit {0}) Memory) (old new : List Object) (o : ℕ) (name : List ℕ) (v : Value) → OnOk r (new ≡ set_name old o name v) → OnErr r (new ≡ old) → length new ≡ length old
 set_count (Ok u) old new o name v set same = ap (λ (xs : List Object). length xs) set ∙ length-update_at old o _
 set_count (Err e) old new o name v set same = ap (λ (xs : List Object). length xs) same
 
--- names are set one after another
-names_then : (objects : List Object) (o : ℕ) (xs ys : List Local) → with_names objects o (xs ++ ys) ≡ with_names (with_names objects o xs) o ys
-names_then objects o [] ys = refl
-names_then objects o (x ∷ xs) ys = names_then (set_name objects o x.0 x.1) o xs ys
+flat : (xs : List (List ℕ)) (a b c d e f : List ℕ) → (((((xs ++ a ∷ []) ++ b ∷ []) ++ c ∷ []) ++ d ∷ []) ++ e ∷ []) ++ f ∷ [] ≡ xs ++ (a ∷ b ∷ c ∷ d ∷ e ∷ f ∷ [])
+flat [] a b c d e f = refl
+flat (x ∷ xs) a b c d e f = ap (λ (ks : List (List ℕ)). x ∷ ks) (flat xs a b c d e f)
 
-pub row_told : (a b c d : List Object) (o s : ℕ) (name : List ℕ) (v w : Value) (xs ys : List Local) → o ≡ s → v ≡ w → b ≡ set_name a o name v → c ≡ with_names b o xs → d ≡ with_names c o ys → d ≡ with_names a s ((name, w) ∷ (xs ++ ys))
-row_told a b c d o s name v w xs ys object value one two three =
-    three
-    ∙ (ap (λ (k : List Object). with_names k o ys) (two ∙ ap (λ (k : List Object). with_names k o xs) one)
-    ∙ (sym (names_then (set_name a o name v) o xs ys)
-    ∙ (ap (λ (x : Value). with_names a o ((name, x) ∷ (xs ++ ys))) value ∙ ap (λ (k : ℕ). with_names a k ((name, w) ∷ (xs ++ ys))) object)))
+-- the names of a place come behind others
+pub six_more : (xs one two three four five six : List (List ℕ)) (a b c d e f : List ℕ) → one ≡ xs ++ a ∷ [] → two ≡ one ++ b ∷ [] → three ≡ two ++ c ∷ [] → four ≡ three ++ d ∷ [] → five ≡ four ++ e ∷ [] → six ≡ five ++ f ∷ [] → six ≡ xs ++ (a ∷ b ∷ c ∷ d ∷ e ∷ f ∷ [])
+six_more xs one two three four five six a b c d e f h1 h2 h3 h4 h5 h6 =
+    let more : (ys zs : List (List ℕ)) (x : List ℕ) → ys ≡ zs → ys ++ x ∷ [] ≡ zs ++ x ∷ [] = λ ys zs x h. ap (λ (ks : List (List ℕ)). ks ++ x ∷ []) h in
+    let s2 = h2 ∙ more one (xs ++ a ∷ []) b h1 in
+    let s3 = h3 ∙ more two _ c s2 in
+    let s4 = h4 ∙ more three _ d s3 in
+    let s5 = h5 ∙ more four _ e s4 in
+    let s6 = h6 ∙ more five _ f s5 in
+    s6 ∙ flat xs a b c d e f
 
 -- what holds of a core holds with as many objects
 pub sound_told : (c : Core) (store : List Object) → IsSound c → length store ≡ length c.store → IsSound (record c { store = store })

@@ -4,3 +4,4 @@ pub mod TrackingOf
 pub mod Splices
 pub mod RepeatRows
 pub mod RepeatsOf
+pub mod RowsInOrder

@@ -6,6 +6,7 @@ use Rattle.ng_core.specs.State as act
 use Rattle.ng_core.specs.State.{Run, ◌>>=◌}
 use Rattle.ng_base.specs.declared.fault.Fault.{Fault}
 use Rattle.ng_base.specs.declared.fault.Fault.TheVariants as faults
+use Rattle.ng_base.specs.declared.value.Value.{Value}
 use Rattle.ng_base.specs.declared.value.Value.TheVariants as value
 use Rattle.ng_blocks.specs.SameKeys.{same_key}
 use Rattle.ng_blocks.specs.declared.keys.TrackKey.{TrackKey}
@@ -82,6 +83,24 @@ place_names count i =
 
 abbrev pub row_names : Repeated → ℕ → ℕ → Item → List Local
 row_names r count i x = (r.name, x.value) ∷ (key_local r.key (key_value i x.entry.name) ++ place_names count i)
+
+-- the names alone, which are the same for all rows of a repeat: those of the item and of its key, and those of the place of its entry
+abbrev pub key_words : Option (List ℕ) → List (List ℕ)
+key_words None = []
+key_words (Some k) = k ∷ []
+
+abbrev pub own_words : Repeated → List (List ℕ)
+own_words r = r.name ∷ key_words r.key
+
+abbrev pub place_words : List (List ℕ)
+place_words = index_name ∷ codes "$first" ∷ codes "$middle" ∷ codes "$last" ∷ codes "$even" ∷ codes "$odd" ∷ []
+
+abbrev pub row_words : Repeated → List (List ℕ)
+row_words r = own_words r ++ place_words
+
+-- the values alone
+abbrev pub values_in : List Local → List Value
+values_in ls = map (λ (l : Local). l.1) ls
 
 abbrev pub plan_fault : PlanFault → Fault
 plan_fault plans.Dupes = faults.Dupes

@@ -1,12 +1,12 @@
 -- What the rows of a repeat in the code stand for.
-use Rattle.std.specs.Prelude.{ℕ, ◌≡◌, List, Option, map, option_map, codes}
+use Rattle.std.specs.Prelude.{ℕ, ◌≡◌, List, Option, map, option_map}
 use Rattle.std.specs.Borrow.{Bor}
 use Rattle.std.specs.List.{AllByRecursion}
 use Rattle.ng_base.specs.Objects.{StandsAmong}
-use Rattle.ng_rows.specs.RepeatRows.{Row}
-use Rattle.ng_rows.specs.Tracking.{index_name}
+use Rattle.ng_parts.specs.RepeatedOf.{repeated_of}
+use Rattle.ng_rows.specs.RepeatRows.{Row, row_words}
 use Rattle.ng_rows.specs.TrackingOf.{item_of}
-use Rattle.ng_rows.specs.declared.rows.PlaceNames.{PlaceNames}
+use Rattle.ng_rows.specs.declared.rows.RowNames.{RowNames}
 use Rattle.ng_rows.specs.declared.rows.Row as code
 use Rattle.ng_instances.specs.declared.instances.Body as code_body
 
@@ -19,14 +19,9 @@ row_of r = record { item = item_of r.item; key = r.key.now; from = path_of r.fro
 abbrev pub rows_of : List code.Row → List Row
 rows_of rs = map row_of rs
 
--- the names by which a row's scope knows the place of its entry
-pub record AreNames (n : PlaceNames) : Type 0 where
-  pub index : n.index ≡ index_name
-  pub first : n.first ≡ codes "$first"
-  pub middle : n.middle ≡ codes "$middle"
-  pub last : n.last ≡ codes "$last"
-  pub even : n.even ≡ codes "$even"
-  pub odd : n.odd ≡ codes "$odd"
+-- the names that a row's scope is told, in the order in which it is told them
+abbrev pub AreNames : RowNames → Type 0
+AreNames n = n.all.items ≡ row_words (repeated_of n.repeated.now)
 
 -- the values of rows name objects among so many
 abbrev pub RowsOfStand : ℕ → List Row → Type 0

@@ -13,7 +13,7 @@ use Rattle.ng_drawing.specs.Template.{Repeated}
 use Rattle.ng_language.specs.Texts.{to_text}
 use Rattle.ng_language.specs.Trees.{Trees}
 use Rattle.ng_members.specs.Leaves.{Local}
-use Rattle.ng_view.specs.Evaluation.{evaluated_program}
+use Rattle.ng_evaluation.specs.Evaluation.{evaluated_program}
 
 -- an entry with its value; that of a fresh list or record is a new object
 pub record Item : Type 0 where

@@ -6,12 +6,14 @@
 //!
 //! Each function of the code has its definition as its contract.
 //!
-//! In reading order: `tracking` has items and their keys, `splicing` plans rows that came or went at one place, `rows` has them all, and `choosing` the bodies.
+//! In reading order: `tracking` has items and their keys, `splicing` plans rows that came or went at one place, `rows` has them all, `ordering` tells whether they
+//! stand as their entries do, and `choosing` the bodies.
 //!
 //! No body is linked or taken out here: ng_fire does that.
 #![tactic(auto)]
 
 pub mod choosing;
+pub mod ordering;
 pub mod rows;
 pub mod splicing;
 pub mod tracking;

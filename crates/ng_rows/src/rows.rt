@@ -1,5 +1,5 @@
 //! The rows that the entries of a repeat call for, and what their scopes are told (API: ngRepeat).
-ghost use Rattle.std.specs.Prelude.{◌≡◌, ◌<◌, false, length, map, IfOk, OnOk};
+ghost use Rattle.std.specs.Prelude.{◌≡◌, ◌<◌, ◌≤◌, ◌∷◌, drop, false, length, map, IfOk, OnOk};
 ghost use Rattle.ng_core.specs.Frames as cores;
 ghost use Rattle.ng_core.specs.Frames.{IsSound};
 ghost use Rattle.ng_base.specs.Objects.{StandsAmong};
@@ -7,14 +7,13 @@ ghost use Rattle.ng_base.specs.Word.{IsWord};
 ghost use Rattle.ng_blocks.specs.Plans.{planned, has_double as has_double_of};
 ghost use Rattle.ng_drawing.specs.RolesOf.{entry_of, role_of};
 ghost use Rattle.ng_rows.specs.Chosen.{told_on};
-ghost use Rattle.ng_rows.specs.RepeatRows.{keys_of as keys_of_bodies, path_from, same_row, rows_from as rows_from_all, role_for as role_for_row, kept_rows as kept_rows_of, place_names as names_of_place, row_names, as_fault};
+ghost use Rattle.ng_rows.specs.RepeatRows.{keys_of as keys_of_bodies, path_from, same_row, rows_from as rows_from_all, role_for as role_for_row, kept_rows as kept_rows_of, place_names as names_of_place, row_names, own_words, values_in, as_fault};
 ghost use Rattle.ng_rows.specs.RepeatsOf.{path_of, row_of, rows_of, AreNames};
-ghost use Rattle.ng_rows.specs.Tracking.{key_local, key_value as value_of_key};
 ghost use Rattle.ng_rows.specs.TrackingOf.{item_of, items_of};
 ghost use Rattle.ng_language.specs.Objects.{set_name};
 ghost use Rattle.ng_instances.specs.InstanceOf.{body_of};
 ghost use Rattle.ng_parts.specs.RepeatedOf.{repeated_of};
-ghost use Rattle.ng_write.specs.Storing.{with_names};
+ghost use Rattle.ng_store.specs.SetNames.{set_names};
 
 use crate::splicing::{has_double, keys_of, plan_spliced};
 use crate::tracking::{Item, index_name, key_value, place_of};
@@ -31,15 +30,12 @@ use ng_parts::Repeated;
 use ng_store::store::Store;
 use std::alloc::{AllocError, Global};
 
-/// The names by which a row's scope knows the place of its entry.
+/// The names that a row's scope is told, in the order in which it is told them: that of its item, that of its key where the repeat has one,
+/// and those of its place.
 #[derive(Drop)]
-pub struct PlaceNames {
-    index: Txt,
-    first: Txt,
-    middle: Txt,
-    last: Txt,
-    even: Txt,
-    odd: Txt,
+pub struct RowNames<'a> {
+    repeated: &'a Repeated,
+    all: Vec<Txt>,
 }
 
 /// A row that an entry calls for: the item, its track key, and the body of the row that it comes from, where one stands.
@@ -54,9 +50,13 @@ pub struct Row<'a> {
 #[derive(Drop)]
 pub struct Ground<'a> {
     repeated: &'a Repeated,
-    names: PlaceNames,
+    names: RowNames<'a>,
     count: u32,
+    ghost same: { names.repeated.now ≡ repeated.now },
 }
+
+/// So many names are told, where the repeat names its keys.
+const NAMES: usize = 8;
 
 /// A word of ASCII characters as a text.
 fn text_of(alloc: Global, word: &str) -> Result<Txt, AllocError>
@@ -67,17 +67,31 @@ fn text_of(alloc: Global, word: &str) -> Result<Txt, AllocError>
     Ok(text)
 }
 
-fn place_names(alloc: Global) -> Result<PlaceNames, AllocError>
-    ensures { IfOk result AreNames }
+/// The names of a row's item and of its key.
+fn own_names(alloc: Global, repeated: &Repeated) -> Result<Vec<Txt>, AllocError>
+    ensures { IfOk result (λ v. v.items ≡ own_words (repeated_of repeated.now)) }
 {
-    Ok(PlaceNames {
-        index: index_name(alloc)?,
-        first: text_of(alloc, "$first")?,
-        middle: text_of(alloc, "$middle")?,
-        last: text_of(alloc, "$last")?,
-        even: text_of(alloc, "$even")?,
-        odd: text_of(alloc, "$odd")?,
-    })
+    let mut own = Vec::with_capacity(alloc, NAMES)?;
+    own.push(repeated.name.copied()?)?;
+    if let Some(key) = &repeated.key {
+        own.push(key.copied()?)?;
+    }
+    Ok(own)
+}
+
+/// All names that a row's scope is told.
+fn told_names(alloc: Global, repeated: &Repeated) -> Result<RowNames<'_>, AllocError>
+    ensures repeated { IfOk result (λ n. n.repeated.now ≡ repeated.now) }
+    ensures names { IfOk result AreNames }
+{
+    let mut all = own_names(alloc, repeated)?;
+    all.push(index_name(alloc)?)?;
+    all.push(text_of(alloc, "$first")?)?;
+    all.push(text_of(alloc, "$middle")?)?;
+    all.push(text_of(alloc, "$last")?)?;
+    all.push(text_of(alloc, "$even")?)?;
+    all.push(text_of(alloc, "$odd")?)?;
+    Ok(RowNames { repeated, all })
 }
 
 /// What the rows of so many entries are told by.
@@ -88,7 +102,7 @@ pub fn ground_for(alloc: Global, repeated: &Repeated, count: usize) -> Result<Gr
 {
     Ok(Ground {
         repeated,
-        names: place_names(alloc)?,
+        names: told_names(alloc, repeated)?,
         count: place_of(count)?,
     })
 }
@@ -103,47 +117,47 @@ pub fn tell(store: &mut Store, object: Oid, name: &Txt, value: Value) -> Result<
     store.set(object, name, value)
 }
 
-/// The names of an entry's place are set.
-fn tell_place(
-    store: &mut Store,
-    object: Oid,
-    names: &PlaceNames,
-    count: u32,
-    i: u32,
-) -> Result<(), Memory>
-    requires names { AreNames names.now }
-    requires object { object.0 < length store.old }
-    requires place { i < count }
-    ensures told { OnOk result (store.new ≡ with_names store.old object.0 (names_of_place count i)) }
-    ensures count { length store.new ≡ length store.old }
+/// Values from one on.
+fn values_from(values: &[Value], first: usize) -> &[Value]
+    requires { first ≤ length values.now }
+    ensures { result.now ≡ drop first values.now }
 {
-    let first = i == 0;
-    let last = count - i == 1;
-    let even = i % 2 == 0;
-    tell(store, object, &names.index, Value::Int(i as i64))?;
-    tell(store, object, &names.first, Value::Bool(first))?;
-    tell(store, object, &names.middle, Value::Bool(!(first || last)))?;
-    tell(store, object, &names.last, Value::Bool(last))?;
-    tell(store, object, &names.even, Value::Bool(even))?;
-    tell(store, object, &names.odd, Value::Bool(!even))
+    &values[first..]
 }
 
-/// The name of an entry's key is set, where the repeat has one.
-fn tell_key(
+/// The names of a row's scope are set to values: two, of which the first is left out where there is no key, and those of its place.
+fn tell_values(
     store: &mut Store,
     object: Oid,
-    key: &Option<Txt>,
+    ground: &Ground<'_>,
     i: u32,
-    name: &Option<Txt>,
+    first: usize,
+    one: Value,
+    two: Value,
 ) -> Result<(), Memory>
     requires object { object.0 < length store.old }
-    ensures told { OnOk result (store.new ≡ with_names store.old object.0 (key_local key.now (value_of_key i name.now))) }
+    requires place { i < ground.now.count }
+    requires first { first < 2 }
+    requires one { StandsAmong (length store.old) one }
+    requires two { StandsAmong (length store.old) two }
+    ensures told { OnOk result (store.new ≡ set_names store.old object.0 ground.now.names.all.items (drop first (one ∷ two ∷ values_in (names_of_place ground.now.count i)))) }
     ensures count { length store.new ≡ length store.old }
 {
-    match key {
-        None => Ok(()),
-        Some(key) => tell(store, object, key, key_value(i, name)?),
-    }
+    let is_first = i == 0;
+    let is_last = i as usize + 1 == ground.count as usize;
+    let is_even = i % 2 == 0;
+    let values = [
+        one,
+        two,
+        Value::Int(i as i64),
+        Value::Bool(is_first),
+        Value::Bool(!(is_first || is_last)),
+        Value::Bool(is_last),
+        Value::Bool(is_even),
+        Value::Bool(!is_even),
+    ];
+    let names = ground.names.all.as_slice();
+    store.set_all(object, names, values_from(&values, first))
 }
 
 /// The names of a row's scope are set: its item, its key, and its place.
@@ -167,10 +181,14 @@ pub fn tell_row(
 {
     let object = core.scopes.object(scope);
     let value = item.value.copied()?;
-    let repeated = ground.repeated;
-    tell(&mut core.store, object, &repeated.name, value)?;
-    tell_key(&mut core.store, object, &repeated.key, i, &item.entry.name)?;
-    tell_place(&mut core.store, object, &ground.names, ground.count, i)
+    let store = &mut core.store;
+    match &ground.repeated.key {
+        None => tell_values(store, object, ground, i, 1, Value::Undefined, value),
+        Some(_) => {
+            let key = key_value(i, &item.entry.name)?;
+            tell_values(store, object, ground, i, 0, value, key)
+        }
+    }
 }
 
 /// The body of the row at a place.

@@ -221,7 +221,7 @@ fn text_by(
 }
 
 /// The text of what a track expression gives. The value of a dotted path is read where it stands.
-#[tactic(auto, using(ng_view::proofs::Pure::pure_are, ng_view::proofs::Pure::known_are))]
+#[tactic(auto, using(ng_purity::proofs::Pure::pure_are, ng_purity::proofs::Pure::known_are))]
 fn tracked_text(
     alloc: Global,
     store: &Store,

@@ -4,7 +4,6 @@ pub mod OneDispatch
 pub mod OneStep
 pub mod Continuing
 pub mod Sessions
-pub mod Aimed
 pub mod Performing
 pub mod OpenedPages
 pub mod Putting

@@ -13,8 +13,9 @@ use Rattle.ng_page.specs.Steps.{Outcome, Ends, EndsShort}
 use Rattle.ng_page.specs.Targets.{target_in}
 use Rattle.ng_script.specs.Acts.{Act, Entry}
 use Rattle.ng_inputs.specs.Refusals.{Accepted}
-use Rattle.ng_run.specs.Aims.{asked_of}
-use Rattle.ng_run.specs.Happenings.{Fired, fired_by, HasTold, DoesEvent}
+use Rattle.ng_performing.specs.Aims.{asked_of}
+use Rattle.ng_run.specs.Happenings.{HasTold, DoesEvent}
+use Rattle.ng_performing.specs.Fired.{Fired, fired_by}
 use Rattle.ng_printing.specs.Lines.{Digest, header, trace_line}
 use Rattle.ng_printing.specs.Left.{Left, Step}
 use Rattle.ng_printing.specs.StepLines.{step_of}

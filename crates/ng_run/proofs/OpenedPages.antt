@@ -12,7 +12,8 @@ use Rattle.ng_script.specs.Acts.{entries_of}
 use Rattle.ng_inputs.specs.Acts.{AreSound}
 use Rattle.ng_inputs.specs.Refusals.{Accepted}
 use Rattle.ng_printing.specs.Lines.{told_lines}
-use Rattle.ng_printing.specs.StepSeen.{IsReady, Renders, step_seen}
+use Rattle.ng_printing.specs.StepSeen.{step_seen}
+use Rattle.ng_page.specs.Ready.{IsReady, Renders}
 use Rattle.ng_run.specs.ReplyOf.{IsPageTo}
 use Rattle.ng_run.specs.Session.{within, Runs}
 use Rattle.ng_printing.specs.Left.{Left}

@@ -16,16 +16,19 @@ use Rattle.ng_page.specs.declared.outcome.Outcome.{Outcome}
 use Rattle.ng_page.specs.declared.page.Page.{Page}
 use Rattle.ng_script.specs.Acts.{Entry}
 use Rattle.ng_printing.specs.EventStep.{event_step}
-use Rattle.ng_run.specs.Happenings.{Fired, fired_by, left_after, HasTold, DoesEvent}
+use Rattle.ng_run.specs.Happenings.{left_after, HasTold, DoesEvent}
+use Rattle.ng_performing.specs.Fired.{Fired, fired_by}
 use Rattle.ng_printing.specs.Lines.{header, told_lines}
-use Rattle.ng_run.specs.Performed.{PerformedAct, IsStepOf}
-use Rattle.ng_printing.specs.StepSeen.{IsReady, Renders, step_seen}
+use Rattle.ng_performing.specs.Performed.{PerformedAct}
+use Rattle.ng_run.specs.Doing.{IsStepOf}
+use Rattle.ng_printing.specs.StepSeen.{step_seen}
+use Rattle.ng_page.specs.Ready.{IsReady, Renders}
 use Rattle.ng_run.specs.ReplyOf.{LeavesPage}
 use Rattle.ng_printing.specs.Left.{Left, is_digested, idle_step, aimless_step, same_page}
 use Rattle.ng_printing.specs.StepLines.{step_of}
 use Rattle.ng_run.specs.Steps.{left_by, IsTrace, DoesUnlessIdle, DoesAsked, DoesAct}
-use Rattle.ng_run.specs.declared.commands.Done.{Done}
-use Rattle.ng_run.specs.declared.commands.Done.TheVariants as done
+use Rattle.ng_performing.specs.declared.performing.Done.{Done}
+use Rattle.ng_performing.specs.declared.performing.Done.TheVariants as done
 use Rattle.ng_printing.specs.declared.reply.Lines.{Lines}
 
 -- ---- what is said of a digest that answered Ok

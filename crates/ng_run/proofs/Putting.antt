@@ -9,7 +9,7 @@ use Rattle.ng_base.specs.Outside.{TookAll, StopsAtFailure}
 use Rattle.ng_page.specs.declared.page.Page.{Page}
 use Rattle.ng_script.specs.Acts.{Entry}
 use Rattle.ng_run.specs.Doing.{steps_bytes, DidOne, HasDone, HasStopped, HasWanted}
-use Rattle.ng_run.specs.Performed.{IsStepOf}
+use Rattle.ng_run.specs.Doing.{IsStepOf}
 use Rattle.ng_printing.specs.StepSeen.{step_seen}
 use Rattle.ng_printing.specs.Left.{Left}
 use Rattle.ng_run.specs.Steps.{Does}

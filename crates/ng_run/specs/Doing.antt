@@ -14,7 +14,12 @@ use Rattle.ng_printing.specs.Left.{Left, Step}
 use Rattle.ng_run.specs.Steps.{Does, Continues}
 use Rattle.ng_run.specs.declared.doing.Halt.{Halt}
 use Rattle.ng_run.specs.declared.doing.Halt.TheVariants as halt
+use Rattle.ng_printing.specs.declared.reply.Lines.{Lines}
 use Rattle.ng_printing.specs.declared.reply.Opened.{Opened}
+
+-- a command was done on a page, and this is its step
+abbrev pub IsStepOf : Bool → ℕ → Entry → Page → Lines → Page → Type 0
+IsStepOf trace k e old l new = (next : Left) × Does trace k e (state_of old) (step_seen l) next × LeavesPage new next
 
 -- the sink's count of faults rose where a put failed, and only there
 abbrev pub FaultsBy : ℕ → ℕ → Result Bool Halt → Type 0

@@ -1,9 +1,7 @@
-pub mod Aims
 pub mod Happenings
 pub mod Steps
 pub mod Session
 pub mod ReplyOf
-pub mod Performed
 pub mod Run
 pub mod Doing
 pub mod Laws

@@ -14,7 +14,8 @@ use Rattle.ng_run.specs.Steps.{Continues}
 use Rattle.ng_printing.specs.declared.reply.Opened.{Opened}
 use Rattle.ng_printing.specs.declared.reply.Reply.{Reply}
 use Rattle.ng_printing.specs.declared.reply.Reply.TheVariants as reply
-use Rattle.ng_printing.specs.StepSeen.{IsReady, step_seen}
+use Rattle.ng_printing.specs.StepSeen.{step_seen}
+use Rattle.ng_page.specs.Ready.{IsReady}
 
 -- a page as a step left it: where the last digest of that step answered Ok it is settled, and shows its rendering
 pub record LeavesPage (p : Page) (l : Left) : Type 0 where

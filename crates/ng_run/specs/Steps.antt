@@ -8,8 +8,9 @@ use Rattle.ng_commands.specs.Commands.{Asked, is_idle}
 use Rattle.ng_page.specs.Steps.{Outcome, Steps, StepsShort, Opens, OpensShort}
 use Rattle.ng_page.specs.Targets.{target_in}
 use Rattle.ng_script.specs.Acts.{Act, Entry}
-use Rattle.ng_run.specs.Aims.{asked_of}
-use Rattle.ng_run.specs.Happenings.{Fired, fired_by, DoesEvent}
+use Rattle.ng_performing.specs.Aims.{asked_of}
+use Rattle.ng_run.specs.Happenings.{DoesEvent}
+use Rattle.ng_performing.specs.Fired.{Fired, fired_by}
 use Rattle.ng_printing.specs.Lines.{Digest, header, trace_line}
 use Rattle.ng_inputs.specs.Refusals.{Accepted}
 use Rattle.ng_printing.specs.StepLines.{step_of}

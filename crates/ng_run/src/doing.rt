@@ -3,7 +3,7 @@ ghost use Rattle.std.specs.Prelude.{◌≡◌, ◌&&◌};
 ghost use Rattle.ng_inputs.specs.Acts.{AreSound, IsSound};
 ghost use Rattle.ng_script.specs.Acts.{act_of, entry_of, entries_of};
 ghost use Rattle.ng_run.specs.Doing.{DidOne, DidAll, FaultsBy};
-ghost use Rattle.ng_printing.specs.StepSeen.{IsReady};
+ghost use Rattle.ng_page.specs.Ready.{IsReady};
 ghost use Rattle.ng_run.specs.ReplyOf.{LeavesPage};
 ghost use Rattle.ng_printing.specs.Left.{Left};
 

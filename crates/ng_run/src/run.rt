@@ -5,7 +5,7 @@ ghost use Rattle.ng_inputs.specs.Acts.{AreSound};
 ghost use Rattle.ng_words.specs.Words.{words_of};
 ghost use Rattle.ng_script.specs.Acts.{entries_of};
 ghost use Rattle.ng_run.specs.Doing.{WritesPage};
-ghost use Rattle.ng_printing.specs.StepSeen.{IsReady};
+ghost use Rattle.ng_page.specs.Ready.{IsReady};
 ghost use Rattle.ng_run.specs.ReplyOf.{LeavesPage};
 ghost use Rattle.ng_run.specs.Run.{Puts, Writes, WritesSteps, RunsSession, Causes, HasPage};
 ghost use Rattle.ng_run.specs.Session.{Replies, whole};

@@ -22,8 +22,8 @@ use Rattle.ng_language.proofs.LexComplete.{lexed_only}
 use Rattle.ng_language.proofs.Whole.{parsed_is, parsed_only}
 use Rattle.ng_language.specs.Spelling.{Written}
 use Rattle.ng_language.specs.Grammar.{IsParsed}
-use Rattle.ng_view.specs.Purity.{ArePure, all_filters_known, are_pure}
-use Rattle.ng_view.proofs.Pure.{known_are, are_known_test, pure_are, are_pure_test}
+use Rattle.ng_evaluation.specs.Purity.{ArePure, all_filters_known, are_pure}
+use Rattle.ng_purity.proofs.Pure.{known_are, are_known_test, pure_are, are_pure_test}
 use Rattle.ng_script.specs.Expressions.{IsExpression, tokens_or, program_or, with_known, spelled_in, program_of, pure_program_of}
 use Rattle.ng_script.specs.Json.{IsJson, IsJsonText, IsJsonObject, IsJsonList, or_bad_argument, json_of, as_text, text_of, object_of, list_of}
 use Rattle.ng_script.specs.Parts.{is_over, ended, next_target, scope_of, next_scope, next_name, next_event, next_flag}

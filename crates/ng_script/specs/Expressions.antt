@@ -10,7 +10,7 @@ use Rattle.ng_language.specs.Grammar.{IsParsed}
 use Rattle.ng_language.specs.declared.syntax.Token.{Token}
 use Rattle.ng_language.specs.declared.syntax.LexFault.{LexFault}
 use Rattle.ng_language.specs.declared.syntax.ParseFault.{ParseFault}
-use Rattle.ng_view.specs.Purity.{FiltersKnown, all_filters_known, are_pure}
+use Rattle.ng_evaluation.specs.Purity.{FiltersKnown, all_filters_known, are_pure}
 use Rattle.ng_script.specs.declared.fault.ScriptKind.{ScriptKind}
 use Rattle.ng_script.specs.declared.fault.ScriptKind.TheVariants as kinds
 

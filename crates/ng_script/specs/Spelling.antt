@@ -1,7 +1,7 @@
 -- How a command is spelled: a line is its parts, with blanks between them.
 use Rattle.std.specs.Prelude.{◌≡◌, ◌<◌, not, ℕ, Bool, true, false, List, [], ◌∷◌, ◌++◌, length, codes}
 use Rattle.std.specs.List.{list_all}
-use Rattle.ng_view.specs.Purity.{ArePure}
+use Rattle.ng_evaluation.specs.Purity.{ArePure}
 use Rattle.ng_script.specs.Acts.{Act, click_on, fire_at, type_into, check_at, eval_root, eval_at, emit_from, broadcast_from, queue_task, probe_root, destroy_scope, make_digest}
 use Rattle.ng_script.specs.Expressions.{IsExpression}
 use Rattle.ng_script.specs.Json.{IsJsonText, IsJsonObject, IsJsonList}

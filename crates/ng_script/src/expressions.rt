@@ -11,7 +11,7 @@ use ng_base::fault::Memory;
 use ng_language::syntax::LexKind;
 use ng_lex::{LexFault, lex};
 use ng_parse::{ParseFault, ParseKind, Program, parse};
-use ng_view::{filters_known, is_pure};
+use ng_purity::{filters_known, is_pure};
 use std::alloc::Global;
 
 fn from_lexer(fault: LexFault) -> ScriptKind

@@ -13,7 +13,7 @@ use Rattle.ng_steps.specs.Links.{Linking, bounds_noted, keep_last}
 use Rattle.ng_instances.specs.Bindings.{Bound, Bounds, bound_in_table}
 use Rattle.ng_build.specs.Linking.{LinkStep, makes, stops, opens, binds, installs, starts, starts_at, registers, leaves, piece_steps, bound_flags, is_bound_site, site_count, source_count, step_count}
 use Rattle.ng_instances.specs.Registering.{kept_of}
-use Rattle.ng_parts.specs.Numbering.{hole_numbers, source_numbers}
+use Rattle.ng_drawing.specs.Numbering.{hole_numbers, source_numbers}
 
 -- ---- lists
 

@@ -25,7 +25,7 @@ use Rattle.ng_build.specs.Linking.{LinkStep, Opening, a_child, an_isolate, a_slo
 use Rattle.ng_link.specs.Calls.{with_core}
 use Rattle.ng_instances.specs.Registering.{Registered, kept_of}
 use Rattle.ng_link.specs.State.{State}
-use Rattle.ng_parts.specs.Numbering.{source_numbers}
+use Rattle.ng_drawing.specs.Numbering.{source_numbers}
 use Rattle.ng_steps.proofs.GivenNumbers.{get_within, drop_past, last_kept, last_length, noted_apart, all_above, all_under, IsFresh, Gives, source_flags, flag_left, all_flags, all_later, then_gives, quiet}
 
 -- ---- sites of bindings

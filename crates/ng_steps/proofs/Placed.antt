@@ -39,10 +39,11 @@ use Rattle.ng_link.specs.Standing.{AreInner, IsBelow}
 use Rattle.ng_link.specs.State.{State, Listening, templates_of}
 use Rattle.ng_link.specs.declared.works.Works.{Works}
 use Rattle.ng_compose.proofs.KeptWhole.{HasBodies}
-use Rattle.ng_compose.specs.Kept.{Named, named_of}
-use Rattle.ng_parts.specs.Numbering.{is_body, is_outlet, is_regular}
+use Rattle.ng_drawing.specs.Named.{Named}
+use Rattle.ng_compose.specs.Kept.{named_of}
+use Rattle.ng_drawing.specs.Numbering.{is_body, is_outlet, is_regular}
 use Rattle.ng_compose.specs.declared.templates.Kept.{Kept}
-use Rattle.ng_watch.specs.Keys.{begins}
+use Rattle.ng_behaviour.specs.Keys.{begins}
 use Rattle.ng_watch.specs.Table.{Table, with_watch}
 
 -- ---- what is free

@@ -15,9 +15,10 @@ use Rattle.ng_link.specs.State.{templates_of}
 use Rattle.ng_link.specs.declared.works.Works.{Works}
 use Rattle.ng_compose.proofs.ComposedSpots.{ArePaired, composed_spots}
 use Rattle.ng_compose.proofs.KeptWhole.{whole_for}
-use Rattle.ng_compose.specs.Composing.{composed, composed_in, fragment_by, fuel_for, is_directed, nothing_composed, region_of}
-use Rattle.ng_compose.specs.Kept.{Named, composing, fragment_for, fragment_in, fragments_at, including, named_of}
-use Rattle.ng_parts.specs.Numbering.{is_bare}
+use Rattle.ng_drawing.specs.Composing.{composed, composed_in, fragment_by, fuel_for, is_directed, nothing_composed, region_of}
+use Rattle.ng_drawing.specs.Named.{Named, composing, fragment_for, fragment_in, fragments_at, including}
+use Rattle.ng_compose.specs.Kept.{named_of}
+use Rattle.ng_drawing.specs.Numbering.{is_bare}
 use Rattle.ng_compose.specs.declared.templates.Kept.{Kept}
 
 -- ---- the fragments of a template that is kept stand on one scope

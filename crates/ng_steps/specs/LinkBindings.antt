@@ -18,7 +18,7 @@ use Rattle.ng_language.specs.declared.snapshots.SnapKind.{SnapKind}
 use Rattle.ng_language.specs.declared.snapshots.SnapKind.TheVariants as snaps
 use Rattle.ng_instances.specs.Bindings.{BoundPiece, bound_word, bound_hole}
 use Rattle.ng_value.specs.Taken.{taken}
-use Rattle.ng_view.specs.Evaluation.{evaluated_program}
+use Rattle.ng_evaluation.specs.Evaluation.{evaluated_program}
 use Rattle.ng_write.specs.Making.{value_in}
 
 -- a name of a scope is set, whatever it is

@@ -56,7 +56,7 @@ use std::alloc::{AllocError, Global};
 use std::collections::BTreeMap;
 
 /// The value of a program over a scope.
-#[tactic(auto, using(ng_view::proofs::Pure::pure_are, ng_view::proofs::Pure::known_are))]
+#[tactic(auto, using(ng_purity::proofs::Pure::pure_are, ng_purity::proofs::Pure::known_are))]
 pub(crate) fn value_over(
     alloc: Global,
     works: &Works,

@@ -21,7 +21,7 @@ ghost use Rattle.ng_link.specs.Placing.{IsRegistered};
 ghost use Rattle.ng_build.specs.Shape.{linked};
 ghost use Rattle.ng_link.specs.State.{state_of, templates_of, live_nodes};
 ghost use Rattle.ng_build.specs.StepOf.{step_of};
-ghost use Rattle.ng_compose.specs.Kept.{fragment_for};
+ghost use Rattle.ng_drawing.specs.Named.{fragment_for};
 
 use crate::progress::Progress;
 use crate::stepping::link_steps;

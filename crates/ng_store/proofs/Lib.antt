@@ -3,6 +3,7 @@ pub mod Changes
 pub mod ObjectReads
 pub mod Looks
 pub mod Sound
+pub mod NamesSet
 pub mod JsonLists
 pub mod PlacedSound
 pub mod ArraySound

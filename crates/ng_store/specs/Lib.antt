@@ -1,4 +1,5 @@
 pub mod NamesOf
 pub mod ObjectOf
+pub mod SetNames
 pub mod Answers
 pub mod Json

@@ -4,7 +4,7 @@
 //! items, if it is an array, or named values in order of insertion (guide: Scopes, "Scope Inheritance"). The
 //! crates above use `look`, which goes along the prototypes, and that a change is a change of one object: after
 //! `set`, `push` and their kin every other object, and every other name, is as before, since the contract is one
-//! equation between the list before and the list after.
+//! equation between the list before and the list after. `set_all` sets several names of one object, which it finds once.
 //!
 //! Reading, writing a name that is there, and taking items out ask for no memory. `make` and `take_json` answer
 //! Full exactly where the 1,000,001st object would be made, and a refusal leaves the store as it was. `take_json`

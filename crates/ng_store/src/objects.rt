@@ -1,10 +1,12 @@
 //! What reads and changes stored objects.
 ghost use Rattle.std.specs.Prelude.{◌≡◌, ◌<◌, ◌^◌, length, vec_len, IfOk, option_copied, option_and_then, slice_get, OnOk, OnErr, IsOk, IfErr, is_some, true, bytes_eq};
+ghost use Rattle.std.specs.List.{AllByRecursion};
 ghost use Rattle.std.specs.Map.{lookup};
-ghost use Rattle.ng_base.specs.Objects.{own_of, object_at, own, names_of};
+ghost use Rattle.ng_base.specs.Objects.{own_of, object_at, own, names_of, StandsAmong};
 ghost use Rattle.ng_base.specs.declared.fault.Memory.TheVariants.{Refused};
 ghost use Rattle.ng_language.specs.Objects.{AreObjects, look, set_name};
 ghost use Rattle.ng_store.specs.ObjectOf.{object_of, objects_of};
+ghost use Rattle.ng_store.specs.SetNames.{set_names};
 
 use crate::names::names_of;
 use crate::shapes::Shapes;
@@ -115,4 +117,26 @@ pub(crate) fn set(
     let stored = &mut objects[o.0 as usize];
     stored.properties.put(alloc, shapes, next, name, v)?;
     Ok(())
+}
+
+/// Sets names of an object, one after another.
+pub(crate) fn set_all(
+    alloc: Global,
+    objects: &mut Vec<Stored>,
+    shapes: &mut Shapes,
+    next: &mut usize,
+    o: Oid,
+    names: &[Txt],
+    values: &[Value],
+) -> Result<(), Memory>
+    requires { o.0 < vec_len objects.old }
+    ensures ok { OnOk result (objects_of objects.new.items ≡ set_names (objects_of objects.old.items) o.0 names.now values.now) }
+    ensures sound { AllByRecursion (StandsAmong (length (objects_of objects.old.items))) values.now → AreObjects (objects_of objects.old.items) → AreObjects (objects_of objects.new.items) }
+    ensures count { length (objects_of objects.new.items) ≡ length (objects_of objects.old.items) }
+    ensures refused { IfErr result (λ e. e ≡ Refused) }
+{
+    let object = &mut objects[o.0 as usize];
+    object
+        .properties
+        .put_all(alloc, shapes, next, names, values)
 }

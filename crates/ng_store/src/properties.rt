@@ -6,6 +6,7 @@ ghost use Rattle.indexmap.specs.IndexMap.{insert_entry, set_value_at};
 ghost use Rattle.ng_base.specs.declared.value.Value.{Value as ValueOf};
 ghost use Rattle.ng_base.specs.declared.fault.Memory.TheVariants.{Refused};
 ghost use Rattle.ng_store.specs.NamesOf.{names_in};
+ghost use Rattle.ng_store.specs.SetNames.{put_names, StaySound};
 
 use crate::rooms::Rooms;
 use crate::shapes::{Shape, Shapes, grown_names};
@@ -252,5 +253,31 @@ impl Properties {
                 Ok(())
             }
         }
+    }
+
+    /// Sets properties one after another, as far as there are names and values. The next call looks first at the place where these began.
+    pub(crate) fn put_all(
+        &mut self,
+        alloc: Global,
+        shapes: &mut Shapes,
+        next: &mut usize,
+        names: &[Txt],
+        values: &[Value],
+    ) -> Result<(), Memory>
+        ensures ok { OnOk result (properties_of self.new ≡ put_names (properties_of self.old) names.now values.now) }
+        ensures sound { StaySound values.now (properties_of self.old) (properties_of self.new) }
+        ensures refused { IfErr result (λ e. e ≡ Refused) }
+    {
+        let mut left = values;
+        for name in names {
+            let Some((value, rest)) = left.split_first() else {
+                return Ok(());
+            };
+            self.put(alloc, shapes, next, name, value.copied()?)?;
+            left = rest;
+        }
+        let behind = *next;
+        *next = behind.saturating_sub(names.len());
+        Ok(())
     }
 }

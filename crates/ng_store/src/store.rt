@@ -7,6 +7,7 @@ ghost use Rattle.ng_base.specs.Objects.{own, object_at, names_of, StandsAmong};
 ghost use Rattle.ng_base.specs.declared.fault.Memory.TheVariants.{Refused};
 ghost use Rattle.ng_language.specs.Objects.{AreObjects, look, set_name, set_items, items_at, first_item, last_item, new_object};
 ghost use Rattle.serde_json.specs.View.{view};
+ghost use Rattle.ng_store.specs.SetNames.{set_names};
 ghost use Rattle.ng_store.specs.Json.{is_json_want, is_long, is_whole, json_value, objects_in, with_json};
 ghost use Rattle.ng_store.specs.Answers.{is_refused, is_want, next_name, where_short};
 ghost use Rattle.ng_store.specs.declared.store.StoreFault.TheVariants.{Memory as OfMemory};
@@ -64,7 +65,7 @@ pub struct Store {
     /// The names that objects share.
     shapes: Shapes,
     rooms: Rooms,
-    /// The place behind the property that was set last.
+    /// The place that is looked at first: behind the property that was set last, or where the names began that were set last in one call.
     next: usize,
 }
 
@@ -212,6 +213,25 @@ impl Store {
             v,
         )?;
         Ok(())
+    }
+
+    /// Sets names of an object one after another, as far as there are names and values.
+    pub fn set_all(&mut self, o: Oid, names: &[Txt], values: &[Value]) -> Result<(), Memory>
+        requires object { o.0 < length self.old }
+        requires stands { AllByRecursion (StandsAmong (length self.old)) values.now }
+        ensures set { OnOk result (self.new ≡ set_names self.old o.0 names.now values.now) }
+        ensures count { length self.new ≡ length self.old }
+        ensures refused { IfErr result (λ e. e ≡ Refused) }
+    {
+        objects::set_all(
+            self.alloc,
+            &mut self.objects,
+            &mut self.shapes,
+            &mut self.next,
+            o,
+            names,
+            values,
+        )
     }
 
     /// Adds an item at the end of an array, and gives its length.

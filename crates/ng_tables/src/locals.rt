@@ -14,9 +14,10 @@ use ng_base::value::Value;
 use ng_base::view::View;
 use ng_lex::lex;
 use ng_parse::parse;
+use ng_purity::{filters_known, is_pure};
 use ng_store::store::Store;
 use ng_value::texts::json_text;
-use ng_view::{filters_known, is_pure, view};
+use ng_view::view;
 use std::alloc::{AllocError, Global};
 
 /// A store with a scope, which has a `w` of its own, over a prototype with `n`, `u`, `w` and `z`.

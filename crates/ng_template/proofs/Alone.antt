@@ -16,7 +16,7 @@ use Rattle.ng_template.specs.Compiles.{element_of_made, after_node, after_forest
 use Rattle.ng_directives.specs.Kinds.{control_kind}
 use Rattle.ng_directives.specs.Directives.{Head, with_picks, attributes_of}
 use Rattle.ng_directives.specs.Manners.{makes_slot, any_makes_slot}
-use Rattle.ng_parts.specs.Numbering.{bound_numbers, is_within, are_drawn, after_own, after_contents, contents_draw}
+use Rattle.ng_drawing.specs.Numbering.{bound_numbers, is_within, are_drawn, after_own, after_contents, contents_draw}
 use Rattle.ng_template.specs.Order.{Met, is_bind, is_switch, any_asks, is_passed_over, is_taken_apart, makes_scope_by, has_switch, told_of, asked_sites, first_pick_refusal, inside_refusal, refusal, FirstRefusal, refused_here, refused_after, pick_sites, inside_sites, sites_at, content_holes}
 use Rattle.ng_directives.specs.Texts.{refused, counted}
 use Rattle.ng_elements.specs.Using.{Asked, numbers_in, asks_child, asks_isolate, asks_template, asks_transclusion, uses_made, transcludes}

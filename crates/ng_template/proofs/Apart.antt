@@ -5,7 +5,7 @@ use Rattle.std.specs.Prelude.{◌&&◌, ◌==◌, not}
 use Rattle.std.specs.List.{AllByRecursion, list_all}
 use Rattle.ng_drawing.specs.Template.{Outlet, PartAttributes, Part, Contents, Parts}
 use Rattle.ng_elements.specs.Elements.{Switch, switch_in}
-use Rattle.ng_parts.specs.Numbering.{is_within, is_apart, are_drawn, after_part, after_parts, part_draws, contents_draw, parts_draw}
+use Rattle.ng_drawing.specs.Numbering.{is_within, is_apart, are_drawn, after_part, after_parts, part_draws, contents_draw, parts_draw}
 use Rattle.ng_parts.proofs.Within.{apart_from, within_parts, within_from, apart_parts, apart_make}
 use Rattle.ng_template.proofs.Drawn.{is_bound_within}
 use Rattle.ng_parts.proofs.More.{all_more, attributes_more, part_more, contents_more, parts_more}

@@ -21,7 +21,7 @@ use Rattle.ng_markup.specs.Forest.{Attributes}
 use Rattle.ng_elements.specs.Elements.{asks_scope, has_template_of}
 use Rattle.ng_directives.specs.Directives.{is_bound_by}
 use Rattle.ng_directives.specs.Limits.{site_limit, worn}
-use Rattle.ng_parts.specs.Numbering.{hole_numbers, source_numbers}
+use Rattle.ng_drawing.specs.Numbering.{hole_numbers, source_numbers}
 use Rattle.ng_template.specs.Order.{kind_of_wrong, property_sites}
 use Rattle.ng_directives.specs.Programs.{program_in}
 use Rattle.ng_parts.specs.SiteOf.{site_with}

@@ -26,7 +26,7 @@ use Rattle.ng_directives.specs.Texts.{refused, wrong, judged_as, judged, sites_i
 use Rattle.ng_directives.specs.declared.fault.TplFault.{TplFault}
 use Rattle.ng_directives.specs.declared.fault.TplKind.{TplKind}
 use Rattle.ng_directives.specs.declared.fault.TplKind.TheVariants.{Orphan, UnknownFilter}
-use Rattle.ng_view.specs.Purity.{all_filters_known}
+use Rattle.ng_evaluation.specs.Purity.{all_filters_known}
 
 -- what is judged of a text is what it is checked for
 judged_as-checked : (place : ℕ) (o : Option TplKind) (ps : List Piece) → judged_as place o ps ≡ at_place place (checked_as o ps)

@@ -9,7 +9,7 @@ use Rattle.ng_markup.specs.Forest.{Forest}
 use Rattle.ng_elements.specs.Elements.{Made, fragment_made}
 use Rattle.ng_template.specs.Compiles.{after_forest, compiled_forest, compiled}
 use Rattle.ng_directives.specs.Limits.{worn}
-use Rattle.ng_parts.specs.Numbering.{parts_draw, is_undrawn, are_undrawn, is_whole, is_regular, are_bare}
+use Rattle.ng_drawing.specs.Numbering.{parts_draw, is_undrawn, are_undrawn, is_whole, is_regular, are_bare}
 use Rattle.ng_template.specs.Order.{Met, nodes_compiled, nodes_of_fragment, FirstRefusal, NoneRefused, sites_at, holes}
 use Rattle.ng_directives.specs.Texts.{counted}
 use Rattle.ng_directives.specs.declared.fault.TplFault.{TplFault}

@@ -10,7 +10,7 @@ use Rattle.ng_elements.specs.Elements.{Made, Switch, switch_in, switch_inside, m
 use Rattle.ng_template.specs.Compiles.{after_forest, passed_over, contents_made, inside_made, begun_body, compiled_forest}
 use Rattle.ng_directives.specs.Directives.{Head, attributes_of}
 use Rattle.ng_directives.specs.Limits.{site_limit, worn}
-use Rattle.ng_parts.specs.Numbering.{bound_numbers, is_within, is_apart, are_drawn, after_contents, after_parts, contents_draw, parts_draw, outlets_of_contents, is_undrawn, are_undrawn}
+use Rattle.ng_drawing.specs.Numbering.{bound_numbers, is_within, is_apart, are_drawn, after_contents, after_parts, contents_draw, parts_draw, outlets_of_contents, is_undrawn, are_undrawn}
 use Rattle.ng_template.specs.Order.{Met, FirstRefusal, NoneRefused, sites_at, content_holes}
 use Rattle.ng_elements.specs.Using.{transcludes}
 use Rattle.ng_directives.specs.declared.fault.TplFault.{TplFault}

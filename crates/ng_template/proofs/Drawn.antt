@@ -24,7 +24,7 @@ use Rattle.ng_elements.specs.Elements.{class_with, bare_with}
 use Rattle.ng_directives.specs.Directives.{Head, name_on, text_on, whole, parts_for, kind_for, set_by, class_by, bound_by, switch_by, with_parts, with_model, changed_more, with_change, is_classed, class_setting, control_attribute, control_setting, with_states, attributes_of}
 use Rattle.ng_directives.specs.Manners.{target_of}
 use Rattle.ng_elements.specs.Plain.{plain_values}
-use Rattle.ng_parts.specs.Numbering.{is_within, is_apart, is_piece_drawn, is_hiding_drawn, is_class_drawn, is_value_drawn, are_drawn}
+use Rattle.ng_drawing.specs.Numbering.{is_within, is_apart, is_piece_drawn, is_hiding_drawn, is_class_drawn, is_value_drawn, are_drawn}
 use Rattle.ng_directives.specs.Texts.{numbered, sites_in}
 use Rattle.ng_elements.specs.Using.{Asked}
 use Rattle.ng_directives.specs.Writing.{is_named_piece, not_named, named_only}

@@ -14,7 +14,7 @@ use Rattle.ng_directives.specs.Places.{first_place, other_places}
 use Rattle.ng_elements.specs.Elements.{Made, Switch, fragment_made}
 use Rattle.ng_template.specs.Compiles.{after_node, after_forest, element_made, the_case, the_block, outermost_made, rounds, begun_body, site_in, filling_in, outlet_by, bodies_with, has_room, wrapped, in_rounds, node_made, compiled_node, compiled_forest}
 use Rattle.ng_directives.specs.Limits.{worn}
-use Rattle.ng_parts.specs.Numbering.{is_apart, after_part, after_parts, part_draws, parts_draw, outlets_of_part, after_outlets, is_undrawn, are_undrawn}
+use Rattle.ng_drawing.specs.Numbering.{is_apart, after_part, after_parts, part_draws, parts_draw, outlets_of_part, after_outlets, is_undrawn, are_undrawn}
 use Rattle.ng_template.specs.Order.{Met, is_passed_over, is_taken_apart, makes_scope_by, has_switch, has_block, is_left, is_left_to_body, is_near, inside_refusal, around_refusal, refusal, FirstRefusal, refused_here, around_sites, node_sites, sites_at, part_holes, holes}
 use Rattle.ng_directives.specs.Texts.{counted}
 use Rattle.ng_directives.specs.declared.fault.TplFault.{TplFault}

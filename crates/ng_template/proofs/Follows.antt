@@ -11,7 +11,7 @@ use Rattle.ng_directives.specs.Places.{first_place, other_places}
 use Rattle.ng_elements.specs.Elements.{Made, Switch}
 use Rattle.ng_template.specs.Compiles.{with_text, text_made}
 use Rattle.ng_directives.specs.Limits.{site_limit, worn}
-use Rattle.ng_parts.specs.Numbering.{after_part, after_parts, part_draws, parts_draw, outlets_of_part, after_outlets}
+use Rattle.ng_drawing.specs.Numbering.{after_part, after_parts, part_draws, parts_draw, outlets_of_part, after_outlets}
 use Rattle.ng_template.specs.Order.{Met, round_met, is_left, is_left_to_body, switch_near, text_refusal, FirstRefusal, refused_here, refused_after, NoneRefused, text_sites, sites_at, part_holes, holes}
 use Rattle.ng_directives.specs.Texts.{judged, counted, sites_in}
 use Rattle.ng_directives.specs.declared.fault.TplFault.{TplFault}

@@ -5,7 +5,7 @@ use Rattle.std.specs.List.{list_all, flat_map}
 use Rattle.ng_drawing.specs.declared.kind.SiteKind.{SiteKind}
 use Rattle.ng_interp.specs.Parts.{Piece}
 use Rattle.ng_interp.specs.Parts as interp
-use Rattle.ng_parts.specs.Numbering.{after_pieces, is_piece_drawn}
+use Rattle.ng_drawing.specs.Numbering.{after_pieces, is_piece_drawn}
 use Rattle.ng_template.specs.Order.{piece_holes}
 use Rattle.ng_directives.specs.Texts.{numbered, sites_in, counted}
 

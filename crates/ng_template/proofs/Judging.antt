@@ -3,7 +3,7 @@ use Rattle.std.proofs.Common.{◌≡◌, ℕ, Bool, true, false, cond, List, Opt
 use Rattle.ng_interp.specs.Parts.{Piece}
 use Rattle.ng_interp.specs.declared.pieces.InterpFault.{InterpFault}
 use Rattle.ng_language.specs.Trees.{Trees}
-use Rattle.ng_view.specs.Purity.{all_filters_known}
+use Rattle.ng_evaluation.specs.Purity.{all_filters_known}
 use Rattle.ng_template.specs.Order.{text_refusal}
 use Rattle.ng_directives.specs.Programs.{program_refusal, judged_program}
 use Rattle.ng_directives.specs.Texts.{refused, wrong, judged_as, judged}

@@ -13,7 +13,7 @@ use Rattle.ng_parse.specs.declared.programs.Program.{Program}
 use Rattle.ng_template.specs.Around.{Block, block_with, kind_of_block}
 use Rattle.ng_parts.specs.SiteOf.{site_with}
 use Rattle.ng_directives.specs.Texts.{is_known, is_pure, sites_in}
-use Rattle.ng_view.specs.Purity.{are_pure, all_filters_known}
+use Rattle.ng_evaluation.specs.Purity.{are_pure, all_filters_known}
 
 none_left : {X : Type 0} (ys : List X) → length ys ≡ 0 → ys ≡ []
 none_left [] e = refl

@@ -2,7 +2,7 @@
 use Rattle.std.proofs.Common.{◌≡◌, ℕ, cond, List, [], ◌++◌, None, Some, refl, ap, ◌∙◌}
 use Rattle.std.specs.Prelude.{option_and_then}
 use Rattle.ng_markup.specs.Forest.{Node, Forest, element, text, comment, no_nodes, node}
-use Rattle.ng_parts.specs.Numbering.{is_within, after_part, after_parts, outlets_of_part, after_outlets}
+use Rattle.ng_drawing.specs.Numbering.{is_within, after_part, after_parts, outlets_of_part, after_outlets}
 use Rattle.ng_template.specs.Order.{part_holes, holes}
 use Rattle.ng_elements.specs.Plain.{plain_part, plain_parts}
 use Rattle.ng_template.proofs.Drawn.{plain_drawn}

@@ -8,7 +8,7 @@ use Rattle.ng_drawing.specs.Template.{Site, Part, Parts, no_parts, part_then, Fi
 use Rattle.ng_template.specs.Around.{Block, block_if, block_for, block_named}
 use Rattle.ng_elements.specs.Elements.{Made, fragment_made}
 use Rattle.ng_template.specs.Compiles.{outlet_by, filling_in, block_alone, nested, bodies_with}
-use Rattle.ng_parts.specs.Numbering.{after_part, after_parts, outlets_of_part, after_outlets, is_body, is_outlet, are_outlets, are_undrawn, is_numbered, is_whole, is_bare}
+use Rattle.ng_drawing.specs.Numbering.{after_part, after_parts, outlets_of_part, after_outlets, is_body, is_outlet, are_outlets, are_undrawn, is_numbered, is_whole, is_bare}
 use Rattle.ng_parts.proofs.Within.{both_all}
 use Rattle.ng_template.proofs.Drawn.{one}
 use Rattle.ng_parts.proofs.More.{all_more}

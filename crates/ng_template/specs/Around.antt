@@ -22,7 +22,7 @@ use Rattle.ng_drawing.specs.Template.{Site, Repeated}
 use Rattle.ng_drawing.specs.declared.kind.SiteKind.{SiteKind}
 use Rattle.ng_drawing.specs.declared.kind.SiteKind.TheVariants as kinds
 use Rattle.ng_language.specs.Trees.{Trees}
-use Rattle.ng_view.specs.Purity.{all_filters_known}
+use Rattle.ng_evaluation.specs.Purity.{all_filters_known}
 use Rattle.ng_markup.specs.Forest.{Attributes, Node, element, text, comment}
 use Rattle.ng_tags.specs.declared.attrs.Attr.{Attr}
 use Rattle.ng_directives.specs.Directives.{text_on, whole}

@@ -21,7 +21,7 @@ use Rattle.ng_elements.specs.Elements.{any_templates}
 use Rattle.ng_template.specs.Compiles.{site_in}
 use Rattle.ng_directives.specs.Directives.{text_on, parts_for, kind_for}
 use Rattle.ng_directives.specs.Manners.{manner_of, any_makes_slot}
-use Rattle.ng_parts.specs.Numbering.{bound_numbers}
+use Rattle.ng_drawing.specs.Numbering.{bound_numbers}
 use Rattle.ng_directives.specs.Programs.{program_in, program_refusal}
 use Rattle.ng_directives.specs.Texts.{refused, wrong, sites_in}
 use Rattle.ng_elements.specs.Using.{Property, read_sites, numbers_in, first_with, asks_child, asks_isolate, asks_template, asks_transclusion, bindings_of, judged_properties}

@@ -10,7 +10,7 @@ use Rattle.ng_language.specs.Trees.{Trees}
 use Rattle.ng_parts.specs.SiteOf.{site_with}
 use Rattle.ng_directives.specs.declared.fault.TplKind.{TplKind}
 use Rattle.ng_directives.specs.declared.fault.TplKind.TheVariants.{BadRepeat, Expression, UnknownFilter, Impure, Memory}
-use Rattle.ng_view.specs.Purity.{are_pure, all_filters_known}
+use Rattle.ng_evaluation.specs.Purity.{are_pure, all_filters_known}
 
 -- why it cannot be read
 abbrev pub unread : RepeatFault → TplKind

@@ -8,7 +8,7 @@ ghost use Rattle.ng_directives.specs.Places.{first_place};
 ghost use Rattle.ng_template.specs.Compiles.{past as past_of, text_made, after_node as after_node_of, after_forest as after_forest_of, contents_made, inside_made, passed_over as passed_over_of, emptied_inside as emptied_inside_of, emptied_made, element_made, closed_made, rounds as rounds_of, compiled_node, compiled_forest, compiled, apart_inside};
 ghost use Rattle.ng_template.specs.AroundOf.{inside_of, blocks_of, case_of, outermost_of};
 ghost use Rattle.ng_directives.specs.Free.{is_tpl_want};
-ghost use Rattle.ng_parts.specs.Numbering.{is_regular};
+ghost use Rattle.ng_drawing.specs.Numbering.{is_regular};
 ghost use Rattle.ng_parts.specs.Seen.{part_of, contents_of, parts_of};
 ghost use Rattle.ng_parts.specs.FragmentOf.{fragments_of};
 ghost use Rattle.ng_parts.specs.TemplateOf.{template_of};

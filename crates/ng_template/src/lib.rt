@@ -3,7 +3,7 @@
 //! `compile` turns a document into a template: its own fragment, and those of its blocks' bodies. The contract that the crates above use
 //! is that of `compile`: its answer is `compiled` of `specs/Compiles.antt`, the template or the first refusal with its place; the parts of
 //! each fragment have the numbers of its sites and outlets in order, and an element is drawn from its own sites alone
-//! (ng_parts, `specs/Numbering.antt`); and each site's program is pure and names known filters alone. `laws` says of it, in the words of
+//! (ng_drawing, `specs/Numbering.antt`); and each site's program is pure and names known filters alone. `laws` says of it, in the words of
 //! documents, that the sites of the template's own fragment belong to the directives, blocks and holes in document order and that the
 //! refusal is the first in that order (`specs/Order.antt`).
 //!

@@ -8,7 +8,7 @@ ghost use Rattle.ng_directives.specs.Free.{is_tpl_want};
 ghost use Rattle.ng_parts.specs.RepeatedOf.{track_of, repeated_of};
 ghost use Rattle.ng_template.specs.Repeating.{if_tracked, wrong_repeat, said_as, parted, repeat_in};
 ghost use Rattle.ng_parts.specs.SiteOf.{site_of};
-ghost use Rattle.ng_view.specs.Purity.{are_pure, all_filters_known};
+ghost use Rattle.ng_evaluation.specs.Purity.{are_pure, all_filters_known};
 
 use ng_base::txt::Txt;
 use ng_blocks::{Repeat, RepeatFault, parse_repeat};
@@ -19,7 +19,7 @@ use ng_parse::Program;
 use ng_parts::repeated::Repeated;
 use ng_parts::site::Site;
 use ng_parts::track::Track;
-use ng_view::{filters_known, is_pure};
+use ng_purity::{filters_known, is_pure};
 use std::alloc::Global;
 
 /// The site of a repeat's collection, and what the repeat says beside that.

@@ -18,7 +18,7 @@ use Rattle.ng_filters.specs.Numbers.{json, indent}
 use Rattle.ng_filters.specs.Matching as matching
 use Rattle.ng_filters.specs.Ordering as ordering
 use Rattle.ng_filters.specs.Applied.{first_of, second_of, applied_if}
-use Rattle.ng_view.specs.Applied.{applied}
+use Rattle.ng_evaluation.specs.Applied.{applied}
 use Rattle.ng_members.proofs.Faults.{only_then, only_if, and_then_only, made_only, json_text_only}
 
 module _ (Q : Fault → Type 0) (big : Q TooBig) where

@@ -8,9 +8,9 @@ use Rattle.ng_language.specs.Heights.{pair_height, pair_heights}
 use Rattle.ng_language.specs.Trees.{pairs_from}
 use Rattle.ng_parse.specs.TreeOf.{pair_tree}
 use Rattle.ng_parse.specs.declared.tree.Pair.{Pair}
-use Rattle.ng_view.specs.Purity.{ArePairsKnown}
+use Rattle.ng_evaluation.specs.Purity.{ArePairsKnown}
 use Rattle.ng_members.specs.Leaves.{Local, Field}
-use Rattle.ng_view.specs.Evaluation.{evaluated_pair, evaluated_pairs}
+use Rattle.ng_evaluation.specs.Evaluation.{evaluated_pair, evaluated_pairs}
 
 drop_pair : (ps : List Pair) (i : ℕ) (p : Pair) → i < length ps → p ≡ get_or ps i p → drop i ps ≡ p ∷ drop (suc i) ps
 drop_pair [] i p h e = absurd (omega arith)

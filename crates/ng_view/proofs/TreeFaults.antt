@@ -15,12 +15,12 @@ use Rattle.ng_language.specs.Texts.{to_text}
 use Rattle.ng_language.specs.Trees.{Tree, Trees, PairTree, Pairs, a_number, a_text, a_name, the_scope, a_constant, member_of, item_of, call_of, a_list, a_record, in_brackets, signed, combined, both_of, either_of, choice_of, assigned, filtered, no_trees, tree_then, labelled, shorthand, computed, no_pairs, pair_then}
 use Rattle.ng_members.specs.declared.calls.Callee.{Callee}
 use Rattle.ng_members.specs.declared.calls.Callee.TheVariants as callees
-use Rattle.ng_view.specs.Applied.{applied}
+use Rattle.ng_evaluation.specs.Applied.{applied}
 use Rattle.ng_members.specs.Members.{member, item}
 use Rattle.ng_view.specs.Calls.{keeps_to, all_keep_to, pair_keeps_to, pairs_keep_to, calls_nothing, filters_nothing}
 use Rattle.ng_members.specs.Leaves.{Local, Field, sign_value, operator_value, label_name}
 use Rattle.ng_members.specs.Callees.{callee, called, called_on, is_nothing}
-use Rattle.ng_view.specs.Evaluation.{evaluated, receiver, evaluated_all, evaluated_pair, evaluated_pairs, evaluated_statements, evaluated_program}
+use Rattle.ng_evaluation.specs.Evaluation.{evaluated, receiver, evaluated_all, evaluated_pair, evaluated_pairs, evaluated_statements, evaluated_program}
 use Rattle.ng_members.proofs.Faults.{OfAll, only_then, only_if, to_text_only, number_only, sign_only, operator_only, item_only, method_only}
 use Rattle.ng_view.proofs.FilterFaults.{applied_only}
 

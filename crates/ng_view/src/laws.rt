@@ -11,7 +11,7 @@ ghost use Rattle.ng_parse.specs.ProgramOf.{program};
 ghost use Rattle.ng_parse.specs.TreeOf.{tree};
 ghost use Rattle.ng_view.specs.Calls.{calls_nothing, filters_nothing};
 ghost use Rattle.ng_members.specs.Members.{or_undefined};
-ghost use Rattle.ng_view.specs.Evaluation.{evaluated, evaluated_program};
+ghost use Rattle.ng_evaluation.specs.Evaluation.{evaluated, evaluated_program};
 
 use ng_base::locals::Locals;
 use ng_base::name::Oid;

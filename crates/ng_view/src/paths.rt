@@ -5,7 +5,7 @@ ghost use Rattle.ng_language.specs.Views.{ViewStands};
 ghost use Rattle.ng_parse.specs.TreeOf.{tree};
 ghost use Rattle.ng_members.specs.Leaves.{named, LocalsStand};
 ghost use Rattle.ng_members.specs.Members.{member};
-ghost use Rattle.ng_view.specs.Evaluation.{evaluated};
+ghost use Rattle.ng_evaluation.specs.Evaluation.{evaluated};
 ghost use Rattle.ng_view.specs.Paths.{stored_name, stored_member, stored_path};
 
 use ng_base::heap::Heap;

@@ -8,8 +8,8 @@ ghost use Rattle.ng_language.specs.Trees.{trees_from};
 ghost use Rattle.ng_language.specs.Views.{ViewStands};
 ghost use Rattle.ng_parse.specs.ProgramOf.{program};
 ghost use Rattle.ng_parse.specs.TreeOf.{tree};
-ghost use Rattle.ng_view.specs.Purity.{ArePure, FiltersKnown};
-ghost use Rattle.ng_view.specs.Evaluation.{evaluated_program};
+ghost use Rattle.ng_evaluation.specs.Purity.{ArePure, FiltersKnown};
+ghost use Rattle.ng_evaluation.specs.Evaluation.{evaluated_program};
 ghost use Rattle.ng_members.specs.Leaves.{LocalsStand};
 
 use crate::evaluation::evaluated;

@@ -7,7 +7,7 @@ use Rattle.std.specs.Map.{lookup, lookup_key, remove_entry, set_value}
 use Rattle.ng_base.specs.declared.path.Key.{Key}
 use Rattle.ng_value.specs.declared.snapshot.Snap.{Snap}
 use Rattle.ng_watch.specs.Chunks.{Rows, joined, before, after, row_at, has_key, IsCounted, IsGap}
-use Rattle.ng_watch.specs.Keys.{key_cmp, is_key, is_above}
+use Rattle.ng_behaviour.specs.Keys.{key_cmp, is_key, is_above}
 use Rattle.ng_watch.specs.declared.watched.Watched.{Watched}
 use Rattle.ng_watch.proofs.Chunks.{parts, parts_row, row_of}
 use Rattle.ng_watch.proofs.Rows.{Sorted, find_gap, find_hit, insert_gap, insert_hit, lookup_gap, lookup_hit, lookup_key_gap, lookup_key_hit, one_more, remove_gap, remove_hit, set_hit, sorted_changed, sorted_with, sorted_without}

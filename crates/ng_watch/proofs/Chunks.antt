@@ -7,7 +7,7 @@ use Rattle.std.specs.List.{AllByRecursion, insert, remove, slice_set}
 use Rattle.std.proofs.lemmas.List.{take-append-drop, take_all, drop_all, get_or_default, set_split}
 use Rattle.ng_base.specs.declared.path.Key.{Key}
 use Rattle.ng_watch.specs.Chunks.{Rows, joined, chunk_at, front, back, before, after, row_at, has_key, has_below, is_below, is_passed, AllBelow, NoneBelow, AllAbove, IsGap, IsEdge}
-use Rattle.ng_watch.specs.Keys.{key_cmp, is_key}
+use Rattle.ng_behaviour.specs.Keys.{key_cmp, is_key}
 use Rattle.ng_watch.specs.declared.watched.Watched.{Watched}
 use Rattle.ng_watch.proofs.Rows.{Sorted, below_append, below_less, below_through, front_below, gap_above, sorted_first, sorted_second, lookup_hit, lookup_gap, insert_gap}
 

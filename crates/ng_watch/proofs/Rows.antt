@@ -15,7 +15,7 @@ use Rattle.ng_base.specs.Order.{path_cmp, path_cmp-eq}
 use Rattle.std.specs.Str.{bytes_eq}
 use Rattle.ng_base.specs.declared.path.Key.{Key}
 use Rattle.ng_watch.specs.Chunks.{Rows, is_below, AllBelow, AllAbove, IsGap}
-use Rattle.ng_watch.specs.Keys.{key_cmp, key_cmp_total, is_key, is_above}
+use Rattle.ng_behaviour.specs.Keys.{key_cmp, key_cmp_total, is_key, is_above}
 use Rattle.ng_watch.specs.declared.watched.Watched.{Watched}
 
 abbrev pub Sorted : Rows → Type 0

@@ -6,7 +6,7 @@ use Rattle.std.proofs.lemmas.Cmp.{tied_itself}
 use Rattle.ng_base.specs.Objects.{Object}
 use Rattle.ng_base.specs.declared.path.Key.{Key}
 use Rattle.ng_watch.specs.Chunks.{Rows, joined, after, row_at, has_key}
-use Rattle.ng_watch.specs.Keys.{key_cmp_total, is_key}
+use Rattle.ng_behaviour.specs.Keys.{key_cmp_total, is_key}
 use Rattle.ng_watch.specs.Seen.{watcher_of}
 use Rattle.ng_watch.specs.Table.{Table, watchers_of, found}
 use Rattle.ng_watch.specs.Walks.{Arrival, Walks, next_of}

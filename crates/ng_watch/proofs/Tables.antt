@@ -11,7 +11,7 @@ use Rattle.std.specs.declared.cmp.Ordering.TheVariants.{Less, Equal, Greater}
 use Rattle.ng_base.specs.declared.path.Key.{Key}
 use Rattle.ng_base.specs.contracts.path.KeyOrd.TheImpl as ordered
 use Rattle.std.proofs.lemmas.Cmp.{tied_itself}
-use Rattle.ng_watch.specs.Keys.{key_cmp, key_cmp_total, is_key, is_above, begins}
+use Rattle.ng_behaviour.specs.Keys.{key_cmp, key_cmp_total, is_key, is_above, begins}
 use Rattle.ng_watch.specs.Seen.{Watcher, watcher_of, watching_of}
 use Rattle.ng_watch.specs.Table.{Table, entry_of, found, keeping, with_kept, with_watch, without_watch, without_under, first_key, key_after}
 use Rattle.ng_watch.specs.declared.watched.Watched.{Watched}

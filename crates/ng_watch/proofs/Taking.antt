@@ -10,7 +10,7 @@ use Rattle.std.specs.declared.cmp.Ordering.TheVariants.{Less}
 use Rattle.std.proofs.lemmas.Cmp.{tied_itself}
 use Rattle.std.proofs.lemmas.Map.Keys.{sorted_head, sorted_tail}
 use Rattle.ng_base.specs.declared.path.Key.{Key}
-use Rattle.ng_watch.specs.Keys.{key_cmp, key_cmp_total, is_key}
+use Rattle.ng_behaviour.specs.Keys.{key_cmp, key_cmp_total, is_key}
 use Rattle.ng_watch.specs.Seen.{Watcher, watcher_of, watching_of, WatchStands}
 use Rattle.ng_watch.specs.Table.{Table, entry_of, AllStand}
 use Rattle.ng_watch.specs.declared.watched.Watched.{Watched}

@@ -13,7 +13,7 @@ use Rattle.ng_base.specs.Order.{path_cmp}
 use Rattle.ng_base.specs.declared.name.Serial.{Serial}
 use Rattle.ng_base.specs.declared.path.Key.{Key}
 use Rattle.ng_watch.specs.Chunks.{Rows, joined, before, after, row_at, has_key, key_from, is_below, AllBelow, AllAbove, NotBefore, IsCounted, IsEdge}
-use Rattle.ng_watch.specs.Keys.{key_cmp, key_cmp_total, begins}
+use Rattle.ng_behaviour.specs.Keys.{key_cmp, key_cmp_total, begins}
 use Rattle.ng_watch.specs.declared.watched.Watched.{Watched}
 use Rattle.ng_watch.proofs.AtPlaces.{counted_less, some_row}
 use Rattle.ng_watch.proofs.Chunks.{parts, parts_row, after_row, none_after}

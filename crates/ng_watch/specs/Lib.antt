@@ -1,4 +1,3 @@
-pub mod Keys
 pub mod Seen
 pub mod Table
 pub mod Chunks

@@ -9,7 +9,7 @@ use Rattle.ng_language.specs.Texts.{show_text, class_words}
 use Rattle.ng_language.specs.declared.snapshots.SnapKind.{SnapKind}
 use Rattle.ng_language.specs.declared.snapshots.SnapKind.TheVariants as snaps
 use Rattle.ng_value.specs.Taken.{taken}
-use Rattle.ng_view.specs.Evaluation.{evaluated_program}
+use Rattle.ng_evaluation.specs.Evaluation.{evaluated_program}
 use Rattle.ng_watch.specs.Seen.{Watching}
 use Rattle.ng_watch.specs.declared.watch.WatchKind.{WatchKind}
 use Rattle.ng_watch.specs.declared.watch.WatchKind.TheVariants as kinds

@@ -6,7 +6,7 @@ use Rattle.std.specs.Option.{ForSome}
 use Rattle.std.specs.BTreeMap.{insert_entry}
 use Rattle.ng_base.specs.Views.{ViewTree}
 use Rattle.ng_base.specs.declared.path.Key.{Key}
-use Rattle.ng_watch.specs.Keys.{key_cmp, is_key, is_above, begins}
+use Rattle.ng_behaviour.specs.Keys.{key_cmp, is_key, is_above, begins}
 use Rattle.ng_watch.specs.Seen.{Watching, Watcher, watcher_of, WatchStands}
 use Rattle.ng_watch.specs.declared.watched.Watched.{Watched}
 

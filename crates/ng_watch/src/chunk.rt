@@ -6,7 +6,7 @@ ghost use Rattle.std.specs.Map.{keys_of};
 ghost use Rattle.ng_base.specs.declared.path.Key.{Key as Name};
 ghost use Rattle.ng_watch.specs.declared.watched.Watched.{Watched as Row};
 ghost use Rattle.ng_watch.specs.Chunks.{AllBelow, NoneBelow, is_below, key_from};
-ghost use Rattle.ng_watch.specs.Keys.{key_cmp};
+ghost use Rattle.ng_behaviour.specs.Keys.{key_cmp};
 
 use crate::watched::Watched;
 use ng_base::name::Serial;

@@ -6,7 +6,7 @@ ghost use Rattle.std.specs.List.Sorted.{IsStrictlySortedBy};
 ghost use Rattle.std.specs.Map.{keys_of};
 ghost use Rattle.std.specs.Option.{ForSome};
 ghost use Rattle.ng_watch.specs.Chunks.{joined, before, after, chunk_at, row_at, IsCounted, IsGap};
-ghost use Rattle.ng_watch.specs.Keys.{begins, key_cmp};
+ghost use Rattle.ng_behaviour.specs.Keys.{begins, key_cmp};
 
 use crate::chunk::Chunk;
 use crate::places::{Place, edge, place_under};

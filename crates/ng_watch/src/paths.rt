@@ -1,6 +1,6 @@
 //! Paths of scopes that are above one another, and copies of keys.
 ghost use Rattle.std.specs.Prelude.{◌≡◌, IfOk};
-ghost use Rattle.ng_watch.specs.Keys.{begins};
+ghost use Rattle.ng_behaviour.specs.Keys.{begins};
 
 use ng_base::path::Key;
 use std::alloc::AllocError;

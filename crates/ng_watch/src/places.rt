@@ -5,7 +5,7 @@ ghost use Rattle.std.specs.List.Sorted.{IsStrictlySortedBy};
 ghost use Rattle.std.specs.Map.{keys_of};
 ghost use Rattle.std.specs.Option.{ForSome, IsSomeAnd};
 ghost use Rattle.ng_watch.specs.Chunks.{joined, before, after, front, chunk_at, row_at, has_key, key_from, is_passed, AllBelow, NotBefore, IsEdge, IsGap};
-ghost use Rattle.ng_watch.specs.Keys.{begins, is_above, is_key, key_cmp};
+ghost use Rattle.ng_behaviour.specs.Keys.{begins, is_above, is_key, key_cmp};
 ghost use Rattle.ng_watch.specs.Table.{watchers_of};
 ghost use Rattle.ng_watch.specs.Walks.{next_of};
 

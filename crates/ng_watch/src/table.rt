@@ -8,7 +8,7 @@ ghost use Rattle.std.specs.Map.{keys_of, lookup, lookup_key, remove_entry, set_v
 ghost use Rattle.ng_base.specs.declared.path.Key.{Key as Name};
 ghost use Rattle.ng_watch.specs.declared.watched.Watched.{Watched as Row};
 ghost use Rattle.ng_watch.specs.Chunks.{joined};
-ghost use Rattle.ng_watch.specs.Keys.{key_cmp, is_key, is_above, begins};
+ghost use Rattle.ng_behaviour.specs.Keys.{key_cmp, is_key, is_above, begins};
 ghost use Rattle.ng_watch.specs.Table.{watchers_of, AllStand};
 ghost use Rattle.ng_watch.specs.Walks.{Walks, reached_of};
 

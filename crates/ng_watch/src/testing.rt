@@ -34,7 +34,7 @@ use ng_view::{seen_value, view};
 use std::alloc::{AllocError, Global};
 
 /// The value of a watch's program over its scope.
-#[tactic(auto, using(ng_view::proofs::Pure::pure_are, ng_view::proofs::Pure::known_are), unfolding(crate::specs::Now::value_now))]
+#[tactic(auto, using(ng_purity::proofs::Pure::pure_are, ng_purity::proofs::Pure::known_are), unfolding(crate::specs::Now::value_now))]
 pub(crate) fn value_now(alloc: Global, store: &Store, watch: &Watch) -> Result<View, Fault>
     requires { watch.now.scope.0 < length store.now }
     ensures exact { Gives is_memory view_of (value_now store.now (watching_of watch.now)) result }

@@ -6,7 +6,7 @@ ghost use Rattle.ng_base.specs.Faults.{is_memory};
 ghost use Rattle.ng_base.specs.Meets.{Gives};
 ghost use Rattle.ng_base.specs.declared.fault.Fault.{Fault};
 ghost use Rattle.ng_watch.specs.Chunks.{joined, row_at};
-ghost use Rattle.ng_watch.specs.Keys.{key_cmp};
+ghost use Rattle.ng_behaviour.specs.Keys.{key_cmp};
 ghost use Rattle.ng_watch.specs.Table.{watchers_of, AllStand};
 ghost use Rattle.ng_watch.specs.Verdicts.{Judged, judged_of};
 ghost use Rattle.ng_watch.specs.Walks.{Walks, behind_all, at_watcher, reached_of, next_of, ends_at};

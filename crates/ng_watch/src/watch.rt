@@ -1,7 +1,7 @@
 //! A watch, and what it has kept.
 ghost use Rattle.std.specs.Prelude.{◌≡◌, true};
 ghost use Rattle.ng_parse.specs.ProgramOf.{program as trees_of};
-ghost use Rattle.ng_view.specs.Purity.{are_pure, all_filters_known};
+ghost use Rattle.ng_evaluation.specs.Purity.{are_pure, all_filters_known};
 
 use ng_base::name::Oid;
 use ng_base::txt::Txt;

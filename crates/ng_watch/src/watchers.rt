@@ -10,7 +10,7 @@ ghost use Rattle.ng_base.specs.Faults.{is_memory};
 ghost use Rattle.ng_base.specs.Meets.{Gives};
 ghost use Rattle.ng_value.specs.Snaps.{snap_of};
 ghost use Rattle.ng_watch.specs.Chunks.{joined};
-ghost use Rattle.ng_watch.specs.Keys.{key_cmp, begins};
+ghost use Rattle.ng_behaviour.specs.Keys.{key_cmp, begins};
 ghost use Rattle.ng_watch.specs.Ended.{is_over, over, without_over};
 ghost use Rattle.ng_watch.specs.Seen.{watching_of, watcher_of, WatchStands};
 ghost use Rattle.ng_watch.specs.Table.{watchers_of, found, kept_at, with_watch, without_watch, under, without_under, first_key, key_after, with_kept, AllStand};

@@ -6,7 +6,7 @@ use Rattle.ng_dom.specs.Nodes.{names_of}
 use Rattle.ng_drawing.specs.Nodes.{nodes}
 use Rattle.ng_drawing.specs.Template.{Part, Contents, parts_from}
 use Rattle.ng_parts.specs.ActsOf.{acts_of}
-use Rattle.ng_parts.specs.Numbering.{bound_numbers}
+use Rattle.ng_drawing.specs.Numbering.{bound_numbers}
 use Rattle.ng_parts.specs.Seen.{part_of, contents_of}
 use Rattle.ng_build.specs.Building.{unset, parent_name, Builds}
 use Rattle.ng_build.specs.Shape.{keys_by, linked_values, content_shape, shape, unfilled, own_node, part_holes, content_holes, holes}

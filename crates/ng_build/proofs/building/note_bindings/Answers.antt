@@ -3,7 +3,7 @@ use Rattle.std.specs.List.{flat_map}
 use Rattle.std.proofs.lemmas.List.{map-append}
 use Rattle.ng_drawing.specs.Template.{Binding}
 use Rattle.ng_parts.specs.ActsOf.{binding_of}
-use Rattle.ng_parts.specs.Numbering.{source_numbers}
+use Rattle.ng_drawing.specs.Numbering.{source_numbers}
 use Rattle.ng_build.proofs.Loops.{next_seen}
 use Rattle.ng_build.proofs.building.note_bindings.Goals as goal
 

@@ -2,7 +2,7 @@ use Rattle.std.proofs.Common.{◌≡◌, ◌++◌, drop, map}
 use Rattle.std.specs.List.{flat_map}
 use Rattle.ng_drawing.specs.Template.{Binding}
 use Rattle.ng_parts.specs.ActsOf.{binding_of}
-use Rattle.ng_parts.specs.Numbering.{source_numbers}
+use Rattle.ng_drawing.specs.Numbering.{source_numbers}
 use Rattle.ng_build.proofs.building.note_bindings.Given as goal
 
 abbrev pub invariant-loop-binding : goal.invariant-loop-binding

@@ -2,7 +2,7 @@ use Rattle.std.proofs.Common.{◌≡◌, ◌∙◌, Bool, Some, None, true, fals
 use Rattle.std.specs.BTreeMap.Range.{entries_between}
 use Rattle.std.specs.declared.ops.Bound.TheVariants.{Included, Unbounded}
 use Rattle.ng_base.specs.declared.path.Key.{Key}
-use Rattle.ng_watch.specs.Keys.{key_cmp, begins}
+use Rattle.ng_behaviour.specs.Keys.{key_cmp, begins}
 use Rattle.ng_build.proofs.Firsts.{none_on, first_on}
 use Rattle.ng_build.proofs.forgetting.first_on.Goals as goal
 

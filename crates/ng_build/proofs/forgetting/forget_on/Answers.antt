@@ -1,7 +1,7 @@
 use Rattle.std.proofs.Common.{◌≡◌, ◌∙◌, Some, sym, ap, filter, not}
 use Rattle.std.specs.Map.{lookup_key}
 use Rattle.ng_base.specs.declared.path.Key.{Key}
-use Rattle.ng_watch.specs.Keys.{key_cmp, begins}
+use Rattle.ng_behaviour.specs.Keys.{key_cmp, begins}
 use Rattle.ng_build.proofs.Firsts.{first_shorter, first_taken, none_passes}
 use Rattle.ng_build.proofs.Keys.{key_is, same_key}
 use Rattle.ng_build.proofs.forgetting.forget_on.Goals as goal

@@ -1,5 +1,5 @@
 use Rattle.std.proofs.Common.{◌≡◌, filter, not, length}
-use Rattle.ng_watch.specs.Keys.{begins}
+use Rattle.ng_behaviour.specs.Keys.{begins}
 use Rattle.ng_build.proofs.forgetting.forget_on.Given as goal
 
 abbrev pub invariant-loop-start : goal.invariant-loop-start

@@ -5,7 +5,7 @@ use Rattle.ng_base.specs.declared.value.Value.{Value}
 use Rattle.ng_control.specs.State.{checked_in}
 use Rattle.ng_control.specs.Typed.{IsCheckbox}
 use Rattle.ng_core.specs.declared.core_state.Core.{Core}
-use Rattle.ng_changes.specs.Inputs.{written}
+use Rattle.ng_settling.specs.Inputs.{written}
 use Rattle.ng_language.specs.Trees.{Trees}
 use Rattle.ng_link.specs.Events.{control_at}
 use Rattle.ng_build.specs.HandledOf.{control_of}

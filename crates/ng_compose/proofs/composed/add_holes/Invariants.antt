@@ -1,5 +1,5 @@
 use Rattle.std.proofs.Common.{◌≡◌, ◌++◌, map, drop}
-use Rattle.ng_parts.specs.Numbering.{hole_numbers}
+use Rattle.ng_drawing.specs.Numbering.{hole_numbers}
 use Rattle.ng_parts.specs.PieceOf.{piece_of}
 use Rattle.ng_compose.proofs.composed.add_holes.Given as goal
 

@@ -1,7 +1,7 @@
 use Rattle.std.proofs.Common.{◌∙◌}
 use Rattle.ng_drawing.specs.Template.{Binding}
 use Rattle.ng_parts.specs.ActsOf.{binding_of}
-use Rattle.ng_parts.specs.Numbering.{source_numbers}
+use Rattle.ng_drawing.specs.Numbering.{source_numbers}
 use Rattle.ng_compose.proofs.ComposingTurns.{flat_turn}
 use Rattle.ng_compose.proofs.composed.bound_numbers.Goals as goal
 

@@ -1,5 +1,5 @@
 use Rattle.std.proofs.Common.{◌∷◌, [], None, ap, sym, ◌∙◌, length, length-append, arith}
-use Rattle.ng_compose.specs.Composing.{padded}
+use Rattle.ng_drawing.specs.Composing.{padded}
 use Rattle.ng_compose.proofs.ComposingTurns.{padded_more, padded_all}
 use Rattle.ng_compose.proofs.composed.pad.Goals as goal
 

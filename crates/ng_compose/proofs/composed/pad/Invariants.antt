@@ -1,5 +1,5 @@
 use Rattle.std.proofs.Common.{◌≡◌, ◌-◌, length}
-use Rattle.ng_compose.specs.Composing.{padded}
+use Rattle.ng_drawing.specs.Composing.{padded}
 use Rattle.ng_compose.proofs.composed.pad.Given as goal
 
 abbrev pub invariant-loop-done : goal.invariant-loop-done

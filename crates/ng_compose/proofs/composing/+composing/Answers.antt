@@ -5,10 +5,11 @@ use Rattle.ng_drawing.specs.declared.origin.Content.{Content}
 use Rattle.ng_drawing.specs.Template.{Uses, Part, Contents, Parts, children, no_parts, parts_from, SiteScopes, Fragment}
 use Rattle.ng_parts.specs.ActsOf.{uses_of, scopes_of, acts_of}
 use Rattle.ng_compose.specs.ComposedOf.{region_of, composed_of, written_part}
-use Rattle.ng_copies.specs.Moved.{moved_by, moved_attributes, composed_acts}
-use Rattle.ng_compose.specs.Composing.{Composed, Region, ◌▸◌, gives, within, template_region, content_region, entered, alone, sites_on, parts_composed, contents_composed, composed_in, given_composed, used_by, used_composed, element_composed}
+use Rattle.ng_drawing.specs.Moved.{moved_by, moved_attributes, composed_acts}
+use Rattle.ng_drawing.specs.Composing.{Composed, Region, ◌▸◌, gives, within, template_region, content_region, entered, alone, sites_on, parts_composed, contents_composed, composed_in, given_composed, used_by, used_composed, element_composed}
 use Rattle.ng_parts.specs.FragmentOf.{fragment_of}
-use Rattle.ng_compose.specs.Kept.{templates_of, fragment_in, fragments_at}
+use Rattle.ng_drawing.specs.Named.{fragment_in, fragments_at}
+use Rattle.ng_compose.specs.Kept.{templates_of}
 use Rattle.ng_parts.specs.Seen.{part_of, contents_of, parts_of}
 use Rattle.ng_compose.proofs.ComposingTurns.{after_done, deep_is, there_is, full_is, written_is, element_is, template_is, entered_none, entered_some, enter_none, enter_some, element_same, parts_turn, parts_end, parts_over}
 use Rattle.ng_compose.proofs.Largest.{largest, fragment_within, enters, weight_less}

@@ -2,8 +2,9 @@ use Rattle.std.proofs.Common.{◌≡◌, ◌+◌, ◌*◌, suc, map, drop}
 use Rattle.ng_drawing.specs.Nodes.{part_nodes, content_nodes, nodes}
 use Rattle.ng_drawing.specs.Template.{parts_from}
 use Rattle.ng_compose.specs.ComposedOf.{region_of, composed_of}
-use Rattle.ng_compose.specs.Composing.{parts_composed, composed_in}
-use Rattle.ng_compose.specs.Kept.{templates_of, fragments_at}
+use Rattle.ng_drawing.specs.Composing.{parts_composed, composed_in}
+use Rattle.ng_drawing.specs.Named.{fragments_at}
+use Rattle.ng_compose.specs.Kept.{templates_of}
 use Rattle.ng_parts.specs.Seen.{part_of, contents_of, parts_of}
 use Rattle.ng_compose.proofs.ComposingTurns.{after_done}
 use Rattle.ng_compose.proofs.Largest.{weight, largest}

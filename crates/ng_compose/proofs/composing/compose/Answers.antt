@@ -1,6 +1,7 @@
 use Rattle.std.proofs.Common.{◌≡◌, ◌∙◌, true, ap, sym}
-use Rattle.ng_compose.specs.Composing.{composed_in, fuel_for, region_of, nothing_composed, fragment_by, is_directed}
-use Rattle.ng_compose.specs.Kept.{templates_of, fragments_at}
+use Rattle.ng_drawing.specs.Composing.{composed_in, fuel_for, region_of, nothing_composed, fragment_by, is_directed}
+use Rattle.ng_drawing.specs.Named.{fragments_at}
+use Rattle.ng_compose.specs.Kept.{templates_of}
 use Rattle.ng_parts.specs.FragmentOf.{fragment_of}
 use Rattle.ng_copies.specs.WholeOf.{whole_of}
 use Rattle.ng_drawing.specs.Template.{Fragment}

@@ -1,8 +1,9 @@
 use Rattle.std.proofs.Common.{◌≡◌, ◌∙◌, ℕ, suc, List, ap, arith}
 use Rattle.ng_drawing.specs.Template.{Outside, Parts, Fragment}
-use Rattle.ng_compose.specs.Composing.{Region, Composed, parts_composed, composed_in, fuel_for, region_of, nothing_composed, fragment_by}
+use Rattle.ng_drawing.specs.Composing.{Region, Composed, parts_composed, composed_in, fuel_for, region_of, nothing_composed, fragment_by}
 use Rattle.ng_parts.specs.FragmentOf.{fragment_of}
-use Rattle.ng_compose.specs.Kept.{templates_of, fragments_at}
+use Rattle.ng_drawing.specs.Named.{fragments_at}
+use Rattle.ng_compose.specs.Kept.{templates_of}
 use Rattle.ng_parts.specs.Seen.{parts_of}
 use Rattle.ng_compose.specs.ComposedOf.{composed_of}
 use Rattle.ng_compose.proofs.composing.compose_fragment.Goals as goal

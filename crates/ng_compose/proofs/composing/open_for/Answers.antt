@@ -4,8 +4,8 @@ use Rattle.std.specs.Prelude.{option_map}
 use Rattle.ng_drawing.specs.Template.{Binding, SiteScopes}
 use Rattle.ng_parts.specs.ActsOf.{binding_of, uses_of, outside_of}
 use Rattle.ng_compose.specs.ComposedOf.{region_of, composed_of}
-use Rattle.ng_compose.specs.Composing.{sites_on, scope_if}
-use Rattle.ng_parts.specs.Numbering.{source_numbers}
+use Rattle.ng_drawing.specs.Composing.{sites_on, scope_if}
+use Rattle.ng_drawing.specs.Numbering.{source_numbers}
 use Rattle.ng_parts.specs.declared.acts.Binding as code
 use Rattle.ng_compose.proofs.ComposingTurns.{scopes_is}
 use Rattle.ng_compose.proofs.composing.open_for.Goals as goal

@@ -4,7 +4,7 @@ use Rattle.ng_drawing.specs.Template.{Outside, Scopes}
 use Rattle.ng_drawing.specs.declared.origin.Content.{Content}
 use Rattle.ng_parts.specs.ActsOf.{uses_of, scopes_of}
 use Rattle.ng_compose.specs.ComposedOf.{region_of, composed_of}
-use Rattle.ng_compose.specs.Composing.{Composed, given_in, outside_in, scopes_for}
+use Rattle.ng_drawing.specs.Composing.{Composed, given_in, outside_in, scopes_for}
 use Rattle.ng_parts.specs.declared.acts.Uses as code
 use Rattle.ng_compose.proofs.composing.open_scopes.Goals as goal
 

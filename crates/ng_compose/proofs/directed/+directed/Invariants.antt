@@ -1,7 +1,7 @@
 use Rattle.std.proofs.Common.{◌≡◌, ◌+◌, ◌*◌, map, drop}
 use Rattle.ng_drawing.specs.Nodes.{part_nodes, content_nodes, nodes}
 use Rattle.ng_drawing.specs.Template.{parts_from}
-use Rattle.ng_compose.specs.Composing.{is_directed}
+use Rattle.ng_drawing.specs.Composing.{is_directed}
 use Rattle.ng_parts.specs.Seen.{part_of, contents_of, parts_of}
 use Rattle.ng_compose.proofs.directed.+directed.Given as goal
 

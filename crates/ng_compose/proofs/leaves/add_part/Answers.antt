@@ -2,7 +2,7 @@ use Rattle.std.proofs.Common.{◌≡◌, ◌∙◌, Option, ap, sym, subst}
 use Rattle.std.specs.Prelude.{option_map, OnOk}
 use Rattle.ng_drawing.specs.Template.{Parts}
 use Rattle.ng_compose.specs.ComposedOf.{written_part}
-use Rattle.ng_compose.specs.Composing.{followed}
+use Rattle.ng_drawing.specs.Composing.{followed}
 use Rattle.ng_parts.specs.Seen.{part_of, parts_of}
 use Rattle.ng_parts.specs.declared.parts.Part.{Part}
 use Rattle.ng_compose.proofs.ComposingTurns.{followed-none, followed-one}

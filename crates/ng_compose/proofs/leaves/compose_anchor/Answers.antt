@@ -2,7 +2,7 @@ use Rattle.std.proofs.Common.{◌∙◌, ap, sym, map}
 use Rattle.std.specs.Prelude.{slice_get}
 use Rattle.ng_parse.specs.ProgramOf.{program}
 use Rattle.ng_compose.specs.ComposedOf.{region_of, composed_of}
-use Rattle.ng_compose.specs.Composing.{alone, has_site}
+use Rattle.ng_drawing.specs.Composing.{alone, has_site}
 use Rattle.ng_compose.proofs.ComposingTurns.{anchor_on, anchor_off}
 use Rattle.ng_parts.specs.Seen.{part_of}
 use Rattle.ng_compose.proofs.leaves.compose_anchor.Goals as goal

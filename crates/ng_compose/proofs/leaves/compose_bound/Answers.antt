@@ -1,8 +1,8 @@
 use Rattle.std.proofs.Common.{◌∙◌, Bool, ap, sym}
 use Rattle.ng_drawing.specs.Template.{Contents, Parts, children, bound, no_parts}
 use Rattle.ng_compose.specs.ComposedOf.{composed_of}
-use Rattle.ng_copies.specs.Moved.{moved_by}
-use Rattle.ng_compose.specs.Composing.{◌▸◌, gives, numbers}
+use Rattle.ng_drawing.specs.Moved.{moved_by}
+use Rattle.ng_drawing.specs.Composing.{◌▸◌, gives, numbers}
 use Rattle.ng_parts.specs.Seen.{contents_of}
 use Rattle.ng_compose.proofs.ComposingTurns.{full_is, written_is}
 use Rattle.ng_compose.proofs.leaves.compose_bound.Goals as goal

@@ -3,8 +3,8 @@ use Rattle.ng_drawing.specs.Template.{Part, anchor_part, SiteScopes}
 use Rattle.ng_language.specs.Trees.{Trees}
 use Rattle.ng_parse.specs.ProgramOf.{program}
 use Rattle.ng_compose.specs.ComposedOf.{region_of, composed_of}
-use Rattle.ng_copies.specs.Moved.{moved_by}
-use Rattle.ng_compose.specs.Composing.{alone, sites_on}
+use Rattle.ng_drawing.specs.Moved.{moved_by}
+use Rattle.ng_drawing.specs.Composing.{alone, sites_on}
 use Rattle.ng_compose.proofs.ComposingTurns.{anchor_is}
 use Rattle.ng_compose.proofs.leaves.compose_outlet.Goals as goal
 

@@ -1,9 +1,9 @@
 use Rattle.std.proofs.Common.{◌∙◌, ◌++◌, List, ℕ, ap, map}
 use Rattle.ng_drawing.specs.Template.{Part, Piece, text_part, SiteScopes}
 use Rattle.ng_compose.specs.ComposedOf.{region_of, composed_of}
-use Rattle.ng_copies.specs.Moved.{moved_by, moved_piece}
-use Rattle.ng_compose.specs.Composing.{alone, sites_on, on}
-use Rattle.ng_parts.specs.Numbering.{hole_numbers}
+use Rattle.ng_drawing.specs.Moved.{moved_by, moved_piece}
+use Rattle.ng_drawing.specs.Composing.{alone, sites_on, on}
+use Rattle.ng_drawing.specs.Numbering.{hole_numbers}
 use Rattle.ng_compose.proofs.ComposingTurns.{text_is}
 use Rattle.ng_compose.proofs.leaves.compose_text.Goals as goal
 

@@ -2,7 +2,7 @@ use Rattle.std.proofs.Common.{◌∙◌, [], List, ℕ, true, ap}
 use Rattle.ng_drawing.specs.Template.{Acts, Part, element_part, children, no_parts}
 use Rattle.ng_parts.specs.ActsOf.{acts_of}
 use Rattle.ng_compose.specs.ComposedOf.{composed_of}
-use Rattle.ng_compose.specs.Composing.{alone}
+use Rattle.ng_drawing.specs.Composing.{alone}
 use Rattle.ng_compose.proofs.leaves.deep_part.Goals as goal
 
 pub returns : goal.returns

@@ -3,7 +3,7 @@ use Rattle.std.specs.Prelude.{IfOk, option_map}
 use Rattle.ng_drawing.specs.Template.{Parts, no_parts}
 use Rattle.ng_parse.specs.ProgramOf.{program}
 use Rattle.ng_compose.specs.ComposedOf.{region_of, composed_of, written_part}
-use Rattle.ng_compose.specs.Composing.{Composed, anchor_composed}
+use Rattle.ng_drawing.specs.Composing.{Composed, anchor_composed}
 use Rattle.ng_parts.specs.Seen.{part_of}
 use Rattle.ng_compose.proofs.ComposingTurns.{full_is, written_is}
 use Rattle.ng_compose.proofs.leaves.write_anchor.Goals as goal

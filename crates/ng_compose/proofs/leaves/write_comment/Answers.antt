@@ -2,7 +2,7 @@ use Rattle.std.proofs.Common.{◌∙◌, Bool, ap, sym}
 use Rattle.std.specs.Prelude.{List, ℕ}
 use Rattle.ng_drawing.specs.Template.{comment_part, no_parts}
 use Rattle.ng_compose.specs.ComposedOf.{composed_of}
-use Rattle.ng_compose.specs.Composing.{gives, alone}
+use Rattle.ng_drawing.specs.Composing.{gives, alone}
 use Rattle.ng_parts.specs.Seen.{part_of}
 use Rattle.ng_compose.proofs.ComposingTurns.{full_is, written_is}
 use Rattle.ng_compose.proofs.leaves.write_comment.Goals as goal

@@ -1,7 +1,7 @@
 use Rattle.std.proofs.Common.{◌∙◌, Bool, ap, sym}
 use Rattle.ng_drawing.specs.Template.{no_parts}
 use Rattle.ng_compose.specs.ComposedOf.{region_of, composed_of}
-use Rattle.ng_compose.specs.Composing.{alone, text_composed}
+use Rattle.ng_drawing.specs.Composing.{alone, text_composed}
 use Rattle.ng_parts.specs.Seen.{part_of}
 use Rattle.ng_compose.proofs.ComposingTurns.{full_is, written_is}
 use Rattle.ng_compose.proofs.leaves.write_text.Goals as goal

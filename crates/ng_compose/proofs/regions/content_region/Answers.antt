@@ -2,7 +2,7 @@ use Rattle.std.proofs.Common.{◌∙◌, List, Option, ap, map}
 use Rattle.ng_drawing.specs.declared.origin.Content.{Content}
 use Rattle.ng_parts.specs.ActsOf.{outside_of}
 use Rattle.ng_compose.specs.ComposedOf.{region_of}
-use Rattle.ng_compose.specs.Composing.{tail_of}
+use Rattle.ng_drawing.specs.Composing.{tail_of}
 use Rattle.ng_parts.specs.FragmentOf.{fragment_of}
 use Rattle.ng_compose.proofs.ComposingTurns.{same_region, tail_map}
 use Rattle.ng_compose.proofs.regions.content_region.Goals as goal

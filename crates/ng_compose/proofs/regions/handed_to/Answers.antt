@@ -2,7 +2,7 @@ use Rattle.std.proofs.Common.{◌+◌, ◌++◌, ◌∷◌, [], ℕ, List, ap, s
 use Rattle.std.proofs.lemmas.List.{length-map}
 use Rattle.ng_drawing.specs.Template.{Outside, handed}
 use Rattle.ng_parts.specs.ActsOf.{outside_of}
-use Rattle.ng_compose.specs.Composing.{handed_all}
+use Rattle.ng_drawing.specs.Composing.{handed_all}
 use Rattle.ng_compose.proofs.ComposingTurns.{handed_step}
 use Rattle.ng_compose.proofs.regions.handed_to.Goals as goal
 

@@ -1,6 +1,6 @@
 use Rattle.std.proofs.Common.{◌≡◌, ◌++◌, length, map, drop}
 use Rattle.ng_parts.specs.ActsOf.{outside_of}
-use Rattle.ng_compose.specs.Composing.{handed_all}
+use Rattle.ng_drawing.specs.Composing.{handed_all}
 use Rattle.ng_compose.proofs.regions.handed_to.Given as goal
 
 abbrev pub invariant-loop : goal.invariant-loop

@@ -2,7 +2,7 @@ use Rattle.std.proofs.Common.{◌∙◌, List, Option, ap, map}
 use Rattle.ng_drawing.specs.declared.origin.Content.{Content}
 use Rattle.ng_parts.specs.ActsOf.{uses_of, outside_of, scopes_of}
 use Rattle.ng_compose.specs.ComposedOf.{region_of}
-use Rattle.ng_compose.specs.Composing.{outsides_by}
+use Rattle.ng_drawing.specs.Composing.{outsides_by}
 use Rattle.ng_parts.specs.FragmentOf.{fragment_of}
 use Rattle.ng_parts.specs.declared.acts.Outside.{Outside}
 use Rattle.ng_compose.proofs.ComposingTurns.{region_same}

@@ -1,6 +1,6 @@
 use Rattle.std.proofs.Common.{◌≡◌, ◌++◌, map, drop}
 use Rattle.ng_parts.specs.AttributeOf.{attribute_of}
-use Rattle.ng_copies.specs.Moved.{moved_by, moved_attributes}
+use Rattle.ng_drawing.specs.Moved.{moved_by, moved_attributes}
 use Rattle.ng_copies.proofs.moving.moved_attributes.Given as goal
 
 abbrev pub invariant-loop-one : goal.invariant-loop-one

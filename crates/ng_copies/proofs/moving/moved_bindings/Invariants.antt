@@ -1,6 +1,6 @@
 use Rattle.std.proofs.Common.{◌≡◌, ◌++◌, map, drop}
 use Rattle.ng_parts.specs.ActsOf.{binding_of}
-use Rattle.ng_copies.specs.Moved.{moved_by, moved_binding}
+use Rattle.ng_drawing.specs.Moved.{moved_by, moved_binding}
 use Rattle.ng_copies.proofs.moving.moved_bindings.Given as goal
 
 abbrev pub invariant-loop-binding : goal.invariant-loop-binding

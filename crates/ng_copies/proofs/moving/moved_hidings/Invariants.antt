@@ -1,6 +1,6 @@
 use Rattle.std.proofs.Common.{◌≡◌, ◌++◌, map, drop}
 use Rattle.ng_parts.specs.AttributeOf.{hiding_of}
-use Rattle.ng_copies.specs.Moved.{moved_by, moved_hiding}
+use Rattle.ng_drawing.specs.Moved.{moved_by, moved_hiding}
 use Rattle.ng_copies.proofs.moving.moved_hidings.Given as goal
 
 abbrev pub invariant-loop-hiding : goal.invariant-loop-hiding

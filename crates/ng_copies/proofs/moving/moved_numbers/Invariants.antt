@@ -1,5 +1,5 @@
 use Rattle.std.proofs.Common.{◌≡◌, ◌++◌, map, drop}
-use Rattle.ng_copies.specs.Moved.{moved_by}
+use Rattle.ng_drawing.specs.Moved.{moved_by}
 use Rattle.ng_copies.proofs.moving.moved_numbers.Given as goal
 
 abbrev pub invariant-loop-n : goal.invariant-loop-n

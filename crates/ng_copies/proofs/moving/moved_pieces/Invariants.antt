@@ -1,5 +1,5 @@
 use Rattle.std.proofs.Common.{◌≡◌, ◌++◌, map, drop}
-use Rattle.ng_copies.specs.Moved.{moved_by, moved_piece}
+use Rattle.ng_drawing.specs.Moved.{moved_by, moved_piece}
 use Rattle.ng_parts.specs.PieceOf.{piece_of}
 use Rattle.ng_copies.proofs.moving.moved_pieces.Given as goal
 

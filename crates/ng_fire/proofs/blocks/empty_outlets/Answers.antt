@@ -7,7 +7,7 @@ use Rattle.ng_fire.specs.FireOf.{firing}
 use Rattle.ng_fire.specs.Serving.{IsThere, AreDue}
 use Rattle.ng_instances.specs.Due.{Due, due_of}
 use Rattle.ng_link.specs.State.{state_of, templates_of}
-use Rattle.ng_compose.specs.Kept.{Named}
+use Rattle.ng_drawing.specs.Named.{Named}
 use Rattle.ng_value.specs.Snaps.{snap_of}
 use Rattle.ng_fire.proofs.blocks.empty_outlets.Goals as goal
 

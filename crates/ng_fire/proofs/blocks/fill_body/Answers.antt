@@ -5,7 +5,7 @@ use Rattle.ng_drawing.specs.declared.origin.Home.{Home}
 use Rattle.ng_drawing.specs.declared.origin.Origin.{Origin}
 use Rattle.ng_instances.specs.Due.{Due, due_of}
 use Rattle.ng_link.specs.State.{templates_of}
-use Rattle.ng_compose.specs.Kept.{fragment_for}
+use Rattle.ng_drawing.specs.Named.{fragment_for}
 use Rattle.ng_fire.proofs.Named.{body_there, plain_there}
 use Rattle.ng_rows.specs.Chosen.{body_of}
 use Rattle.ng_fire.proofs.blocks.fill_body.Goals as goal

@@ -8,7 +8,7 @@ use Rattle.ng_instances.specs.Due.{Due, due_of}
 use Rattle.ng_fire.specs.Serving.{IsAt}
 use Rattle.ng_link.specs.State.{state_of, templates_of}
 use Rattle.ng_parts.specs.FragmentOf.{filling_of}
-use Rattle.ng_compose.specs.Kept.{fragment_in, fragment_for}
+use Rattle.ng_drawing.specs.Named.{fragment_in, fragment_for}
 use Rattle.ng_fire.proofs.Named.{body_there, plain_there}
 use Rattle.ng_rows.specs.Chosen.{body_of}
 use Rattle.ng_fire.proofs.blocks.fill_outlet.Goals as goal

@@ -9,7 +9,7 @@ use Rattle.ng_fire.specs.FireOf.{firing}
 use Rattle.ng_fire.specs.Serving.{IsThere}
 use Rattle.ng_instances.specs.Due.{Due, due_of}
 use Rattle.ng_link.specs.State.{state_of, templates_of}
-use Rattle.ng_compose.specs.Kept.{Named}
+use Rattle.ng_drawing.specs.Named.{Named}
 use Rattle.ng_value.specs.Snaps.{snap_of}
 use Rattle.ng_write.proofs.More.{view_more}
 use Rattle.ng_fire.proofs.blocks.fill_outlets.Goals as goal

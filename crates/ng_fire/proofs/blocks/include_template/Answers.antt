@@ -9,14 +9,15 @@ use Rattle.ng_fire.specs.SiteFires.{including_origin, template_filled}
 use Rattle.ng_instances.specs.Due.{Due, due_of}
 use Rattle.ng_link.specs.State.{templates_of}
 use Rattle.ng_compose.specs.Kept as kept
-use Rattle.ng_compose.specs.Kept.{Named, named_from}
+use Rattle.ng_drawing.specs.Named.{Named, fragment_for}
+use Rattle.ng_compose.specs.Kept.{named_from}
 use Rattle.ng_fire.proofs.blocks.include_template.Goals as goal
 
 pub make_body-requires-clause-template : goal.make_body-requires-clause-template
 make_body-requires-clause-template c =
     let t = c.in-Some.template in
     let all : List Named = templates_of c.args.works.now in
-    subst (λ (h : Home). IsSome (kept.fragment_for all (including_origin h c.args.body t.0))) (sym c.in_ok-copied.ensures)
+    subst (λ (h : Home). IsSome (fragment_for all (including_origin h c.args.body t.0))) (sym c.in_ok-copied.ensures)
     (named_there all c.args.due.now.home c.args.body t.0 c.requires.body
     (subst (λ (ts : List Named). t.0 < length ts) c.templates.ensures
     (some_is (λ (x : TplId). x.0 < length (kept.templates_of c.templates.result.now)) c.named.result t c.named.ensures.there c.in-Some.is)))

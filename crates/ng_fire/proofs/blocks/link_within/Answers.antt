@@ -6,7 +6,7 @@ use Rattle.ng_changes.proofs.ScopePaths.{AreMore, more_count}
 use Rattle.ng_steps.specs.LinkingOf.{AreBelow}
 use Rattle.ng_instances.specs.PlaceOf.{place_of}
 use Rattle.ng_link.specs.State.{State, state_of, templates_of}
-use Rattle.ng_compose.specs.Kept.{fragment_for}
+use Rattle.ng_drawing.specs.Named.{fragment_for}
 use Rattle.ng_fire.proofs.blocks.link_within.Goals as goal
 
 pub link_at-requires-clause-outsides : goal.link_at-requires-clause-outsides

@@ -20,7 +20,7 @@ use Rattle.ng_instances.specs.Changing.{Place, in_outlet}
 use Rattle.ng_instances.specs.Instances.{Instances, instance_path, linked_at}
 use Rattle.ng_link.specs.FreePlace.{IsNewBelow}
 use Rattle.ng_link.specs.State.{State, state_of, templates_of}
-use Rattle.ng_compose.specs.Kept.{Named, fragment_for}
+use Rattle.ng_drawing.specs.Named.{Named, fragment_for}
 use Rattle.ng_fire.proofs.blocks.make_body.Goals as goal
 
 pub make_child-requires-clause-scope : goal.make_child-requires-clause-scope

@@ -9,7 +9,7 @@ use Rattle.ng_changes.proofs.Entries.{if_ok}
 use Rattle.ng_changes.proofs.Runs.{value_run_state}
 use Rattle.ng_changes.proofs.Wholes.{whole_run}
 use Rattle.ng_changes.specs.Changes.{has_additions}
-use Rattle.ng_changes.specs.ListenerRuns.{listener_run}
+use Rattle.ng_settling.specs.ListenerRuns.{listener_run}
 use Rattle.ng_link.specs.State.{listening_of}
 use Rattle.ng_value.specs.Snaps.{snap_of}
 use Rattle.ng_fire.proofs.firing.run_declared.Goals as goal

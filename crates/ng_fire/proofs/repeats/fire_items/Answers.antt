@@ -6,14 +6,18 @@ use Rattle.ng_base.specs.declared.fault.Fault.{Fault}
 use Rattle.ng_behaviour.specs.Scopes.{object_at}
 use Rattle.ng_blocks.specs.declared.keys.TrackKey.{TrackKey}
 use Rattle.ng_drawing.specs.Template.{Repeated}
-use Rattle.ng_fire.proofs.BlockBodies.{at_stands}
+use Rattle.ng_changes.proofs.Answered.{there}
+use Rattle.ng_fire.proofs.BlockBodies.{at_stands, outlet_there}
 use Rattle.ng_fire.proofs.KeptRows.{as_many}
 use Rattle.ng_fire.proofs.RowsTaken.{keeps_same}
 use Rattle.ng_fire.specs.Blocks.{Firing}
 use Rattle.ng_fire.specs.FireOf.{firing}
-use Rattle.ng_fire.specs.Repeats.{by_keys, rows_at}
+use Rattle.ng_fire.specs.Repeats.{bodies_or, by_keys, rows_at}
 use Rattle.ng_rows.specs.Tracking.{Item, track_keys}
 use Rattle.ng_rows.specs.TrackingOf.{ItemsStand, items_of}
+use Rattle.ng_instances.specs.Instances.{linked_at}
+use Rattle.ng_instances.specs.PlaceOf.{outlet_of_linked}
+use Rattle.ng_instances.specs.InstanceOf.{body_of}
 use Rattle.ng_link.specs.State.{state_of}
 use Rattle.ng_parts.specs.RepeatedOf.{repeated_of}
 use Rattle.ng_fire.proofs.repeats.fire_items.Goals as goal
@@ -33,6 +37,14 @@ track_keys-tracked-requires-clause-object c =
 
 pub track_keys-tracked-requires-clause-items : goal.track_keys-tracked-requires-clause-items
 track_keys-tracked-requires-clause-items c = subst (λ (xs : List Item). ItemsStand (length c.args.works.now.core.store) xs) (sym (ap items_of c.as_slice.ensures.value)) c.requires.items
+
+-- the outlet is there, and so its rows are those that are copied
+pub fire_keyed-requires-clause-stand : goal.fire_keyed-requires-clause-stand
+fire_keyed-requires-clause-stand c =
+    let is = (state_of c.args.works.now).instances in
+    let spot = c.args.spot.now in
+    let one = there (outlet_of_linked spot.outlet (linked_at spot.holder.now is)) (outlet_there spot.holder.now spot.outlet spot.scope.0 (map (λ (n : ScopeId). n.0) spot.outsides.now) is c.requires.spot.outlet) in
+    ap bodies_or one.1 ∙ (sym (c.in_ok-bodies.ensures one.0 one.1) ∙ sym (ap (map body_of) c.as_slice-rows.ensures.value))
 
 pub fire_keyed-requires-clause-as_many : goal.fire_keyed-requires-clause-as_many
 fire_keyed-requires-clause-as_many c =

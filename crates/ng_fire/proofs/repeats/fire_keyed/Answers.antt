@@ -21,22 +21,13 @@ use Rattle.ng_link.specs.State.{state_of}
 use Rattle.ng_parts.specs.RepeatedOf.{repeated_of}
 use Rattle.ng_fire.proofs.repeats.fire_keyed.Goals as goal
 
--- the outlet is there, and so its rows are those that are copied
-pub fire_plan-requires-clause-stand : goal.fire_plan-requires-clause-stand
-fire_plan-requires-clause-stand c =
-    let is = (state_of c.args.works.now).instances in
-    let spot = c.args.spot.now in
-    let one = there (outlet_of_linked spot.outlet (linked_at spot.holder.now is)) (outlet_there spot.holder.now spot.outlet spot.scope.0 (map (λ (n : ScopeId). n.0) spot.outsides.now) is c.requires.spot.outlet) in
-    ap bodies_or one.1 ∙ (sym (c.in_ok-bodies.ensures one.0 one.1) ∙ sym (ap (map body_of) c.as_slice-in-Ok.ensures.value))
-
 pub fire_plan-requires-clause-old : goal.fire_plan-requires-clause-old
 fire_plan-requires-clause-old c =
-    subst (λ (bs : List Body). has_double (keys_of bs) ≡ false) (ap (map body_of) (c.as_slice.ensures.value ∙ sym c.as_slice-in-Ok.ensures.value)) c.in_ok-f.ensures.old
+    c.in_ok-f.ensures.old
 
 pub fire_plan-requires-clause-plan : goal.fire_plan-requires-clause-plan
 fire_plan-requires-clause-plan c =
-    plan_is (planned (keys_of (map body_of c.as_slice-in-Ok.result.now)) c.args.keys.now) c.in-Ok.plan
-    (subst (λ (bs : List Body). as_fault (planned (keys_of bs) c.args.keys.now) ≡ Ok c.in-Ok.plan) (ap (map body_of) (c.as_slice.ensures.value ∙ sym c.as_slice-in-Ok.ensures.value)) (sym c.in_ok-f.ensures.plan ∙ c.in-Ok.is))
+    plan_is (planned (keys_of (map body_of c.args.bodies.now)) c.args.keys.now) c.in-Ok.plan (sym c.in_ok-f.ensures.plan ∙ c.in-Ok.is)
 
 pub returns-in-Err-clause-fired : goal.returns-in-Err-clause-fired
 returns-in-Err-clause-fired c =
@@ -48,8 +39,7 @@ returns-in-Err-clause-fired c =
     let outs : List ℕ = map (λ (n : ScopeId). n.0) spot.outsides.now in
     let r : Repeated = repeated_of c.args.repeated.now in
     let g : Firing = firing w c.args.told.now in
-    let one = there (outlet_of_linked spot.outlet (linked_at holder is)) (outlet_there holder spot.outlet spot.scope.0 (map (λ (n : ScopeId). n.0) spot.outsides.now) is c.requires.spot.outlet) in
-    let stand : rows_at holder spot.outlet is ≡ map body_of c.as_slice.result.now = ap bodies_or one.1 ∙ (sym (c.in_ok-bodies.ensures one.0 one.1) ∙ sym (ap (map body_of) c.as_slice.ensures.value)) in
+    let stand = c.requires.stand in
     let refused : as_fault (planned (keys_of (rows_at holder spot.outlet is)) c.args.keys.now) ≡ Err c.in-Err.f =
     ap (λ (bs : List Body). as_fault (planned (keys_of bs) c.args.keys.now)) stand ∙ (sym c.in_ok-f.ensures.plan ∙ c.in-Err.is) in
     c.fault.ensures.fired
@@ -65,8 +55,7 @@ returns-in-Ok-clause-fired c =
     let outs : List ℕ = map (λ (n : ScopeId). n.0) spot.outsides.now in
     let r : Repeated = repeated_of c.args.repeated.now in
     let g : Firing = firing w c.args.told.now in
-    let one = there (outlet_of_linked spot.outlet (linked_at holder is)) (outlet_there holder spot.outlet spot.scope.0 (map (λ (n : ScopeId). n.0) spot.outsides.now) is c.requires.spot.outlet) in
-    let stand : rows_at holder spot.outlet is ≡ map body_of c.as_slice-in-Ok.result.now = ap bodies_or one.1 ∙ (sym (c.in_ok-bodies.ensures one.0 one.1) ∙ sym (ap (map body_of) c.as_slice-in-Ok.ensures.value)) in
+    let stand = c.requires.stand in
     ok_then c.fire_plan.result c.fire_plan.ensures.fired
     (λ fired. fired ∙ sym (ap (λ (bs : List Body). by_keys holder scope outs spot.outlet spot.origin r bs (items_of c.args.items.items) (Ok c.args.keys.now) g) stand))
 

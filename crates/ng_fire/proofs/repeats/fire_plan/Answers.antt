@@ -13,7 +13,7 @@ use Rattle.ng_fire.specs.FireOf.{firing}
 use Rattle.ng_rows.specs.RepeatRows.{Row, as_fault, kept_rows}
 use Rattle.ng_fire.specs.Repeats.{bodies_at, by_plan, rows_changed}
 use Rattle.ng_rows.specs.RepeatsOf.{RowsOfStand, rows_of}
-use Rattle.ng_fire.specs.RowsInOrder.{IsPart, in_order}
+use Rattle.ng_rows.specs.RowsInOrder.{IsPart, in_order}
 use Rattle.ng_fire.specs.RowsKnown.{KeptOrGone}
 use Rattle.ng_fire.specs.Serving.{BodiesStay}
 use Rattle.ng_rows.specs.TrackingOf.{items_of}

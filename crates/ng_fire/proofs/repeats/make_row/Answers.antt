@@ -32,7 +32,7 @@ use Rattle.ng_link.specs.State.{State, state_of, templates_of}
 use Rattle.ng_members.specs.Leaves.{Local}
 use Rattle.ng_store.proofs.Sound.{stands_more}
 use Rattle.ng_parts.specs.RepeatedOf.{repeated_of}
-use Rattle.ng_compose.specs.Kept.{Named, fragment_for}
+use Rattle.ng_drawing.specs.Named.{Named, fragment_for}
 use Rattle.ng_fire.proofs.repeats.make_row.Goals as goal
 
 pub make_child-requires-clause-scope : goal.make_child-requires-clause-scope

@@ -1,6 +1,6 @@
 use Rattle.std.proofs.Common.{◌≡◌, ◌++◌, List, drop, map}
 use Rattle.ng_base.specs.declared.name.ScopeId.{ScopeId}
-use Rattle.ng_compose.specs.Kept.{Named}
+use Rattle.ng_drawing.specs.Named.{Named}
 use Rattle.ng_instances.specs.InstanceOf.{body_of, instances_of}
 use Rattle.ng_link.specs.Events.{scopes_at}
 use Rattle.ng_link.specs.Walking.{AreOf}

@@ -11,7 +11,7 @@ use Rattle.ng_drawing.specs.InstanceOf.{state_of as seen_state, instance_of as s
 use Rattle.ng_drawing.specs.Roles.{Role}
 use Rattle.ng_drawing.specs.RolesOf.{role_of}
 use Rattle.ng_drawing.specs.declared.origin.Origin.{Origin}
-use Rattle.ng_compose.specs.Kept.{fragments_in}
+use Rattle.ng_drawing.specs.Named.{fragments_in}
 use Rattle.ng_instances.specs.Instances.{Body, OutletState, Linked, is_path, linked_at, read_bodies}
 use Rattle.ng_instances.specs.InstanceOf.{body_of, outlet_of, linked_of}
 use Rattle.ng_link.specs.State.{templates_of, site_states, roles_in, groups_in, nothing_linked, instance_join, instance_at, body_at, state_of}

@@ -2,7 +2,7 @@ use Rattle.std.proofs.Common.{◌≡◌, ◌+◌, ◌*◌, ◌++◌, List, drop,
 use Rattle.ng_drawing.specs.Instance.{instances_from}
 use Rattle.ng_drawing.specs.InstanceOf.{instance_of as seen_instance, group_of as seen_group}
 use Rattle.ng_drawing.specs.RolesOf.{role_of}
-use Rattle.ng_compose.specs.Kept.{fragments_in}
+use Rattle.ng_drawing.specs.Named.{fragments_in}
 use Rattle.ng_instances.specs.Instances.{Body, OutletState, read_bodies}
 use Rattle.ng_instances.specs.InstanceOf.{body_of, outlet_of}
 use Rattle.ng_link.specs.State.{roles_in, groups_in, body_at, state_of, templates_of}

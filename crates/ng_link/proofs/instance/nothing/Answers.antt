@@ -8,7 +8,8 @@ use Rattle.ng_drawing.specs.declared.instance.SiteState as code_state
 use Rattle.ng_drawing.specs.declared.instance.Instances as code_instances
 use Rattle.ng_drawing.specs.declared.origin.Home.{Home}
 use Rattle.ng_drawing.specs.declared.origin.Origin.{Origin}
-use Rattle.ng_compose.specs.Kept.{named_of, fragments_in}
+use Rattle.ng_drawing.specs.Named.{fragments_in}
+use Rattle.ng_compose.specs.Kept.{named_of}
 use Rattle.ng_link.specs.State.{templates_of}
 use Rattle.ng_link.proofs.Fragments.{fragment_past}
 use Rattle.ng_link.proofs.Rolled.{instance_made}

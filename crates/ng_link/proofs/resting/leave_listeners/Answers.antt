@@ -1,5 +1,5 @@
 use Rattle.std.proofs.Common.{◌∙◌, ap, not}
-use Rattle.ng_watch.specs.Keys.{begins}
+use Rattle.ng_behaviour.specs.Keys.{begins}
 use Rattle.ng_link.specs.State.{declared_of, listening_of}
 use Rattle.ng_build.proofs.Tables.{filtered-seen}
 use Rattle.ng_link.proofs.resting.leave_listeners.Goals as goal

@@ -1,7 +1,7 @@
 use Rattle.std.proofs.Common.{◌≡◌, Option, true, ap, sym, ◌∙◌, option_map}
 use Rattle.ng_value.specs.Snaps.{snap_of}
 use Rattle.ng_value.specs.declared.snapshot.Snap.{Snap}
-use Rattle.ng_watch.specs.Keys.{key_cmp}
+use Rattle.ng_behaviour.specs.Keys.{key_cmp}
 use Rattle.ng_instances.specs.Instances.{is_site}
 use Rattle.ng_instances.specs.InstanceOf.{instances_of}
 use Rattle.ng_link.specs.State.{resting_of}

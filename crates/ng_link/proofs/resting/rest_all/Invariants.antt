@@ -1,6 +1,6 @@
 use Rattle.std.proofs.Common.{◌≡◌, List, length}
 use Rattle.std.specs.Vec.Iter.{into_iter_items}
-use Rattle.ng_compose.specs.Kept.{Named}
+use Rattle.ng_drawing.specs.Named.{Named}
 use Rattle.ng_watch.specs.Table.{watchers_of}
 use Rattle.ng_link.specs.Calls.{rested}
 use Rattle.ng_instances.specs.InstanceOf.{instances_of}

@@ -1,5 +1,5 @@
 use Rattle.std.proofs.Common.{◌≡◌, ◌∙◌, List, ℕ, Bool, Some, None, true, false, cond, sym, ap}
-use Rattle.ng_watch.specs.Keys.{begins}
+use Rattle.ng_behaviour.specs.Keys.{begins}
 use Rattle.ng_build.proofs.Firsts.{none_below, first_below}
 use Rattle.ng_link.proofs.unlinking.first_inner.Goals as goal
 

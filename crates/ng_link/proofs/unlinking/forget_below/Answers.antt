@@ -1,7 +1,7 @@
 use Rattle.std.proofs.Common.{◌≡◌, ◌∙◌, Some, sym, ap, filter, not}
 use Rattle.std.specs.Map.{lookup_key}
 use Rattle.ng_base.specs.Order.{path_cmp}
-use Rattle.ng_watch.specs.Keys.{begins}
+use Rattle.ng_behaviour.specs.Keys.{begins}
 use Rattle.ng_instances.specs.declared.instances.Linked.{Linked}
 use Rattle.ng_build.proofs.Firsts.{first_shorter, first_taken, none_passes}
 use Rattle.ng_link.proofs.FirstOwners.{owners_step, owners_none}

@@ -7,7 +7,7 @@ use Rattle.ng_drawing.specs.declared.origin.Home.{Home}
 use Rattle.ng_drawing.specs.declared.origin.Origin.{Origin}
 use Rattle.ng_steps.specs.LinkingOf.{AreBelow}
 use Rattle.ng_link.specs.State.{State, state_of, templates_of}
-use Rattle.ng_compose.specs.Kept.{Named, fragment_for}
+use Rattle.ng_drawing.specs.Named.{Named, fragment_for}
 use Rattle.ng_watch.specs.Table.{watchers_of}
 use Rattle.ng_page.specs.Opening.{linked_on, page_origin}
 use Rattle.ng_page.proofs.DigestsStay.{AreFitting}

@@ -1,7 +1,8 @@
 use Rattle.std.proofs.Common.{◌≡◌, ◌∙◌, ◌<◌, List, [], ◌∷◌, None, ap, arith, length, subst, sym}
 use Rattle.ng_steps.proofs.Placed.{templates_regular}
 use Rattle.ng_link.specs.State.{templates_of}
-use Rattle.ng_compose.specs.Kept.{Named, templates_of as kept_templates}
+use Rattle.ng_drawing.specs.Named.{Named}
+use Rattle.ng_compose.specs.Kept.{templates_of as kept_templates}
 use Rattle.ng_parts.specs.TemplateOf.{template_of}
 use Rattle.ng_page.specs.Opening.{linked_on}
 use Rattle.ng_page.proofs.Opened.{one_added, first_name, each_regular}

@@ -12,7 +12,8 @@ use Rattle.ng_link.specs.declared.works.Works.{Works}
 use Rattle.ng_parse.specs.ProgramOf.{program}
 use Rattle.ng_parts.specs.Directing.{Programs}
 use Rattle.ng_compose.specs.DirectivesOf.{directives_of}
-use Rattle.ng_compose.specs.Kept.{Named, templates_of as kept_templates}
+use Rattle.ng_drawing.specs.Named.{Named}
+use Rattle.ng_compose.specs.Kept.{templates_of as kept_templates}
 use Rattle.ng_page.specs.Opening.{templates_for}
 use Rattle.ng_page.proofs.Prepared.{whole_new, prepared_by}
 use Rattle.ng_commands.proofs.Ran.{whole_ran}

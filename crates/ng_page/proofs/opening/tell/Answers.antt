@@ -1,7 +1,7 @@
 use Rattle.std.proofs.Common.{◌∙◌, ◌<◌, List, Option, ap, length, subst, sym}
 use Rattle.ng_base.specs.declared.fault.Fault.{Fault}
 use Rattle.ng_link.specs.State.{state_of}
-use Rattle.ng_compose.specs.Kept.{Named}
+use Rattle.ng_drawing.specs.Named.{Named}
 use Rattle.ng_page.specs.Opening.{linked_by}
 use Rattle.ng_page.proofs.Prepared.{whole_told}
 use Rattle.ng_page.proofs.opening.tell.Goals as goal

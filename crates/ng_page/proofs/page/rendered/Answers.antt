@@ -9,7 +9,7 @@ use Rattle.ng_link.specs.State.{State, state_of, templates_of}
 use Rattle.ng_markup.specs.Forest.{Forest}
 use Rattle.ng_render.specs.Free.{is_want}
 use Rattle.ng_render.specs.OverOf.{InstanceStands}
-use Rattle.ng_compose.specs.Kept.{Named, fragments_in}
+use Rattle.ng_drawing.specs.Named.{Named, fragments_in}
 use Rattle.ng_page.proofs.Rendered.{names_stand, page_rendered}
 use Rattle.ng_page.proofs.page.rendered.Goals as goal
 

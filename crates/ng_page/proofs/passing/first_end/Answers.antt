@@ -5,7 +5,7 @@ use Rattle.std.specs.Map.{keys_of}
 use Rattle.std.specs.Option.{option_copied}
 use Rattle.ng_base.specs.declared.path.Key.{Key}
 use Rattle.ng_link.specs.State as link
-use Rattle.ng_watch.specs.Keys.{key_cmp}
+use Rattle.ng_behaviour.specs.Keys.{key_cmp}
 use Rattle.ng_watch.specs.Table.{found, watchers_of}
 use Rattle.ng_watch.specs.Walks.{next_of}
 use Rattle.ng_watch.specs.declared.watched.Watched.{Watched}

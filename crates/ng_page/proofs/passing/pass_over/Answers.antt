@@ -5,7 +5,7 @@ use Rattle.std.specs.Option.{option_copied}
 use Rattle.std.proofs.lemmas.Result.{IfOk-weaker}
 use Rattle.ng_base.specs.declared.path.Key.{Key}
 use Rattle.ng_link.specs.State as link
-use Rattle.ng_watch.specs.Keys.{key_cmp}
+use Rattle.ng_behaviour.specs.Keys.{key_cmp}
 use Rattle.ng_watch.specs.Table.{watchers_of}
 use Rattle.ng_watch.specs.Verdicts.{clean}
 use Rattle.ng_watch.specs.Walks.{Walks, behind_all, at_watcher, came_to_end, next_of, reached_of}

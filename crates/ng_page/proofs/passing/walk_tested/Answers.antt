@@ -5,7 +5,7 @@ use Rattle.std.specs.Option.{option_copied}
 use Rattle.ng_base.specs.declared.path.Key.{Key}
 use Rattle.ng_link.proofs.Watched.{watchers_found}
 use Rattle.ng_link.specs.State as link
-use Rattle.ng_watch.specs.Keys.{key_cmp}
+use Rattle.ng_behaviour.specs.Keys.{key_cmp}
 use Rattle.ng_watch.specs.Table.{watchers_of, AllStand}
 use Rattle.ng_watch.specs.Walks.{Walks, reached_of}
 use Rattle.ng_watch.specs.declared.walking.Walk.{Walk}

@@ -9,7 +9,8 @@ use Rattle.ng_drawing.specs.InstanceOf.{state_of, instance_of, group_of as bodie
 use Rattle.ng_drawing.specs.Template.{Fragment, no_fragment}
 use Rattle.ng_html.specs.Seen.{forest_of}
 use Rattle.ng_parts.specs.FragmentOf.{fragment_of, outlets_of}
-use Rattle.ng_compose.specs.Kept.{templates_of, fragments_in}
+use Rattle.ng_drawing.specs.Named.{fragments_in}
+use Rattle.ng_compose.specs.Kept.{templates_of}
 use Rattle.ng_parts.specs.Seen.{parts_of}
 use Rattle.ng_parts.specs.SiteOf.{site_of}
 use Rattle.ng_copies.specs.WholeOf.{whole_of}

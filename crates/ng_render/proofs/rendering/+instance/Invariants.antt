@@ -5,7 +5,8 @@ use Rattle.ng_drawing.specs.Instance.{rendering_in, outlets_from}
 use Rattle.ng_drawing.specs.InstanceOf.{state_of, instance_of, group_of as bodies_of, instances_of}
 use Rattle.ng_html.specs.Seen.{forest_of}
 use Rattle.ng_parts.specs.FragmentOf.{outlets_of}
-use Rattle.ng_compose.specs.Kept.{templates_of, fragments_in}
+use Rattle.ng_drawing.specs.Named.{fragments_in}
+use Rattle.ng_compose.specs.Kept.{templates_of}
 use Rattle.ng_render.specs.OverOf.{group_of, kept_over}
 use Rattle.ng_render.proofs.Walks.{behind, bodies_list}
 use Rattle.ng_render.proofs.Bodies.{size, size_all, size_in, no_fragments}

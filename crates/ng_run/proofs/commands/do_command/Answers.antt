@@ -5,8 +5,9 @@ use Rattle.ng_page.specs.OutcomeOf.{outcome_of}
 use Rattle.ng_page.specs.PageOf.{state_of}
 use Rattle.ng_script.specs.Acts.{act_of, entry_of}
 use Rattle.ng_printing.specs.EventStep.{event_step}
-use Rattle.ng_run.specs.Happenings.{fired_by}
-use Rattle.ng_run.specs.Performed.{PerformedAct, IsStepOf}
+use Rattle.ng_performing.specs.Fired.{fired_by}
+use Rattle.ng_performing.specs.Performed.{PerformedAct}
+use Rattle.ng_run.specs.Doing.{IsStepOf}
 use Rattle.ng_printing.specs.Lines.{told_lines}
 use Rattle.ng_printing.specs.Left.{idle_step, aimless_step}
 use Rattle.ng_printing.specs.StepLines.{step_of}

@@ -1,6 +1,6 @@
 use Rattle.std.proofs.Common.{◌≡◌, map, take}
 use Rattle.ng_run.specs.Doing.{HasDone}
-use Rattle.ng_printing.specs.StepSeen.{IsReady}
+use Rattle.ng_page.specs.Ready.{IsReady}
 use Rattle.ng_run.specs.ReplyOf.{LeavesPage}
 use Rattle.ng_printing.specs.Left.{Left}
 use Rattle.ng_script.specs.Acts.{entry_of}

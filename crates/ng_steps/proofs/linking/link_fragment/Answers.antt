@@ -13,7 +13,7 @@ use Rattle.ng_steps.specs.declared.linking.Built.{Built}
 use Rattle.ng_instances.specs.PlaceOf.{place_of}
 use Rattle.ng_link.specs.State.{State, live_nodes, state_of, templates_of}
 use Rattle.ng_build.specs.StepOf.{step_of}
-use Rattle.ng_compose.specs.Kept.{Named, fragment_for}
+use Rattle.ng_drawing.specs.Named.{Named, fragment_for}
 use Rattle.ng_steps.proofs.linking.link_fragment.Goals as goal
 
 pub link_steps-requires-clause-pure : goal.link_steps-requires-clause-pure

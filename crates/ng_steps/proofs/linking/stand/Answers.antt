@@ -12,7 +12,7 @@ use Rattle.ng_instances.specs.BoundOf.{registered_of}
 use Rattle.ng_instances.specs.PlaceOf.{place_of}
 use Rattle.ng_instances.specs.Registering.{Registered, any_lives}
 use Rattle.ng_link.specs.State.{State, state_of, templates_of}
-use Rattle.ng_compose.specs.Kept.{fragment_for}
+use Rattle.ng_drawing.specs.Named.{fragment_for}
 use Rattle.ng_steps.proofs.linking.stand.Goals.{then-added, else-added}
 use Rattle.ng_steps.proofs.linking.stand.Goals as goal
 

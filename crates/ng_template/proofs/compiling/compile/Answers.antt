@@ -3,7 +3,7 @@ use Rattle.ng_drawing.specs.Template.{Fragment}
 use Rattle.ng_html.specs.Seen.{forest_of}
 use Rattle.ng_template.specs.Compiles.{compiled_forest}
 use Rattle.ng_parts.specs.FragmentOf.{fragments_of}
-use Rattle.ng_parts.specs.Numbering.{are_bare, is_regular}
+use Rattle.ng_drawing.specs.Numbering.{are_bare, is_regular}
 use Rattle.ng_parts.specs.Seen.{parts_of}
 use Rattle.ng_elements.specs.HeadOf.{made_of}
 use Rattle.ng_template.proofs.Compiled.{made_bare, made_regular}

@@ -5,7 +5,7 @@ use Rattle.ng_base.specs.ViewOf.{view_of, views_of, field_of}
 use Rattle.ng_language.specs.Heights.{pair_heights}
 use Rattle.ng_language.specs.Trees.{Tree, call_of, filtered, trees_from, pairs_from}
 use Rattle.ng_parse.specs.TreeOf.{tree, pair_tree}
-use Rattle.ng_view.specs.Evaluation.{evaluated}
+use Rattle.ng_evaluation.specs.Evaluation.{evaluated}
 use Rattle.ng_members.specs.Leaves.{FieldsAllStand}
 use Rattle.ng_members.proofs.Stand.{views_all_stand, put_stands}
 use Rattle.ng_view.proofs.TreeNodes.{tree_of-Call, tree_of-Filter}

@@ -6,8 +6,8 @@ use Rattle.ng_language.specs.Heights.{height, heights, pair_height, pair_heights
 use Rattle.ng_language.specs.Trees.{trees_from, pairs_from}
 use Rattle.ng_language.specs.Views.{ViewStands}
 use Rattle.ng_parse.specs.TreeOf.{tree, pair_tree}
-use Rattle.ng_view.specs.Purity.{count_of, FiltersKnown, ArePairsKnown}
-use Rattle.ng_view.specs.Evaluation.{evaluated_all, evaluated_pairs}
+use Rattle.ng_evaluation.specs.Purity.{count_of, FiltersKnown, ArePairsKnown}
+use Rattle.ng_evaluation.specs.Evaluation.{evaluated_all, evaluated_pairs}
 use Rattle.ng_members.specs.Leaves.{FieldsAllStand}
 use Rattle.ng_view.proofs.evaluation.+evaluation.Given as goal
 

@@ -3,8 +3,8 @@ use Rattle.ng_base.specs.ViewOf.{view_of}
 use Rattle.ng_language.specs.Trees.{trees_from}
 use Rattle.ng_language.specs.Views.{ViewStands}
 use Rattle.ng_parse.specs.TreeOf.{tree}
-use Rattle.ng_view.specs.Purity.{FiltersKnown}
-use Rattle.ng_view.specs.Evaluation.{evaluated_statements, evaluated_program}
+use Rattle.ng_evaluation.specs.Purity.{FiltersKnown}
+use Rattle.ng_evaluation.specs.Evaluation.{evaluated_statements, evaluated_program}
 use Rattle.ng_view.proofs.program.statements_value.Given as goal
 
 abbrev pub invariant-loop-statement : goal.invariant-loop-statement

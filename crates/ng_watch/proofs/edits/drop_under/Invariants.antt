@@ -1,7 +1,7 @@
 use Rattle.std.proofs.Common.{◌≡◌, not}
 use Rattle.std.specs.List.{filter}
 use Rattle.ng_watch.specs.Chunks.{joined, IsCounted}
-use Rattle.ng_watch.specs.Keys.{begins}
+use Rattle.ng_behaviour.specs.Keys.{begins}
 use Rattle.ng_watch.proofs.edits.drop_under.Given as goal
 
 abbrev pub invariant-loop-at : goal.invariant-loop-at

@@ -1,7 +1,7 @@
 use Rattle.std.proofs.Common.{List, ap, subst, ◌∙◌}
 use Rattle.std.specs.BTreeMap.{insert_entry}
 use Rattle.ng_watch.specs.Chunks.{Rows, IsEdge}
-use Rattle.ng_watch.specs.Keys.{key_cmp}
+use Rattle.ng_behaviour.specs.Keys.{key_cmp}
 use Rattle.ng_watch.proofs.Chunks.{gap_kept, on_ok, put_in_is}
 use Rattle.ng_watch.proofs.edits.put_in.Goals as goal
 

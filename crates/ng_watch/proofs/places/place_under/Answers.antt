@@ -1,6 +1,6 @@
 use Rattle.std.proofs.Common.{◌≡◌, false, subst, refl}
 use Rattle.ng_base.specs.declared.path.Key.{Key}
-use Rattle.ng_watch.specs.Keys.{begins}
+use Rattle.ng_behaviour.specs.Keys.{begins}
 use Rattle.ng_watch.specs.declared.watched.Watched.{Watched}
 use Rattle.ng_watch.proofs.Under.{none_under}
 use Rattle.ng_watch.proofs.places.place_under.Goals as goal

@@ -3,7 +3,7 @@ use Rattle.std.specs.Prelude.{slice_get}
 use Rattle.std.specs.List.{filter}
 use Rattle.std.specs.Map.{keys_of}
 use Rattle.ng_watch.specs.Chunks.{joined, after, row_at, NotBefore}
-use Rattle.ng_watch.specs.Keys.{begins}
+use Rattle.ng_behaviour.specs.Keys.{begins}
 use Rattle.ng_watch.proofs.watchers.keys_under.Given as goal
 
 abbrev pub invariant-loop-row : goal.invariant-loop-row

@@ -3,7 +3,7 @@ use Rattle.std.specs.List.{filter}
 use Rattle.std.specs.List.Sorted.{IsStrictlySortedBy}
 use Rattle.std.specs.Map.{keys_of}
 use Rattle.ng_base.specs.declared.path.Key.{Key}
-use Rattle.ng_watch.specs.Keys.{key_cmp}
+use Rattle.ng_behaviour.specs.Keys.{key_cmp}
 use Rattle.ng_watch.specs.declared.watched.Watched.{Watched}
 use Rattle.ng_watch.proofs.Taking.{HasTaken}
 use Rattle.ng_watch.proofs.watchers.taken_out.Given as goal

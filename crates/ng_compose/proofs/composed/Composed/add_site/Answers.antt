@@ -1,7 +1,7 @@
 use Rattle.std.proofs.Common.{◌≡◌, ◌∙◌, refl, ap, sym, subst}
 use Rattle.std.specs.Prelude.{option_map, OnOk}
 use Rattle.ng_compose.specs.ComposedOf.{composed_of}
-use Rattle.ng_compose.specs.Composing.{Composed}
+use Rattle.ng_drawing.specs.Composing.{Composed}
 use Rattle.ng_parts.specs.FragmentOf.{mark_of}
 use Rattle.ng_parts.specs.SiteOf.{site_of}
 use Rattle.ng_compose.proofs.ComposingTurns.{site_none, site_some}

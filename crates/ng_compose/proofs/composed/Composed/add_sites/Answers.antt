@@ -1,7 +1,7 @@
 use Rattle.std.proofs.Common.{◌∙◌, List, ℕ, ap, sym}
 use Rattle.std.proofs.lemmas.List.{drop_all}
 use Rattle.ng_compose.specs.ComposedOf.{region_of, composed_of}
-use Rattle.ng_compose.specs.Composing.{sites_on}
+use Rattle.ng_drawing.specs.Composing.{sites_on}
 use Rattle.ng_parts.specs.FragmentOf.{mark_of}
 use Rattle.ng_compose.proofs.ComposingTurns.{sites_turn}
 use Rattle.ng_compose.proofs.composed.Composed.add_sites.Goals as goal

@@ -1,6 +1,6 @@
 use Rattle.std.proofs.Common.{◌≡◌, drop}
 use Rattle.ng_compose.specs.ComposedOf.{region_of, composed_of}
-use Rattle.ng_compose.specs.Composing.{sites_on}
+use Rattle.ng_drawing.specs.Composing.{sites_on}
 use Rattle.ng_parts.specs.FragmentOf.{mark_of}
 use Rattle.ng_compose.proofs.composed.Composed.add_sites.Given as goal
 

@@ -4,7 +4,7 @@ use Rattle.ng_drawing.specs.Template as template
 use Rattle.ng_drawing.specs.declared.origin.Home.{Home}
 use Rattle.ng_parts.specs.ActsOf.{outside_of}
 use Rattle.ng_compose.specs.ComposedOf.{region_of, composed_of}
-use Rattle.ng_copies.specs.Moved.{moved_by}
+use Rattle.ng_drawing.specs.Moved.{moved_by}
 use Rattle.ng_parts.specs.FragmentOf.{filling_of, outlet_of, spot_of}
 use Rattle.ng_compose.proofs.ComposingTurns.{outlet_is}
 use Rattle.ng_compose.proofs.composed.Composed.push_outlet.Goals as goal

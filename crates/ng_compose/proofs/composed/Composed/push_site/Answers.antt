@@ -2,7 +2,7 @@ use Rattle.std.proofs.Common.{◌∷◌, ◌++◌, [], Some, ap, sym, refl, ◌�
 use Rattle.std.proofs.lemmas.List.{map-append, length-map}
 use Rattle.ng_drawing.specs.Template as template
 use Rattle.ng_compose.specs.ComposedOf.{composed_of}
-use Rattle.ng_compose.specs.Composing.{padded}
+use Rattle.ng_drawing.specs.Composing.{padded}
 use Rattle.ng_parts.specs.FragmentOf.{sites_of, mark_of}
 use Rattle.ng_parts.specs.SiteOf.{site_of}
 use Rattle.ng_compose.proofs.ComposingTurns.{site_is}

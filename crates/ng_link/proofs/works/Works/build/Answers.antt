@@ -10,8 +10,8 @@ use Rattle.ng_drawing.specs.Nodes.{nodes, node_limit}
 use Rattle.ng_drawing.specs.Template.{Site, Fragment, Parts}
 use Rattle.ng_drawing.specs.declared.origin.Origin.{Origin}
 use Rattle.ng_parts.specs.FragmentOf.{fragment_of}
-use Rattle.ng_compose.specs.Kept.{fragment_for}
-use Rattle.ng_parts.specs.Numbering.{is_whole, HasOrder}
+use Rattle.ng_drawing.specs.Named.{fragment_for}
+use Rattle.ng_drawing.specs.Numbering.{is_whole, HasOrder}
 use Rattle.ng_parts.specs.Seen.{parts_of}
 use Rattle.ng_copies.specs.WholeOf.{whole_of}
 use Rattle.ng_watch.specs.Table.{Table, watchers_of}

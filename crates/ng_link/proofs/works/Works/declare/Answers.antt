@@ -1,7 +1,7 @@
 use Rattle.std.proofs.Common.{◌≡◌, ℕ, List, false, ap, sym, ◌∙◌}
 use Rattle.std.specs.BTreeMap.{insert_entry}
 use Rattle.ng_base.specs.declared.path.Key.{Key}
-use Rattle.ng_watch.specs.Keys.{key_cmp}
+use Rattle.ng_behaviour.specs.Keys.{key_cmp}
 use Rattle.ng_watch.specs.Seen.{watching_of}
 use Rattle.ng_watch.specs.Table.{Table, watchers_of, with_watch}
 use Rattle.ng_instances.specs.Instances.{is_site}

@@ -1,5 +1,5 @@
 use Rattle.std.proofs.Common.{◌≡◌, ap, ◌∙◌}
-use Rattle.ng_watch.specs.Keys.{begins}
+use Rattle.ng_behaviour.specs.Keys.{begins}
 use Rattle.ng_watch.specs.Table.{Table, under, without_under}
 use Rattle.ng_link.specs.Calls.{rested}
 use Rattle.ng_link.specs.State.{Declared, Resting, declared_of, resting_of, state_of, templates_of}

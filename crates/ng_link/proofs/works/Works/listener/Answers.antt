@@ -1,7 +1,7 @@
 use Rattle.std.proofs.Common.{sym, ◌∙◌}
 use Rattle.std.specs.Map.{lookup}
 use Rattle.std.proofs.lemmas.Map.Made.{lookup-map_values}
-use Rattle.ng_watch.specs.Keys.{is_key}
+use Rattle.ng_behaviour.specs.Keys.{is_key}
 use Rattle.ng_link.specs.State.{listening_of}
 use Rattle.ng_build.proofs.Tables.{seen_through}
 use Rattle.ng_link.proofs.works.Works.listener.Goals as goal

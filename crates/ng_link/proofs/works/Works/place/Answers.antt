@@ -10,7 +10,7 @@ use Rattle.ng_dom.specs.Drawing.{shows}
 use Rattle.ng_drawing.specs.Nodes.{nodes}
 use Rattle.ng_drawing.specs.Template.{Fragment}
 use Rattle.ng_drawing.specs.declared.origin.Origin.{Origin}
-use Rattle.ng_compose.specs.Kept.{fragment_for}
+use Rattle.ng_drawing.specs.Named.{fragment_for}
 use Rattle.ng_instances.specs.BoundOf.{inner_of, registered_of}
 use Rattle.ng_build.specs.Building.{IsStood}
 use Rattle.ng_instances.specs.Changing.{Place, any_on}

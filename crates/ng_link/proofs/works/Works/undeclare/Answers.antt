@@ -1,6 +1,6 @@
 use Rattle.std.proofs.Common.{◌≡◌, false, ap, sym, ◌∙◌}
 use Rattle.std.specs.Map.{remove_entry}
-use Rattle.ng_watch.specs.Keys.{is_key}
+use Rattle.ng_behaviour.specs.Keys.{is_key}
 use Rattle.ng_watch.specs.Table.{Table, without_watch}
 use Rattle.ng_instances.specs.Instances.{is_site}
 use Rattle.ng_link.specs.State.{Declared, declared_of, listening_of, state_of}

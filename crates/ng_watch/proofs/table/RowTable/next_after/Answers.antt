@@ -1,7 +1,7 @@
 use Rattle.std.proofs.Common.{List, ap, subst, ◌≡◌, ◌∙◌}
 use Rattle.std.specs.Prelude.{find}
 use Rattle.ng_watch.specs.Chunks.{Rows, joined, row_at}
-use Rattle.ng_watch.specs.Keys.{is_above}
+use Rattle.ng_behaviour.specs.Keys.{is_above}
 use Rattle.ng_watch.proofs.AtPlaces.{Row, key_in}
 use Rattle.ng_watch.proofs.table.RowTable.next_after.Goals as goal
 

@@ -3,7 +3,7 @@ use Rattle.std.specs.List.Sorted.{IsStrictlySortedBy}
 use Rattle.std.specs.Map.{keys_of}
 use Rattle.std.specs.Prelude.{length}
 use Rattle.ng_watch.specs.Chunks.{Rows}
-use Rattle.ng_watch.specs.Keys.{key_cmp}
+use Rattle.ng_behaviour.specs.Keys.{key_cmp}
 use Rattle.ng_watch.specs.Table.{watchers_of, AllStand}
 use Rattle.ng_watch.proofs.table.RowTable.walk.Goals as goal
 

@@ -6,7 +6,7 @@ use Rattle.std.specs.Map.{keys_of}
 use Rattle.ng_base.specs.declared.path.Key.{Key}
 use Rattle.ng_watch.specs.Chunks.{Rows}
 use Rattle.ng_watch.specs.declared.watched.Watched.{Watched}
-use Rattle.ng_watch.specs.Keys.{begins, key_cmp}
+use Rattle.ng_behaviour.specs.Keys.{begins, key_cmp}
 use Rattle.ng_watch.specs.Table.{entry_of, watchers_of}
 use Rattle.ng_watch.proofs.Taking.{seen_apart}
 use Rattle.ng_watch.proofs.watchers.Watchers.take_under.Goals as goal

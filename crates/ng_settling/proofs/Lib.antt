@@ -1,0 +1,4 @@
+pub mod Names
+pub mod Writes
+pub mod Written
+pub mod Unset
