@@ -8,7 +8,8 @@ room in its caches.
 
 A workload is a page, its data, directives of its own if it has some, and commands that are applied one after another: `eval E` here, `$apply(E)` on the root scope there; or a text that
 is typed into a control: `type #ID TEXT` here, the value of the element and the event `input` there. All run the same template, data and expressions. The time of a step is the mean of all commands, the least of N rounds (default 3).
-  ngrun      a step is the processor time of a whole run less that of one without the script, over the number of commands. It is taken
+  ngrun      run as ./ngrun runs it, with the allocator told what dist/tunables has. A step is the processor time of a whole run less that of
+             one without the script, over the number of commands. It is taken
              without the print of the document (one more hole faults, so that each step digests and prints none) and, beside it, with it.
              An opening is a whole run of the program: start, files, parsing and compiling among it.
   AngularJS  the processor time of its process in jsdom, and of the page's own thread in Chromium, in one page: compiling, linking and the first
@@ -125,12 +126,18 @@ def with_directives(made):
     return made if len(made) == 4 else (*made, [])
 
 
+def environment():
+    """The environment that ./ngrun gives the program: what the allocator is told, unless the caller tells it something."""
+    with open(os.path.join(HERE, '..', 'dist', 'tunables'), encoding='utf-8') as file:
+        return {'GLIBC_TUNABLES': file.read().strip()} | os.environ
+
+
 def seconds(words, times):
     """The least processor time of so many runs, in seconds."""
     found = []
     for _ in range(times):
         before = resource.getrusage(resource.RUSAGE_CHILDREN)
-        subprocess.run(words, stdin=subprocess.DEVNULL, stdout=subprocess.DEVNULL)
+        subprocess.run(words, stdin=subprocess.DEVNULL, stdout=subprocess.DEVNULL, env=environment())
         after = resource.getrusage(resource.RUSAGE_CHILDREN)
         found.append(after.ru_utime - before.ru_utime + after.ru_stime - before.ru_stime)
     return min(found)
@@ -152,7 +159,7 @@ def here(cmd, made, folder, times):
             file.write(content)
     printed, quiet, app, script = names
     whole = [cmd, printed, app] + [script] * bool(commands)
-    done = subprocess.run(whole, stdin=subprocess.DEVNULL, stdout=subprocess.PIPE)
+    done = subprocess.run(whole, stdin=subprocess.DEVNULL, stdout=subprocess.PIPE, env=environment())
     if done.returncode == 3:
         return None
     start = seconds([cmd, printed, app], times)

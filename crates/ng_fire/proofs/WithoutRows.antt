@@ -41,6 +41,7 @@ same_filled holder cases v d g = by d.filling refl
   where
     wholly : (f : Filling) → told_bodies d.filling d.bodies ≡ d.bodies → filled_by holder cases v (without_rows d) f g ≡ filled_by holder cases v d f g
     wholly f e = ap (λ (x : Due). filled_by holder cases v x f g) (told_wholly d e)
+
     by : (f : Filling) → d.filling ≡ f → filled_by holder cases v (without_rows d) f g ≡ filled_by holder cases v d f g
     by (body_if b) e = wholly (body_if b) (ap (λ (f : Filling). told_bodies f d.bodies) e)
     by (on_case c b) e = wholly (on_case c b) (ap (λ (f : Filling). told_bodies f d.bodies) e)

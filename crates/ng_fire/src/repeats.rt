@@ -155,13 +155,13 @@ fn keep_row(
     requires names { AreNames ground.now.names }
     requires place { i < ground.now.count }
     requires scope { scope.0 < length works.old.core.scopes }
-    requires row { StandsAmong (length works.old.core.store) row.now.item.value }
-    ensures state { OnOk result (state_of works.new ≡ with_core (told_on scope.0 (row_names (repeated_of ground.now.repeated.now) ground.now.count i (item_of row.now.item)) (state_of works.old).core) (state_of works.old)) }
+    requires row { StandsAmong (length works.old.core.store) row.now.item.now.value }
+    ensures state { OnOk result (state_of works.new ≡ with_core (told_on scope.0 (row_names (repeated_of ground.now.repeated.now) ground.now.count i (item_of row.now.item.now)) (state_of works.old).core) (state_of works.old)) }
     ensures whole { OnOk result (IsWhole works.new) }
     ensures store { length works.new.core.store ≡ length works.old.core.store }
     ensures templates { templates_of works.new ≡ templates_of works.old }
 {
-    tell_row(&mut works.core, scope, ground, i, &row.item)
+    tell_row(&mut works.core, scope, ground, i, row.item)
 }
 
 /// The place of a row that is made before the one at a place.
@@ -191,8 +191,8 @@ fn make_row(
     requires spot { IsSpot (templates_of works.old) (state_of works.old).instances spot.now }
     requires names { AreNames ground.now.names }
     requires place { i < ground.now.count }
-    requires row { StandsAmong (length works.old.core.store) row.now.item.value }
-    ensures fired { OnOk result (firing works.new told.new ≡ filled (in_outlet spot.now.holder.now spot.now.outlet at (role_for_row (row_of row.now))) spot.now.scope.0 (map (λ s. s.0) spot.now.outsides.now) (row_names (repeated_of ground.now.repeated.now) ground.now.count i (item_of row.now.item)) spot.now.origin (firing works.old told.old)) }
+    requires row { StandsAmong (length works.old.core.store) row.now.item.now.value }
+    ensures fired { OnOk result (firing works.new told.new ≡ filled (in_outlet spot.now.holder.now spot.now.outlet at (role_for_row (row_of row.now))) spot.now.scope.0 (map (λ s. s.0) spot.now.outsides.now) (row_names (repeated_of ground.now.repeated.now) ground.now.count i (item_of row.now.item.now)) spot.now.origin (firing works.old told.old)) }
     ensures keeps { OnOk result (Keeps spot.now.holder.now (state_of works.old).instances (state_of works.new).instances) }
     ensures others { OnOk result (OthersStay spot.now.holder.now (state_of works.old).instances (state_of works.new).instances) }
     ensures grown { OnOk result (length works.old.core.store ≤ length works.new.core.store) }
@@ -202,7 +202,7 @@ fn make_row(
     let place = place_for(alloc, spot, at, row)?;
     match make_child(works, spot.scope)? {
         Some(child) => {
-            tell_row(&mut works.core, child, ground, i, &row.item)?;
+            tell_row(&mut works.core, child, ground, i, row.item)?;
             link_body(
                 works,
                 alloc,
@@ -237,9 +237,9 @@ fn fire_row(
     requires names { AreNames ground.now.names }
     requires place { i < ground.now.count }
     requires few { at ≤ i }
-    requires row { StandsAmong (length works.old.core.store) row.now.item.value }
+    requires row { StandsAmong (length works.old.core.store) row.now.item.now.value }
     requires scope { IfSome (row_of row.now).from (λ p. scope.0 ≡ scope_in (linked_at p (state_of works.old).instances)) }
-    ensures fired { IfOk result (λ n. filled_to n (firing works.new told.new) ≡ row_fired spot.now.holder.now spot.now.scope.0 (map (λ s. s.0) spot.now.outsides.now) spot.now.outlet spot.now.origin (row_of row.now) (row_names (repeated_of ground.now.repeated.now) ground.now.count i (item_of row.now.item)) (row_of row.now).from (filled_to at (firing works.old told.old))) }
+    ensures fired { IfOk result (λ n. filled_to n (firing works.new told.new) ≡ row_fired spot.now.holder.now spot.now.scope.0 (map (λ s. s.0) spot.now.outsides.now) spot.now.outlet spot.now.origin (row_of row.now) (row_names (repeated_of ground.now.repeated.now) ground.now.count i (item_of row.now.item.now)) (row_of row.now).from (filled_to at (firing works.old told.old))) }
     ensures few { IfOk result (λ n. n ≤ i + 1) }
     ensures keeps { OnOk result (Keeps spot.now.holder.now (state_of works.old).instances (state_of works.new).instances) }
     ensures others { OnOk result (OthersStay spot.now.holder.now (state_of works.old).instances (state_of works.new).instances) }
@@ -363,21 +363,21 @@ fn fire_plan(
     spot: &Spot<'_>,
     repeated: &Repeated,
     bodies: &[SharedBody],
-    items: Vec<Item>,
+    items: &[Item],
     keys: &TrackKeys,
     plan: &Plan,
     told: &mut Followed,
 ) -> Result<(), Memory>
     requires whole { IsWhole works.old }
     requires spot { IsSpot (templates_of works.old) (state_of works.old).instances spot.now }
-    requires items { ItemsStand (length works.old.core.store) (items_of items.items) }
+    requires items { ItemsStand (length works.old.core.store) (items_of items.now) }
     requires stand { rows_at spot.now.holder.now spot.now.outlet (state_of works.old).instances ≡ map body_of bodies.now }
     requires old { has_double_of (keys_of (map body_of bodies.now)) ≡ false }
-    requires as_many { length (items_of items.items) ≡ length keys.now }
+    requires as_many { length (items_of items.now) ≡ length keys.now }
     requires plan { planned (keys_of (map body_of bodies.now)) keys.now ≡ Ok plan.now }
-    ensures fired { OnOk result (firing works.new told.new ≡ by_keys spot.now.holder.now spot.now.scope.0 (map (λ s. s.0) spot.now.outsides.now) spot.now.outlet spot.now.origin (repeated_of repeated.now) (map body_of bodies.now) (items_of items.items) (Ok keys.now) (firing works.old told.old)) }
+    ensures fired { OnOk result (firing works.new told.new ≡ by_keys spot.now.holder.now spot.now.scope.0 (map (λ s. s.0) spot.now.outsides.now) spot.now.outlet spot.now.origin (repeated_of repeated.now) (map body_of bodies.now) (items_of items.now) (Ok keys.now) (firing works.old told.old)) }
     ensures keeps { OnOk result (Keeps spot.now.holder.now (state_of works.old).instances (state_of works.new).instances) }
-    ensures kept { OnOk result (BodiesStay (kept_rows_of (rows_from_all (map body_of bodies.now) (items_of items.items) keys.now plan.now.from)) (state_of works.old).instances (state_of works.new).instances) }
+    ensures kept { OnOk result (BodiesStay (kept_rows_of (rows_from_all (map body_of bodies.now) (items_of items.now) keys.now plan.now.from)) (state_of works.old).instances (state_of works.new).instances) }
     ensures grown { OnOk result (length works.old.core.store ≤ length works.new.core.store) }
     ensures whole { OnOk result (IsWhole works.new) }
     ensures templates { templates_of works.new ≡ templates_of works.old }
@@ -402,16 +402,16 @@ fn fire_keyed(
     spot: &Spot<'_>,
     repeated: &Repeated,
     bodies: &[SharedBody],
-    items: Vec<Item>,
+    items: &[Item],
     keys: &TrackKeys,
     told: &mut Followed,
 ) -> Result<(), Memory>
     requires whole { IsWhole works.old }
     requires spot { IsSpot (templates_of works.old) (state_of works.old).instances spot.now }
-    requires items { ItemsStand (length works.old.core.store) (items_of items.items) }
+    requires items { ItemsStand (length works.old.core.store) (items_of items.now) }
     requires stand { rows_at spot.now.holder.now spot.now.outlet (state_of works.old).instances ≡ map body_of bodies.now }
-    requires as_many { length (items_of items.items) ≡ length keys.now }
-    ensures fired { OnOk result (firing works.new told.new ≡ by_keys spot.now.holder.now spot.now.scope.0 (map (λ s. s.0) spot.now.outsides.now) spot.now.outlet spot.now.origin (repeated_of repeated.now) (rows_at spot.now.holder.now spot.now.outlet (state_of works.old).instances) (items_of items.items) (Ok keys.now) (firing works.old told.old)) }
+    requires as_many { length (items_of items.now) ≡ length keys.now }
+    ensures fired { OnOk result (firing works.new told.new ≡ by_keys spot.now.holder.now spot.now.scope.0 (map (λ s. s.0) spot.now.outsides.now) spot.now.outlet spot.now.origin (repeated_of repeated.now) (rows_at spot.now.holder.now spot.now.outlet (state_of works.old).instances) (items_of items.now) (Ok keys.now) (firing works.old told.old)) }
     ensures keeps { OnOk result (Keeps spot.now.holder.now (state_of works.old).instances (state_of works.new).instances) }
     ensures grown { OnOk result (length works.old.core.store ≤ length works.new.core.store) }
     ensures whole { OnOk result (IsWhole works.new) }
@@ -448,16 +448,16 @@ fn fire_items(
 {
     let bodies = works.bodies_in(spot.holder, spot.outlet)?;
     let rows = bodies.as_slice();
+    let entries = items.as_slice();
     let object = works.core.scopes.object(spot.scope);
-    let store = &works.core.store;
-    let tracked = track_keys(alloc, store, object, repeated, items.as_slice(), rows);
+    let tracked = track_keys(alloc, &works.core.store, object, repeated, entries);
     match tracked {
         Err(Fault::Memory(memory)) => Err(memory),
         Err(f) => {
             fault(works, f, told);
             Ok(())
         }
-        Ok(keys) => fire_keyed(works, alloc, spot, repeated, rows, items, &keys, told),
+        Ok(keys) => fire_keyed(works, alloc, spot, repeated, rows, entries, &keys, told),
     }
 }
 

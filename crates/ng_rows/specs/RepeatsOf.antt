@@ -14,7 +14,7 @@ abbrev pub path_of : Option (Bor code_body.Body) → Option (List ℕ)
 path_of b = option_map (λ (x : Bor code_body.Body). x.now.path) b
 
 abbrev pub row_of : code.Row → Row
-row_of r = record { item = item_of r.item; key = r.key.now; from = path_of r.from }
+row_of r = record { item = item_of r.item.now; key = r.key.now; from = path_of r.from }
 
 abbrev pub rows_of : List code.Row → List Row
 rows_of rs = map row_of rs

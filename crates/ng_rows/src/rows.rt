@@ -41,7 +41,7 @@ pub struct RowNames<'a> {
 /// A row that an entry calls for: the item, its track key, and the body of the row that it comes from, where one stands.
 #[derive(Drop)]
 pub struct Row<'a> {
-    pub item: Item,
+    pub item: &'a Item,
     key: &'a TrackKey,
     pub from: Option<&'a SharedBody>,
 }
@@ -206,11 +206,11 @@ fn body_from(bodies: &[SharedBody], from: Option<u32>) -> Option<&SharedBody>
 pub fn rows_from<'a>(
     alloc: Global,
     bodies: &'a [SharedBody],
-    items: Vec<Item>,
+    items: &'a [Item],
     keys: &'a TrackKeys,
     sources: &Sources,
 ) -> Result<Vec<Row<'a>>, AllocError>
-    ensures { IfOk result (λ v. rows_of v.items ≡ rows_from_all (map body_of bodies.now) (items_of items.items) keys.now sources.now) }
+    ensures { IfOk result (λ v. rows_of v.items ≡ rows_from_all (map body_of bodies.now) (items_of items.now) keys.now sources.now) }
 {
     let mut rows = Vec::with_capacity(alloc, items.len())?;
     let mut keys = keys.as_slice();

@@ -1,9 +1,10 @@
 //! The entries of a repeat's collection as values, and their track keys (API: ngRepeat, "Tracking and Duplicates").
-ghost use Rattle.std.specs.Prelude.{◌≡◌, ◌<◌, ◌≤◌, [], ◌∷◌, length, pos, List, IfOk, IfSome, IsTrue, Ok, OnOk};
+ghost use Rattle.std.specs.Fmt.{signed_decimal};
+ghost use Rattle.std.specs.Prelude.{ℕ, ◌≡◌, ◌<◌, ◌≤◌, [], ◌∷◌, length, pos, IfOk, IfSome, OnOk};
 ghost use Rattle.ng_core.specs.Frames.{state_of, IsSound, Acts};
 ghost use Rattle.ng_base.specs.Faults.{is_memory};
 ghost use Rattle.ng_base.specs.Meets.{Meets};
-ghost use Rattle.ng_base.specs.Objects.{Object, StandsAmong};
+ghost use Rattle.ng_base.specs.Objects.{StandsAmong};
 ghost use Rattle.ng_base.specs.ViewOf.{view_of};
 ghost use Rattle.ng_base.specs.Views.{prim};
 ghost use Rattle.ng_base.specs.declared.value.Value.TheVariants.{Int, Undefined};
@@ -27,8 +28,7 @@ use ng_blocks::{TrackKey, TrackKeys};
 use ng_core::binding::value_in;
 use ng_core::core_state::Core;
 use ng_core::keeping::keep;
-use ng_drawing::roles::{Entry, Role};
-use ng_instances::instances::SharedBody;
+use ng_drawing::roles::Entry;
 use ng_parts::{Repeated, Track};
 use ng_store::store::Store;
 use ng_value::snapshot::Snap;
@@ -43,7 +43,19 @@ pub struct Item {
     pub value: Value,
 }
 
-/// An entry gets its value.
+/// A value, unless it is a fresh list or record.
+fn plain_value(v: &View) -> Result<Option<Value>, AllocError>
+    ensures value { IfOk result (λ o. IfSome o (λ w. view_of v.now ≡ prim w)) }
+    ensures stands { (n : ℕ) → ViewStands n (view_of v.now) → IfOk result (λ o. IfSome o (λ w. StandsAmong n w)) }
+{
+    match v {
+        View::Prim(value) => Ok(Some(value.copied()?)),
+        View::List(_) => Ok(None),
+        View::Rec(_) => Ok(None),
+    }
+}
+
+/// An entry gets its value. Most have one already, so that nothing is made.
 fn make_item(core: &mut Core, alloc: Global, entry: Entry) -> Result<Item, Fault>
     requires sound { IsSound core.old }
     requires entry { ViewStands (length core.old.store) (snap_of entry.value) }
@@ -53,6 +65,9 @@ fn make_item(core: &mut Core, alloc: Global, entry: Entry) -> Result<Item, Fault
     ensures grown { length core.old.store ≤ length core.new.store }
     ensures stands { IfOk result (λ x. StandsAmong (length core.new.store) x.value) }
 {
+    if let Some(value) = plain_value(entry.value.view())? {
+        return Ok(Item { entry, value });
+    }
     let view = keep(core, alloc, entry.value.view())?;
     Ok(Item {
         entry,
@@ -155,68 +170,24 @@ fn plain_key(i: u32, name: &Option<Txt>, value: &Snap) -> Result<TrackKey, Alloc
     }
 }
 
-/// The key of the row at a place.
-fn key_at(bodies: &[SharedBody], i: u32) -> Option<&TrackKey> {
-    match bodies.get(i as usize) {
-        None => None,
-        Some(body) => match body.role() {
-            Role::Body | Role::Named(_) => None,
-            Role::Row(key, _) => Some(key),
-        },
-    }
+/// The text of a whole number.
+fn number_text(alloc: Global, number: i64) -> Result<Txt, AllocError>
+    ensures { IfOk result (λ t. t ≡ signed_decimal number) }
+{
+    let mut text = Txt::new(alloc);
+    text.push_signed(number)?;
+    Ok(text)
 }
 
-/// Whether a number has this text, told without spelling it.
+/// The text of a value that is no fresh list or record. That of a number is spelled at once, since keys are numbers most often.
 #[tactic(auto, unfolding(ng_language::specs::Unfolding::level_limit, ng_language::specs::Unfolding::node_limit))]
-fn spells(value: &Value, text: &Txt) -> bool
-    ensures { IsTrue result → (objects : List Object) → to_text_of objects (prim value.now) ≡ Ok text.now }
-{
-    match value {
-        Value::Int(n) => text.is_number(*n),
-        _ => false,
-    }
-}
-
-/// The text of the key that is guessed, where a number has it.
-fn guessed_text<'a>(number: &Value, guess: Option<&'a TrackKey>) -> Option<&'a Txt>
-    ensures { IfSome result (λ t. (objects : List Object) → to_text_of objects (prim number.now) ≡ Ok t.now) }
-{
-    match guess {
-        Some(TrackKey::Text(text)) if spells(number, text) => Some(text),
-        _ => None,
-    }
-}
-
-/// The text of a value that is no fresh list or record. It is shared where the key that is guessed has it.
-fn shared_text(
-    alloc: Global,
-    store: &Store,
-    value: &Value,
-    guess: Option<&TrackKey>,
-) -> Result<Txt, Fault>
+fn plain_text(alloc: Global, store: &Store, value: &Value) -> Result<Txt, Fault>
     requires { ViewStands (length store.now) (prim value.now) }
     ensures { Meets is_memory (to_text_of store.now (prim value.now)) result }
 {
-    match guessed_text(value, guess) {
-        Some(text) => Ok(text.copied()?),
-        None => to_text(alloc, store, &View::of_value(value.copied()?)),
-    }
-}
-
-/// The text of a value, which is shared where the key that is guessed has it.
-fn text_by(
-    alloc: Global,
-    store: &Store,
-    value: &View,
-    guess: Option<&TrackKey>,
-) -> Result<Txt, Fault>
-    requires { ViewStands (length store.now) (view_of value.now) }
-    ensures { Meets is_memory (to_text_of store.now (view_of value.now)) result }
-{
     match value {
-        View::Prim(value) => shared_text(alloc, store, value, guess),
-        View::List(_) => to_text(alloc, store, value),
-        View::Rec(_) => to_text(alloc, store, value),
+        Value::Int(number) => Ok(number_text(alloc, *number)?),
+        _ => to_text(alloc, store, &View::of_value(value.copied()?)),
     }
 }
 
@@ -228,17 +199,16 @@ fn tracked_text(
     object: Oid,
     locals: &Locals,
     track: &Track,
-    guess: Option<&TrackKey>,
 ) -> Result<Txt, Fault>
     requires object { object.0 < length store.now }
     requires locals { LocalsStand (length store.now) locals.now }
     ensures { Meets is_memory (tracked_text store.now object.0 locals.now (track_of track.now)) result }
 {
     match seen_value(store, object, locals, track.program()) {
-        Some(value) => shared_text(alloc, store, value, guess),
+        Some(value) => plain_text(alloc, store, value),
         None => {
             let value = view(alloc, store, object, locals, track.program())?;
-            text_by(alloc, store, &value, guess)
+            to_text(alloc, store, &value)
         }
     }
 }
@@ -250,13 +220,12 @@ fn tracked_key(
     object: Oid,
     locals: &Locals,
     track: &Track,
-    guess: Option<&TrackKey>,
 ) -> Result<TrackKey, Fault>
     requires object { object.0 < length store.now }
     requires locals { LocalsStand (length store.now) locals.now }
     ensures { Meets is_memory (tracked_by store.now object.0 locals.now (track_of track.now)) result }
 {
-    let text = tracked_text(alloc, store, object, locals, track, guess)?;
+    let text = tracked_text(alloc, store, object, locals, track)?;
     Ok(TrackKey::Text(text))
 }
 
@@ -269,7 +238,6 @@ fn track_key(
     locals: &mut Locals,
     i: u32,
     item: &Item,
-    guess: Option<&TrackKey>,
 ) -> Result<TrackKey, Fault>
     requires object { object.0 < length store.now }
     requires item { StandsAmong (length store.now) item.now.value }
@@ -281,7 +249,7 @@ fn track_key(
         None => Ok(plain_key(i, &item.entry.name, &item.entry.value)?),
         Some(track) => {
             track_values(locals, repeated, i, item)?;
-            tracked_key(alloc, store, object, locals, track, guess)
+            tracked_key(alloc, store, object, locals, track)
         }
     }
 }
@@ -297,14 +265,13 @@ pub fn place_of(i: usize) -> Result<u32, Memory>
     }
 }
 
-/// The keys of entries, in order. What rows have of them already may be guessed to stand in the order of the entries.
+/// The keys of entries, in order.
 pub fn track_keys(
     alloc: Global,
     store: &Store,
     object: Oid,
     repeated: &Repeated,
     items: &[Item],
-    guesses: &[SharedBody],
 ) -> Result<TrackKeys, Fault>
     requires object { object.0 < length store.now }
     requires items { ItemsStand (length store.now) (items_of items.now) }
@@ -314,7 +281,6 @@ pub fn track_keys(
     let mut locals = track_names(alloc, repeated)?;
     for i in 0..items.len() {
         let place = place_of(i)?;
-        let guess = key_at(guesses, place);
         let key = track_key(
             alloc,
             store,
@@ -323,7 +289,6 @@ pub fn track_keys(
             &mut locals,
             place,
             &items[i],
-            guess,
         )?;
         keys.push(key)?;
     }

@@ -43,7 +43,7 @@ returns-in-Err-clause-fired c =
     let refused : as_fault (planned (keys_of (rows_at holder spot.outlet is)) c.args.keys.now) ≡ Err c.in-Err.f =
     ap (λ (bs : List Body). as_fault (planned (keys_of bs) c.args.keys.now)) stand ∙ (sym c.in_ok-f.ensures.plan ∙ c.in-Err.is) in
     c.fault.ensures.fired
-    ∙ sym (ap (λ (p : Result Plan Fault). by_plan holder scope outs spot.outlet spot.origin r (rows_at holder spot.outlet is) (items_of c.args.items.items) c.args.keys.now p g) refused)
+    ∙ sym (ap (λ (p : Result Plan Fault). by_plan holder scope outs spot.outlet spot.origin r (rows_at holder spot.outlet is) (items_of c.args.items.now) c.args.keys.now p g) refused)
 
 pub returns-in-Ok-clause-fired : goal.returns-in-Ok-clause-fired
 returns-in-Ok-clause-fired c =
@@ -57,7 +57,7 @@ returns-in-Ok-clause-fired c =
     let g : Firing = firing w c.args.told.now in
     let stand = c.requires.stand in
     ok_then c.fire_plan.result c.fire_plan.ensures.fired
-    (λ fired. fired ∙ sym (ap (λ (bs : List Body). by_keys holder scope outs spot.outlet spot.origin r bs (items_of c.args.items.items) (Ok c.args.keys.now) g) stand))
+    (λ fired. fired ∙ sym (ap (λ (bs : List Body). by_keys holder scope outs spot.outlet spot.origin r bs (items_of c.args.items.now) (Ok c.args.keys.now) g) stand))
 
 pub returns-in-Err-clause-keeps : goal.returns-in-Err-clause-keeps
 returns-in-Err-clause-keeps c =

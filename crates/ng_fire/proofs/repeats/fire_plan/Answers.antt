@@ -27,20 +27,20 @@ pub change_rows-requires-clause-rows : goal.change_rows-requires-clause-rows
 change_rows-requires-clause-rows c =
     let n = length c.args.works.now.core.store in
     let bs : List Body = map body_of c.args.bodies.now in
-    subst (λ (rs : List Row). RowsOfStand n rs) (sym (ap rows_of c.as_slice.ensures.value ∙ c.in_ok-rows.ensures)) (rows_stand n bs (items_of c.args.items.items) c.args.keys.now c.args.plan.now.from c.requires.items)
+    subst (λ (rs : List Row). RowsOfStand n rs) (sym (ap rows_of c.as_slice.ensures.value ∙ c.in_ok-rows.ensures)) (rows_stand n bs (items_of c.args.items.now) c.args.keys.now c.args.plan.now.from c.requires.items)
 
 pub change_rows-requires-clause-all : goal.change_rows-requires-clause-all
 change_rows-requires-clause-all c =
     let bs : List Body = map body_of c.args.bodies.now in
     subst (λ (rs : List Row). KeptOrGone bs c.args.plan.now.gone rs) (sym (ap rows_of c.as_slice.ensures.value ∙ c.in_ok-rows.ensures))
-    (kept_or_gone bs (items_of c.args.items.items) c.args.keys.now c.args.plan.now c.requires.old c.requires.plan c.requires.as_many)
+    (kept_or_gone bs (items_of c.args.items.now) c.args.keys.now c.args.plan.now c.requires.old c.requires.plan c.requires.as_many)
 
 pub change_rows-requires-clause-order : goal.change_rows-requires-clause-order
 change_rows-requires-clause-order c =
     let bs : List Body = map body_of c.args.bodies.now in
     let ps = c.args.plan.now.from in
     subst (λ (rs : List Row). in_order bs 0 rs ps ≡ true → IsPart (kept_rows rs) bs) (sym (ap rows_of c.as_slice.ensures.value ∙ c.in_ok-rows.ensures))
-    (plan_part bs (items_of c.args.items.items) c.args.keys.now c.args.plan.now c.requires.plan)
+    (plan_part bs (items_of c.args.items.now) c.args.keys.now c.args.plan.now c.requires.plan)
 
 pub returns-clause-fired : goal.returns-clause-fired
 returns-clause-fired c =
@@ -56,7 +56,7 @@ returns-clause-fired c =
     ok_then c.change_rows.result c.change_rows.ensures.fired
     (λ fired. fired
     ∙ (ap (λ (rs : List Row). rows_changed holder scope outs spot.outlet which r (bodies_at bs c.args.plan.now.gone) rs g) (ap rows_of c.as_slice.ensures.value ∙ c.in_ok-rows.ensures)
-    ∙ sym (ap (λ (p : Result Plan PlanFault). by_plan holder scope outs spot.outlet which r bs (items_of c.args.items.items) c.args.keys.now (as_fault p) g) c.requires.plan)))
+    ∙ sym (ap (λ (p : Result Plan PlanFault). by_plan holder scope outs spot.outlet which r bs (items_of c.args.items.now) c.args.keys.now (as_fault p) g) c.requires.plan)))
 
 pub returns-clause-kept : goal.returns-clause-kept
 returns-clause-kept c =

@@ -20,6 +20,6 @@ pub returns-clause-whole : goal.returns-clause-whole
 returns-clause-whole c =
     let w = c.args.works.now in
     let ground = c.args.ground.now in
-    let names : List Local = row_names (repeated_of ground.repeated.now) ground.count c.args.i (item_of c.args.row.now.item) in
+    let names : List Local = row_names (repeated_of ground.repeated.now) ground.count c.args.i (item_of c.args.row.now.item.now) in
     ok_and c.tell_row.result c.tell_row.ensures.told c.tell_row.ensures.sound
     (λ told sound. whole_told w c.tell_row.new.core c.args.scope.0 names c.requires.whole told sound c.tell_row.ensures.scopes c.tell_row.ensures.depth c.tell_row.ensures.store)

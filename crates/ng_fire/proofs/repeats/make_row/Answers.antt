@@ -46,13 +46,13 @@ tell_row-requires-clause-scope c =
     some_is (λ (s : ScopeId). s.0 < length c.make_child.new.works.core.scopes) _ c.in-Some.child c.in_ok-child.ensures.within c.in-Some.is
 
 pub tell_row-requires-clause-item : goal.tell_row-requires-clause-item
-tell_row-requires-clause-item c = stands_more _ _ c.in_ok-child.ensures.grown c.args.row.now.item.value c.requires.row
+tell_row-requires-clause-item c = stands_more _ _ c.in_ok-child.ensures.grown c.args.row.now.item.now.value c.requires.row
 
 pub link_body-requires-clause-whole : goal.link_body-requires-clause-whole
 link_body-requires-clause-whole c =
     let m = c.make_child.new.works in
     let ground = c.args.ground.now in
-    let names : List Local = row_names (repeated_of ground.repeated.now) ground.count c.args.i (item_of c.args.row.now.item) in
+    let names : List Local = row_names (repeated_of ground.repeated.now) ground.count c.args.i (item_of c.args.row.now.item.now) in
     whole_told m c.tell_row.new.core c.in-Some.child.0 names c.in_ok-child.ensures.whole c.in_ok-tell_row-in-Some.ensures.told c.in_ok-tell_row-in-Some.ensures.sound c.tell_row.ensures.scopes c.tell_row.ensures.depth c.tell_row.ensures.store
 
 pub link_body-requires-clause-scope : goal.link_body-requires-clause-scope
@@ -165,7 +165,7 @@ returns-in-Some-clause-fired c =
     let which : Origin = spot.origin in
     let child : ℕ = c.in-Some.child.0 in
     let scope : ℕ = spot.scope.0 in
-    let names : List Local = row_names (repeated_of ground.repeated.now) ground.count c.args.i (item_of c.args.row.now.item) in
+    let names : List Local = row_names (repeated_of ground.repeated.now) ground.count c.args.i (item_of c.args.row.now.item.now) in
     let g : Firing = firing w told in
     let s : State = state_of t in
     let q = there (fragment_for (templates_of t) which) (subst (λ (ts : List Named). IsSome (fragment_for ts which)) (sym c.make_child.ensures.templates) c.requires.spot.body) in

@@ -10,7 +10,7 @@ pub returns-in_ok-copied-clause-role : goal.returns-in_ok-copied-clause-role
 returns-in_ok-copied-clause-role c =
     let row = c.args.row.now in
     let body = c.args.body.now in
-    let e = entry_of row.item.entry in
+    let e = entry_of row.item.now.entry in
     let same : same_row row.key.now e (role_of body.role) ≡ true =
     ap (λ (r : code_role.Role). same_row row.key.now e (role_of r)) (sym c.role.ensures) ∙ (sym c.is_row.ensures ∙ c.if-is_row.true) in
     ap (λ (b : code.Body). role_of b.role) c.in_ok-copied.ensures ∙ row_is row.key.now e (role_of body.role) same
