@@ -36,7 +36,10 @@ track_keys-tracked-requires-clause-object c =
     subst (λ (o : ℕ). o < length w.core.store) (sym c.object-object.ensures) (c.requires.whole.sound.objects.below spot.scope.0 lt)
 
 pub track_keys-tracked-requires-clause-items : goal.track_keys-tracked-requires-clause-items
-track_keys-tracked-requires-clause-items c = subst (λ (xs : List Item). ItemsStand (length c.args.works.now.core.store) xs) (sym (ap items_of c.as_slice.ensures.value)) c.requires.items
+track_keys-tracked-requires-clause-items c = subst (λ (xs : List Item). ItemsStand (length c.args.works.now.core.store) xs) (sym (ap items_of c.as_slice-entries.ensures.value)) c.requires.items
+
+pub fire_keyed-requires-clause-items : goal.fire_keyed-requires-clause-items
+fire_keyed-requires-clause-items c = subst (λ (xs : List Item). ItemsStand (length c.args.works.now.core.store) xs) (sym (ap items_of c.as_slice-entries.ensures.value)) c.requires.items
 
 -- the outlet is there, and so its rows are those that are copied
 pub fire_keyed-requires-clause-stand : goal.fire_keyed-requires-clause-stand
@@ -48,8 +51,8 @@ fire_keyed-requires-clause-stand c =
 
 pub fire_keyed-requires-clause-as_many : goal.fire_keyed-requires-clause-as_many
 fire_keyed-requires-clause-as_many c =
-    let same = ap (λ (xs : List Item). length xs) (ap items_of c.as_slice.ensures.value) in
-    let many = as_many c.args.works.now.core.store c.object-object.result.0 (repeated_of c.args.repeated.now) 0 [] (items_of c.as_slice.result.now) c.in-Ok.keys c.in-Ok.ensures in
+    let same = ap (λ (xs : List Item). length xs) (ap items_of c.as_slice-entries.ensures.value) in
+    let many = as_many c.args.works.now.core.store c.object-object.result.0 (repeated_of c.args.repeated.now) 0 [] (items_of c.as_slice-entries.result.now) c.in-Ok.keys c.in-Ok.ensures in
     omega (arith, many, same)
 
 -- what the track keys come to over the scope's object
@@ -65,7 +68,7 @@ returns-in-Err-clause-fired c =
     let other : is_memory c.in-Err.f ≡ false = first_of (search rules, grind arith) in
     let asked : track_keys w.core.store (object_at w.core.scopes scope) r 0 [] xs ≡ Err c.in-Err.f =
     ap (λ (o : ℕ). track_keys w.core.store o r 0 [] xs) (sym c.object-object.ensures)
-    ∙ (ap (λ (ys : List Item). track_keys w.core.store c.object-object.result.0 r 0 [] ys) (sym (ap items_of c.as_slice.ensures.value)) ∙ c.in-Err.ensures other) in
+    ∙ (ap (λ (ys : List Item). track_keys w.core.store c.object-object.result.0 r 0 [] ys) (sym (ap items_of c.as_slice-entries.ensures.value)) ∙ c.in-Err.ensures other) in
     c.fault.ensures.fired
     ∙ sym (ap (λ (k : Result (List TrackKey) Fault). by_keys holder scope outs spot.outlet spot.origin r (rows_at holder spot.outlet (state_of w).instances) xs k (firing w c.args.told.now)) asked)
 
